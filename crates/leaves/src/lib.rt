@@ -1,0 +1,2 @@
+// The leaves: what every crate above reads, writes and refuses by.
+pub mod refusal;

@@ -1,0 +1,1 @@
+// Definitions and laws that speak of no code: they stand in specs/.
