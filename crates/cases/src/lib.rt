@@ -1,0 +1,153 @@
+// What the programs that run vectors share: a text of cases, one to a line, taken apart, and the lines that are printed.
+// Nothing here has a requires: a place past the text's end reads as the end of a line.
+ghost use Prim.Native.Nat.{_+_, _≤_, _<_};
+ghost use Rattle.io.specs.Counts.{Counts};
+
+// A number read from the text, and the place after it.
+pub struct Token {
+    pub value: u64,
+    pub next: usize,
+}
+
+// No number of a case is larger; a longer row of digits is cut here.
+const LARGE: u64 = 1000000000000000000;
+
+// The byte at a place; past the end it is the end of a line.
+pub fn byte_at(text: &[u8], at: usize) -> u8 {
+    if at < text.len() { text[at] } else { b'\n' }
+}
+
+// Where the line that a place stands in ends.
+pub fn line_end(text: &[u8], at: usize) -> usize
+    ensures { λ r. ⌜ at ≤ r ⌝ }
+{
+    let mut i = at;
+    while i < text.len() {
+        if text[i] == b'\n' {
+            return i;
+        }
+        i += 1;
+    }
+    i
+}
+
+// The place of the first byte from a place on that is no blank.
+pub fn past_blanks(text: &[u8], at: usize) -> usize {
+    let mut i = at;
+    while i < text.len() {
+        if text[i] != b' ' {
+            return i;
+        }
+        i += 1;
+    }
+    i
+}
+
+fn wide(b: u8) -> u64
+    ensures { λ r. ⌜ r < 256 ⌝ }
+{
+    b as u64
+}
+
+// What a digit stands for, decimal or hexadecimal in capitals; 16 where the byte is none.
+fn digit(b: u8) -> u64
+    ensures { λ r. ⌜ r < 17 ⌝ }
+{
+    if b < b'0' {
+        return 16;
+    }
+    let n = wide(b - b'0');
+    if n < 10 {
+        return n;
+    }
+    if n < 17 {
+        return 16;
+    }
+    if n < 23 { n - 7 } else { 16 }
+}
+
+// The decimal number at a place, blanks before it passed over; 0 where no digit stands there.
+pub fn number_at(text: &[u8], at: usize) -> Token {
+    let mut i = past_blanks(text, at);
+    let mut value = 0u64;
+    while i < text.len() {
+        let d = digit(text[i]);
+        if 10 <= d {
+            return Token { value, next: i };
+        }
+        if LARGE <= value {
+            return Token { value, next: i };
+        }
+        value = value * 10 + d;
+        i += 1;
+    }
+    Token { value, next: i }
+}
+
+fn low_byte(n: u64) -> u8
+    requires { ⌜ n < 256 ⌝ }
+{
+    n as u8
+}
+
+// The byte that two hexadecimal digits at a place spell, or 256 where they don't stand there.
+fn pair_at(text: &[u8], at: usize) -> u64
+    ensures { λ r. do ⌜ (r < 256 → at + 1 < (← ⟦text.len()⟧ .entry)) ⌝ }
+{
+    if text.len() <= at {
+        return 256;
+    }
+    let high = digit(text[at]);
+    if text.len() <= at + 1 {
+        return 256;
+    }
+    let low = digit(text[at + 1]);
+    if 16 <= high {
+        return 256;
+    }
+    if 16 <= low { 256 } else { high * 16 + low }
+}
+
+// The bytes that pairs of hexadecimal digits spell from a place on, blanks between them; answers how many were put into out.
+pub fn bytes_at(text: &[u8], at: usize, out: &mut [u8]) -> usize
+    ensures { λ r. ⌜ Counts r (now (out .exit)) ⌝ }
+{
+    let mut i = at;
+    let mut n = 0;
+    while n < out.len() {
+        let from = past_blanks(text, i);
+        let b = pair_at(text, from);
+        if 256 <= b {
+            return n;
+        }
+        out[n] = low_byte(b);
+        n += 1;
+        i = from + 2;
+    }
+    n
+}
+
+// One case more.
+pub fn one_more(n: u64) -> u64 {
+    if n < LARGE { n + 1 } else { n }
+}
+
+// Prints a group's line: its name, how many cases it had and how many of them were answered otherwise than expected.
+pub fn print_group(name: &[u8], cases: u64, wrong: u64) {
+    io::write_all(1, name);
+    io::write_all(1, b": ");
+    io::print_decimal(1, cases);
+    io::write_all(1, b" cases, ");
+    io::print_decimal(1, wrong);
+    io::write_all(1, b" wrong\n");
+}
+
+// Prints the line of the text that a place stands in, as a case that was answered otherwise than expected.
+pub fn print_wrong(text: &[u8], at: usize) {
+    io::write_all(1, b"wrong: ");
+    let to = line_end(text, at);
+    if to <= text.len() {
+        io::write_all(1, &text[at..to]);
+    }
+    io::write_all(1, b"\n");
+}
