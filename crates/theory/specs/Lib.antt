@@ -1,1 +1,5 @@
 pub mod Answer
+pub mod Runs
+pub mod RunsTools
+pub mod RunsOverwrite
+pub mod RunsLongest
