@@ -10,7 +10,6 @@ entryAt t i = record { instrument = field 4 t (i * 8); symbol = field 4 t (i * 8
 
 -- the n entries from place k on
 unfoldable pub entriesFrom : List ℕ → ℕ → ℕ → List Entry
-unfolding entryAt
 entriesFrom t k zero = []
 entriesFrom t k (suc n) = entryAt t k ∷ entriesFrom t (suc k) n
 
@@ -24,6 +23,5 @@ putEntry t i e = putField 4 (putField 4 t (i * 8) (e .instrument)) (i * 8 + 4) (
 
 -- the bytes with a list of entries from place k on, every other byte as it was
 unfoldable pub putEntries : List ℕ → ℕ → List Entry → List ℕ
-unfolding putEntry
 putEntries t k [] = t
 putEntries t k (e ∷ es) = putEntries (putEntry t k e) (suc k) es
