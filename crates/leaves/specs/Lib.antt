@@ -1,1 +1,6 @@
 pub mod Refusal
+pub mod Calendar
+pub mod Days
+pub mod CalendarLaws
+pub mod CalendarDates
+pub mod DaysLaws
