@@ -1,1 +1,3 @@
 pub mod Refusal
+pub mod Utf8
+pub mod Utf8Laws
