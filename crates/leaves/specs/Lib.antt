@@ -1,3 +1,5 @@
 pub mod Refusal
 pub mod Utf8
 pub mod Utf8Laws
+pub mod NumberText
+pub mod NumberTextLaws

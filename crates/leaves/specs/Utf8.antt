@@ -1,7 +1,7 @@
 -- RFC 3629, section 4, "Syntax of UTF-8 Byte Sequences", production by production, over a list of bytes.
 use Prim.Native.Nat.{ℕ}
 use mathlib.Core.List.{List, [], _∷_}
-use mathlib.Core.Bool.{Bool, true, false, _&&_, _||_}
+use mathlib.Core.Bool.{Bool, true, false, cond, _&&_, _||_}
 use lib.Dec.{leb}
 
 -- %xLOW-HIGH: the byte lies from low to high
@@ -43,29 +43,24 @@ utf8-4 a b c d =
     || four 0xF1 0xF3 0x80 0xBF a b c d
     || four 0xF4 0xF4 0x80 0x8F a b c d
 
--- the first where the test holds, else the second
-abbrev pub pick : Bool → Bool → Bool → Bool
-pick true x y = x
-pick false x y = y
-
 -- RFC 3629, 4: UTF8-octets = *( UTF8-char ), UTF8-char = UTF8-1 / UTF8-2 / UTF8-3 / UTF8-4.
 -- Nothing, or a UTF8-char and then UTF8-octets. No UTF8-char is another's beginning, so the first that fits is the one that stands there.
 unfoldable mutual
   pub isUtf8 : List ℕ → Bool
   isUtf8 [] = true
-  isUtf8 (a ∷ s) = pick (utf8-1 a) (isUtf8 s) (from-2 s a)
+  isUtf8 (a ∷ s) = cond (utf8-1 a) (isUtf8 s) (from-2 s a)
 
   -- the same, where a was read and is no UTF8-1
   pub from-2 : List ℕ → ℕ → Bool
   from-2 [] a = false
-  from-2 (b ∷ s) a = pick (utf8-2 a b) (isUtf8 s) (from-3 s a b)
+  from-2 (b ∷ s) a = cond (utf8-2 a b) (isUtf8 s) (from-3 s a b)
 
   -- the same, where a and b were read and are no UTF8-2
   pub from-3 : List ℕ → ℕ → ℕ → Bool
   from-3 [] a b = false
-  from-3 (c ∷ s) a b = pick (utf8-3 a b c) (isUtf8 s) (from-4 s a b c)
+  from-3 (c ∷ s) a b = cond (utf8-3 a b c) (isUtf8 s) (from-4 s a b c)
 
   -- the same, where a, b and c were read and are no UTF8-3
   pub from-4 : List ℕ → ℕ → ℕ → ℕ → Bool
   from-4 [] a b c = false
-  from-4 (d ∷ s) a b c = pick (utf8-4 a b c d) (isUtf8 s) false
+  from-4 (d ∷ s) a b c = cond (utf8-4 a b c d) (isUtf8 s) false

@@ -8,7 +8,7 @@ use native.Mathlib.Omega.{arith}
 use native.Mathlib.Numerals.{add-one}
 use lib.ListN.{length, getD, take}
 use lib.Seq.{slice, slice-cons, slice-empty, take-all}
-use Rattle.leaves.specs.Utf8.{utf8-1, utf8-2, utf8-3, utf8-4, isUtf8, from-2, from-3, from-4, pick}
+use Rattle.leaves.specs.Utf8.{utf8-1, utf8-2, utf8-3, utf8-4, isUtf8, from-2, from-3, from-4}
 
 -- n is the length of the UTF8-char that stands at place at, of the bytes before to; 0 where none does
 pub record Stepped (s : List ℕ) (at to n : ℕ) : Type 0 where
@@ -52,7 +52,7 @@ no-4 a b c d s e f g h = rw (e, f, g, h)
 
 -- ---- the bytes from a place on
 
-cut : (s : List ℕ) (at to : ℕ) → at < to → to ≤ length s → slice at to s ≡ getD s at 0 ∷ slice (at + 1) to s
+pub cut : (s : List ℕ) (at to : ℕ) → at < to → to ≤ length s → slice at to s ≡ getD s at 0 ∷ slice (at + 1) to s
 cut s at to h k = slice-cons at to s 0 h k ∙ ap (λ (n : ℕ). getD s at 0 ∷ slice n to s) (sym (add-one at))
 
 cut-from : (s : List ℕ) (at to i j : ℕ) → i + 1 ≡ j → at + i < to → to ≤ length s → slice (at + i) to s ≡ getD s (at + i) 0 ∷ slice (at + j) to s
@@ -71,7 +71,7 @@ cut-4 : (s : List ℕ) (at to : ℕ) → at + 3 < to → to ≤ length s → sli
 cut-4 s at to h k =
     cut-3 s at to (omega arith) k ∙ ap (λ (l : List ℕ). getD s at 0 ∷ getD s (at + 1) 0 ∷ getD s (at + 2) 0 ∷ l) (cut-from s at to 3 4 refl h k)
 
-none-left : (s : List ℕ) (at to : ℕ) → at ≡ to → slice at to s ≡ []
+pub none-left : (s : List ℕ) (at to : ℕ) → at ≡ to → slice at to s ≡ []
 none-left s at to e = ap (λ (n : ℕ). slice n to s) e ∙ slice-empty to s
 
 pub none-left-is : (s : List ℕ) (at to : ℕ) → at ≡ to → isUtf8 (slice at to s) ≡ true

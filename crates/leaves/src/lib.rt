@@ -1,3 +1,4 @@
 // The leaves: what every crate above reads, writes and refuses by.
+pub mod number_text;
 pub mod refusal;
 pub mod utf8;
