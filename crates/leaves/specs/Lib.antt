@@ -4,3 +4,7 @@ pub mod Days
 pub mod CalendarLaws
 pub mod CalendarDates
 pub mod DaysLaws
+pub mod Utf8
+pub mod Utf8Laws
+pub mod NumberText
+pub mod NumberTextLaws
