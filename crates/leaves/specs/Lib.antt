@@ -1,3 +1,5 @@
+pub mod Frame
+pub mod FrameLaws
 pub mod Refusal
 pub mod Calendar
 pub mod Days

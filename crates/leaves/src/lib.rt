@@ -2,5 +2,6 @@
 pub mod fields;
 pub mod days;
 pub mod number_text;
+pub mod frame;
 pub mod refusal;
 pub mod utf8;
