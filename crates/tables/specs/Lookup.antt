@@ -71,7 +71,7 @@ module _ {A : Type 0} where
   unfolding says answerAt
   says-late x m h = answer-late x [] m h
 
-  -- a interval that covers the moment is the last that has started, and gives the answerAt
+  -- an interval that covers the moment is the last that has started, and gives the answer
   record Hit (rs : List (Interval A)) (k m : ℕ) (v : A) : Type 0 where
     right : answerAt rs m ≡ some v
     last : started rs m ≡ suc k
@@ -100,7 +100,7 @@ module _ {A : Type 0} where
       go (within i j) t = absurd (none-some (answerAt xs m) v (answer-tail x xs w m j) (t .right))
       go (late i j) t = record { right = answer-late x xs m j ∙ t .right; last = cond-ge m (x .start) 0 _ i ∙ ap suc (t .last) }
 
-  -- the last that has started gives the answerAt, whether it still lasts or not
+  -- the last that has started gives the answer, whether it still lasts or not
   none-right : (rs : List (Interval A)) → WellFormed rs → (m : ℕ) → started rs m ≡ 0 → answerAt rs m ≡ none
   unfolding started answerAt
   none-right [] w m e = refl
