@@ -1,7 +1,7 @@
--- The calendar of ISO 8601, by counting: leap years, the days of a month, of whole months and of whole years, and a count of days taken apart again.
--- Document 01 names it as the public document for dates ("What you take over"). Nothing here is a closed formula.
+-- The calendar of ISO 8601, which decides dates (document 01, "What you take over"): leap years, the days of a month, of whole months and of whole years,
+-- and a count of days taken apart again. All by counting: nothing here is a closed formula.
 use Prim.Native.Nat.{ℕ, zero, suc, _+_, _-_, _*_, _/_, _%_}
-use mathlib.Core.Bool.{Bool, true, false, not, _&&_, _||_, cond}
+use mathlib.Core.Bool.{Bool, not, _&&_, _||_, cond}
 use mathlib.Core.List.{List, [], _∷_}
 use lib.Dec.{leb, ltb, eqb}
 use lib.ListN.{getD}
@@ -54,7 +54,7 @@ dayIn date = date % 100
 unfoldable pub isDate : ℕ → Bool
 isDate date = leb 1 (dayIn date) && leb (dayIn date) (monthDays (isLeap (yearIn date)) (monthIn date))
 
--- days since 1970-01-01: those of whole years, of whole months of the year, and of the month
+-- days since 1970-01-01 of a date from 1970 on: those of whole years, of whole months of the year, and of the month
 unfoldable pub dayNumber : ℕ → ℕ
 dayNumber date = daysOfYears (yearIn date - 1970) + daysBefore (isLeap (yearIn date)) (monthIn date) + (dayIn date - 1)
 

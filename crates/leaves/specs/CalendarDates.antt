@@ -1,13 +1,13 @@
 -- Laws of dates: the day number rises with the date, a count of days taken apart is the one date with that day number, and back.
 -- Assumes nothing.
-use Prim.Native.Nat.{ℕ, zero, suc, _+_, _-_, _*_, _/_, _%_, _≤_, _<_}
+use Prim.Native.Nat.{ℕ, zero, suc, _+_, _-_, _*_, _≤_, _<_}
 use native.Mathlib.Nat.{add-zero}
 use native.Mathlib.Numerals.{add-one}
 use native.Mathlib.Decide.{decLe}
 use native.Mathlib.Omega.{arith}
 use mathlib.Core.Path.{_≡_, refl, sym, ap, _∙_, subst}
-use mathlib.Core.Bool.{Bool, true, false, not, _&&_, cond}
-use lib.Dec.{T, leb, ltb}
+use mathlib.Core.Bool.{Bool}
+use lib.Dec.{T, leb}
 use mir.Facts.{and-yes, yes-and, leb-yes, yes-leb}
 use Rattle.leaves.specs.Calendar.{isLeap, yearDays, monthDays, daysOfYears, daysBefore, written, yearIn, monthIn, dayIn, isDate, dayNumber, countMonths, countYears, dateNumber}
 use Rattle.leaves.specs.CalendarLaws.{ltb-case, years-none, years-suc, years-rise, years-sum, leapsTo, before-suc, before-rises, before-first, before-end, Month, month-known}

@@ -1,19 +1,17 @@
 -- Laws of the calendar: the days of whole years as a sum of quotients, the months within a year, and what a count of days taken apart gives.
 -- Assumes nothing.
 use Prim.Native.Nat.{ℕ, zero, suc, _+_, _-_, _*_, _/_, _%_, _≤_, _<_, suc-le-suc}
-use native.Mathlib.Nat.{eq-or-lt-of-le, le-refl, le-trans, add-zero}
-use native.Mathlib.Numerals.{add-one}
+use native.Mathlib.Nat.{eq-or-lt-of-le, le-refl, le-trans}
 use native.Mathlib.Decide.{decLe}
 use native.Mathlib.Omega.{arith}
-use mathlib.Core.Path.{_≡_, refl, sym, ap, _∙_, subst}
-use mathlib.Core.Logic.{_≢_, _⊎_, inl, inr, ⊎-elim}
+use mathlib.Core.Path.{_≡_, refl, sym, ap, subst}
+use mathlib.Core.Logic.{_≢_, ⊎-elim}
 use mathlib.Core.Bool.{Bool, true, false, not, _&&_, _||_, cond}
-use mathlib.Core.List.{List, [], _∷_}
 use borrow.Author.Tests.{eqb-true, eqb-false, eq-eqb}
 use lib.Dec.{T, leb, ltb, eqb}
 use lib.ListN.{getD, List·getD-eq-default}
-use mir.Facts.{and-yes, yes-and, ltb-yes, ltb-no, leb-yes, yes-leb, eqb-yes}
-use Rattle.leaves.specs.Calendar.{isLeap, yearDays, monthLengths, monthDays, daysOfYears, daysBefore, written, yearIn, monthIn, dayIn, isDate, dayNumber, countMonths, countYears, dateNumber}
+use mir.Facts.{and-yes, ltb-yes, ltb-no, leb-yes}
+use Rattle.leaves.specs.Calendar.{isLeap, yearDays, monthLengths, monthDays, daysOfYears, daysBefore}
 
 -- ---- tools
 

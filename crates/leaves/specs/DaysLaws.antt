@@ -1,12 +1,11 @@
 -- What crates above go by: 11 exactly where there is no date in range, both round trips, the order of dates and days, and the start of a day.
 -- Assumes nothing.
 use Prim.Native.Nat.{ℕ, _*_, _^_, _≤_, _<_}
-use native.Mathlib.Decide.{decLe}
 use native.Mathlib.Omega.{arith}
 use mathlib.Core.Path.{_≡_, refl, sym, ap, _∙_, subst}
 use mathlib.Core.Logic.{_↔_}
 use mathlib.Core.Bool.{Bool, true, false, not, _&&_, cond}
-use mathlib.Core.List.{List, [], _∷_}
+use mathlib.Core.List.{[], _∷_}
 use lib.Dec.{T, leb}
 use mir.Facts.{and-yes, yes-and, not-T, T-not, leb-yes, leb-no, yes-leb, no-leb}
 use Rattle.theory.specs.Answer.{Answer, answer}
@@ -72,7 +71,6 @@ day-refused date = (
   λ h. failed (isDate date && inRange date) (dayNumber date) (not-T (isDate date && inRange date) (λ t. h (good-yes date t))),
 )
 
--- for a date from 1970 on, in range is the same as at most the last day
 good-year : (date : ℕ) → 19700101 ≤ date → 1970 ≤ yearIn date
 good-year date h = omega arith
 
@@ -80,6 +78,7 @@ last-is : T (isDate 25540721)
 unfolding isDate monthDays isLeap
 last-is = tt
 
+-- for a date from 1970 on, in range is the same as at most the last day
 pub range-number : (date : ℕ) → T (isDate date) → 1970 ≤ yearIn date → (date ≤ 25540721) ↔ (dayNumber date ≤ lastDay)
 range-number date t f = (there (order date 25540721), back (order date 25540721))
   where
@@ -95,6 +94,11 @@ range-number date t f = (there (order date 25540721), back (order date 25540721)
 
 pub number-limit : (date : ℕ) → Good date → dayNumber date ≤ lastDay
 number-limit date g = range-number date (g .is) (good-year date (g .from)) .0 (g .to)
+
+pub day-limit : (date n : ℕ) → dayOf date ≡ answer 0 (n ∷ []) → n ≤ lastDay
+day-limit date n e =
+    let p = day-answered date n e in
+    omega (arith, number-limit date (p .0), p .1)
 
 -- ---- a day's date
 
@@ -136,8 +140,7 @@ number-date date g =
 pub there-and-back : (date day : ℕ) → dayOf date ≡ answer 0 (day ∷ []) → dateOf day ≡ answer 0 (date ∷ [])
 there-and-back date day e =
     let p = day-answered date day e in
-    let h : day ≤ lastDay = omega (arith, number-limit date (p .0), p .1) in
-    date-good day h ∙ ap (λ (n : ℕ). answer 0 (n ∷ [])) (ap dateNumber (sym (p .1)) ∙ number-date date (p .0))
+    date-good day (day-limit date day e) ∙ ap (λ (n : ℕ). answer 0 (n ∷ [])) (ap dateNumber (sym (p .1)) ∙ number-date date (p .0))
 
 pub back-and-there : (day date : ℕ) → dateOf day ≡ answer 0 (date ∷ []) → dayOf date ≡ answer 0 (day ∷ [])
 back-and-there day date e =
@@ -159,11 +162,32 @@ days-rise a b g h = (λ l. number-rises a b (g .is) (h .is) (good-year a (g .fro
 pub days-one : (a b : ℕ) → Good a → Good b → (a ≡ b) ↔ (dayNumber a ≡ dayNumber b)
 days-one a b g h = (λ e. ap dayNumber e, λ e. number-one a b (g .is) (h .is) (good-year a (g .from)) (good-year b (h .from)) e)
 
+-- the same of the answers
+pub answers-rise : (a b m n : ℕ) → dayOf a ≡ answer 0 (m ∷ []) → dayOf b ≡ answer 0 (n ∷ []) → (a < b) ↔ (m < n)
+answers-rise a b m n e f =
+    let p = day-answered a m e in
+    let q = day-answered b n f in
+    let r = days-rise a b (p .0) (q .0) in
+    (λ l. omega (arith, r .0 l, p .1, q .1), λ l. r .1 (omega (arith, p .1, q .1)))
+
+pub answers-one : (a b m n : ℕ) → dayOf a ≡ answer 0 (m ∷ []) → dayOf b ≡ answer 0 (n ∷ []) → (a ≡ b) ↔ (m ≡ n)
+answers-one a b m n e f =
+    let p = day-answered a m e in
+    let q = day-answered b n f in
+    let r = days-one a b (p .0) (q .0) in
+    (λ l. omega (arith, r .0 l, p .1, q .1), λ l. r .1 (omega (arith, p .1, q .1)))
+
 -- ---- a day's start
 
 pub start-good : (day : ℕ) → day ≤ lastDay → startOf day ≡ answer 0 (day * 86400000000000 ∷ [])
 unfolding startOf
 start-good day h = passed (leb day lastDay) (day * 86400000000000) (yes-leb h)
+
+pub start-answered : (day n : ℕ) → startOf day ≡ answer 0 (n ∷ []) → (day ≤ lastDay) × (day * 86400000000000 ≡ n)
+unfolding startOf
+start-answered day n e =
+    let p = was-passed (leb day lastDay) (day * 86400000000000) n e in
+    (leb-yes (p .0), p .1)
 
 pub start-refused : (day : ℕ) → (startOf day ≡ refused NoDate) ↔ (lastDay < day)
 unfolding startOf

@@ -28,29 +28,41 @@ pub enum Moment {
     Refused(Refusal),
 }
 
-// The range: 1970-01-01 to 2554-07-21.
+// The range: 1970-01-01 to 2554-07-21, the last day whose start fits 64 bits.
+const FIRST_YEAR: u32 = 1970;
+
 const FIRST_DATE: u32 = 19700101;
 
 const LAST_DATE: u32 = 25540721;
 
 const LAST_DAY: u32 = 213503;
 
-const FIRST_YEAR: u32 = 1970;
-
-const FEBRUARY: u32 = 2;
-
-const DECEMBER: u32 = 12;
-
 const DAY_NANOSECONDS: u64 = 86400000000000;
 
-const LONGEST_MONTH: u32 = 31;
+// YYYYMMDD: month and day take two digits each, the year stands before four.
+const TWO_DIGITS: u32 = 100;
+
+const FOUR_DIGITS: u32 = 10000;
+
+// A leap year is divisible by 4, and not by 100 unless by 400.
+const LEAP_EVERY: u32 = 4;
+
+const CENTURY: u32 = 100;
+
+const FOUR_CENTURIES: u32 = 400;
 
 const COMMON_YEAR: u32 = 365;
 // Four years, one of them a leap year.
 const FOUR_YEARS: u32 = 1461;
 // The leap years from year 1 to 1969.
 const LEAPS_BEFORE: u32 = 477;
-// The days of a common year before each month, from month 0, which is none, to the end of the year.
+
+const FEBRUARY: u32 = 2;
+
+const DECEMBER: u32 = 12;
+
+const LONGEST_MONTH: u32 = 31;
+// The days of a common year before each month, from month 0, which is none, to month 13, the year's end.
 const MONTH_BEFORE: [u32; 14] = [
     0,
     0,
@@ -68,22 +80,17 @@ const MONTH_BEFORE: [u32; 14] = [
     365,
 ];
 
-// YYYYMMDD: month and day take two digits each, the year stands before four.
-const TWO_DIGITS: u32 = 100;
-
-const FOUR_DIGITS: u32 = 10000;
-
 // The leap days of a year: 1 in a leap year, 0 in a common one.
 fn leap_day(year: u32) -> u32
     ensures { λ r. ⌜ r ≡ leapDay (isLeap year) ⌝ }
 {
-    if year % 4 != 0 {
+    if year % LEAP_EVERY != 0 {
         return 0;
     }
-    if year % 100 != 0 {
+    if year % CENTURY != 0 {
         return 1;
     }
-    if year % 400 != 0 {
+    if year % FOUR_CENTURIES != 0 {
         return 0;
     }
     1
@@ -95,7 +102,8 @@ fn before_year(year: u32) -> u32
     ensures { λ r. ⌜ r ≡ daysOfYears (year - 1970) ⌝ }
 {
     let past = year - 1;
-    COMMON_YEAR * (year - FIRST_YEAR) + (past / 4 - past / 100 + past / 400 - LEAPS_BEFORE)
+    let leaps = past / LEAP_EVERY - past / CENTURY + past / FOUR_CENTURIES;
+    COMMON_YEAR * (year - FIRST_YEAR) + (leaps - LEAPS_BEFORE)
 }
 
 // The days from the first of January of a year to the first of a month; of month 13, the whole year.
@@ -110,19 +118,19 @@ fn before_month(year: u32, month: u32) -> u32
     before
 }
 
-// The year that a day falls in: a year is at least as long as a quarter of four years, and the sum of the shorter ones is under a year.
+// The year that a day falls in. Four years have at most 1,461 days, so the guess is never late; up to 2554 it is at most a year early.
 fn year_of(day: u32) -> u32
     requires { ⌜ day ≤ 213503 ⌝ }
     ensures { λ r. ⌜ YearOf day r ⌝ }
 {
-    let year = FIRST_YEAR + day * 4 / FOUR_YEARS;
+    let year = FIRST_YEAR + day * LEAP_EVERY / FOUR_YEARS;
     if before_year(year + 1) <= day {
         return year + 1;
     }
     year
 }
 
-// The month of a year that a day of it falls in, counted from 0 on the first of January.
+// The month that a day of a year, counted from 0, falls in. No month has over 31 days, so the guess is never late; it is at most a month early.
 fn month_of(year: u32, in_year: u32) -> u32
     requires { ⌜ «in_year» < yearDays (isLeap year) ⌝ }
     ensures { λ r. ⌜ MonthOf (isLeap year) «in_year» r ⌝ }

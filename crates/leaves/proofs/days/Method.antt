@@ -1,18 +1,18 @@
 -- The method of `days`: years by a sum of quotients and a first guess, months by a table and a first guess. Each law ties it to the calendar's counting.
 -- Assumes nothing.
-use Prim.Native.Nat.{ℕ, zero, suc, _+_, _-_, _*_, _/_, _%_, _≤_, _<_}
+use Prim.Native.Nat.{ℕ, suc, _+_, _-_, _*_, _/_, _≤_, _<_}
 use native.Mathlib.Nat.{add-zero}
 use native.Mathlib.Numerals.{add-one}
 use native.Mathlib.Decide.{decLe}
 use native.Mathlib.Omega.{arith}
-use mathlib.Core.Path.{_≡_, refl, sym, ap, _∙_, subst}
+use mathlib.Core.Path.{_≡_, sym, ap, _∙_}
 use mathlib.Core.Bool.{Bool, true, false, cond}
 use mathlib.Core.List.{List, [], _∷_}
 use borrow.Author.Tests.{lt-ltb, le-ltb}
-use lib.Dec.{T, leb, ltb, eqb}
+use lib.Dec.{leb, ltb, eqb}
 use lib.ListN.{getD}
 use mir.Facts.{leb-yes, eqb-yes}
-use Rattle.leaves.specs.Calendar.{isLeap, yearDays, monthDays, daysOfYears, daysBefore}
+use Rattle.leaves.specs.Calendar.{yearDays, monthDays, daysOfYears, daysBefore}
 use Rattle.leaves.specs.CalendarLaws.{below, leapDay, leapsTo, leaps-rise, leaps-1969, years-sum, before-rises, before-end}
 use Rattle.leaves.specs.CalendarDates.{YearOf, MonthOf}
 

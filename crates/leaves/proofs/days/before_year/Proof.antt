@@ -7,6 +7,12 @@ use Rattle.leaves.proofs.days.before_year.Tie as tie
 sub-past : tie.Need-sub-past
 sub-past c = search needs
 
+sub-leaps : tie.Need-sub-leaps
+sub-leaps c = search needs
+
+add-leaps : tie.Need-add-leaps
+add-leaps c = search needs
+
 sub-result : tie.Need-sub-result
 sub-result c = search needs
 
@@ -19,24 +25,10 @@ sub-result-2 c = search needs
 add-result : tie.Need-add-result
 add-result c = search needs
 
-sub-result-3 : tie.Need-sub-result-3
-sub-result-3 c = search needs
-
-add-result-2 : tie.Need-add-result-2
-add-result-2 c = search needs
-
 returns : tie.Need-returns
 returns c = years-closed (c .args .year) (c .pre .0)
 
 pub before-year-spec : {M : Type 1} → statement M
 before-year-spec =
     tie.close
-    (tie.spec
-    sub-past
-    sub-result
-    mul-result
-    sub-result-2
-    add-result
-    sub-result-3
-    add-result-2
-    returns)
+    (tie.spec sub-past sub-leaps add-leaps sub-result mul-result sub-result-2 add-result returns)

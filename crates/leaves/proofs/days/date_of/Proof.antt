@@ -1,11 +1,11 @@
 -- `days::date_of` meets its contract: the year, the month and the day found make a date with this day number, and there is only one.
 -- Assumes nothing.
-use Prim.Native.Nat.{ℕ, suc, _+_, _-_, _*_, _≤_, _<_}
+use Prim.Native.Nat.{ℕ, _+_, _-_, _*_, _≤_, _<_}
 use native.Mathlib.Omega.{arith}
 use mathlib.Core.Path.{_≡_, sym, ap, _∙_}
 use mathlib.Core.List.{[], _∷_}
 use borrow.Author.Needs.{needs}
-use Rattle.theory.specs.Answer.{Answer, answer}
+use Rattle.theory.specs.Answer.{answer}
 use Rattle.leaves.specs.Calendar.{isLeap, yearDays, daysOfYears, daysBefore, dateNumber}
 use Rattle.leaves.specs.CalendarLaws.{before-suc}
 use Rattle.leaves.specs.CalendarDates.{YearOf, MonthOf, year-next, dated, dated-one, dateNumber-dated}
