@@ -8,3 +8,8 @@ pub mod Lookup
 pub mod Places
 pub mod Rules
 pub mod History
+pub mod Memory
+pub mod MemoryLaws
+pub mod Moves
+pub mod Search
+pub mod Pieces
