@@ -3,3 +3,4 @@ pub mod EntriesLaws
 pub mod Points
 pub mod PointsLaws
 pub mod PointsSteps
+pub mod Interval
