@@ -1,7 +1,6 @@
-// The maps of document 01, "The map over time": tables in lent bytes, each file one idea.
+// The maps of document 01, "The map over time": the table over time and the point-in-time table, in lent bytes.
 pub mod entries;
-pub mod points;
-// The maps: the table over time in lent bytes.
 pub mod interval;
 pub mod moves;
+pub mod points;
 pub mod search;
