@@ -1,22 +1,41 @@
 -- The method of `days`: years by a sum of quotients and a first guess, months by a table and a first guess. Each law ties it to the calendar's counting.
 -- Assumes nothing.
-use Prim.Native.Nat.{ℕ, suc, _+_, _-_, _*_, _/_, _≤_, _<_}
+use Prim.Native.Nat.{ℕ, suc, _+_, _-_, _*_, _/_, _%_, _≤_, _<_}
 use native.Mathlib.Nat.{add-zero}
 use native.Mathlib.Numerals.{add-one}
 use native.Mathlib.Decide.{decLe}
 use native.Mathlib.Omega.{arith}
 use mathlib.Core.Path.{_≡_, sym, ap, _∙_}
+use mathlib.Core.Logic.{_≢_}
 use mathlib.Core.Bool.{Bool, true, false, cond}
 use mathlib.Core.List.{List, [], _∷_}
-use borrow.Author.Tests.{lt-ltb, le-ltb}
+use borrow.Author.Tests.{lt-ltb, le-ltb, eq-eqb, ne-eqb}
 use lib.Dec.{leb, ltb, eqb}
 use lib.ListN.{getD}
 use mir.Facts.{leb-yes, eqb-yes}
-use Rattle.leaves.specs.Calendar.{yearDays, monthDays, daysOfYears, daysBefore}
+use Rattle.leaves.specs.Calendar.{isLeap, yearDays, monthDays, daysOfYears, daysBefore}
 use Rattle.leaves.specs.CalendarLaws.{below, leapDay, leapsTo, leaps-rise, leaps-1969, years-sum, before-rises, before-end}
 use Rattle.leaves.specs.CalendarDates.{YearOf, MonthOf}
 
 -- ---- years
+
+-- the leap year rule, case by case
+module _ (year : ℕ) where
+  pub leap-no-fourth : year % 4 ≢ 0 → 0 ≡ leapDay (isLeap year)
+  unfolding isLeap
+  leap-no-fourth h = simp (ne-eqb (year % 4) 0 h)
+
+  pub leap-fourth : year % 4 ≡ 0 → year % 100 ≢ 0 → 1 ≡ leapDay (isLeap year)
+  unfolding isLeap
+  leap-fourth h k = simp (eq-eqb (year % 4) 0 h, ne-eqb (year % 100) 0 k)
+
+  pub leap-century : year % 4 ≡ 0 → year % 100 ≡ 0 → year % 400 ≢ 0 → 0 ≡ leapDay (isLeap year)
+  unfolding isLeap
+  leap-century h k l = simp (eq-eqb (year % 4) 0 h, eq-eqb (year % 100) 0 k, ne-eqb (year % 400) 0 l)
+
+  pub leap-fourth-century : year % 4 ≡ 0 → year % 100 ≡ 0 → year % 400 ≡ 0 → 1 ≡ leapDay (isLeap year)
+  unfolding isLeap
+  leap-fourth-century h k l = simp (eq-eqb (year % 4) 0 h, eq-eqb (year % 100) 0 k, eq-eqb (year % 400) 0 l)
 
 closed : (year : ℕ) → 1970 ≤ year → 365 * (year - 1970) + (leapsTo (year - 1) - 477) ≡ daysOfYears (year - 1970)
 closed year h =
