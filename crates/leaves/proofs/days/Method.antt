@@ -46,7 +46,7 @@ pub years-closed : (year : ℕ) → 1970 ≤ year → 365 * (year - 1970) + ((ye
 unfolding leapsTo
 years-closed year h = closed year h
 
--- n years have a leap day in four, but for 2100, 2200, 2300 and 2500
+-- one year in four is a leap year, but for 2100, 2200, 2300 and 2500
 hundreds : (x : ℕ) → 1969 ≤ x → x < 2600 → (15 + x / 400 ≤ x / 100) × (x / 100 ≤ 19 + x / 400) × (x / 100 ≤ 25)
 hundreds x h k = (omega arith, omega arith, omega arith)
 
@@ -68,9 +68,6 @@ abbrev guess : ℕ → ℕ
 guess day = day * 4 / 1461
 
 module _ (day : ℕ) (h : day ≤ 213503) where
-  guess-small : guess day ≤ 584
-  guess-small = omega arith
-
   begun : daysOfYears (guess day) ≤ day
   begun = omega (arith, near (guess day) (omega arith) .0)
 
@@ -129,7 +126,7 @@ leap-short false = omega arith
 pub before-short : (month : ℕ) → month < 14 → getD commonBefore month 0 ≤ 365
 before-short month h = leb-yes (below (λ m. leb (getD commonBefore m 0) 365) 14 tt month h)
 
--- a month has at most 31 days, and any two that follow each other, and all before them, more than 31 for each but one
+-- the first n months have at most 31 days each, and the first n + 2 at least 31 for each but one
 pub before-least : (leap : Bool) (n : ℕ) → n < 12 → daysBefore leap (n + 1) ≤ 31 * n
 unfolding daysBefore monthDays
 before-least true n h = leb-yes (below (λ m. leb (daysBefore true (m + 1)) (31 * m)) 12 tt n h)
@@ -150,13 +147,13 @@ months-short leap month h = omega (arith, before-rises leap month 13 h, before-e
 -- the guess: a month has at most 31 days; at most one more is over
 module _ (leap : Bool) (day : ℕ) (h : day < yearDays leap) where
   first : daysBefore leap (day / 31 + 1) ≤ day
-  first = omega (arith, before-least leap (day / 31) (omega (arith, (year-short leap))))
+  first = omega (arith, before-least leap (day / 31) (omega (arith, year-short leap)))
 
   pub month-same : day < daysBefore leap (day / 31 + 1 + 1) → MonthOf leap day (day / 31 + 1)
   month-same k =
       record {
         from = omega arith;
-        to = omega (arith, (year-short leap));
+        to = omega (arith, year-short leap);
         begun = first;
         over = omega (arith, k, ap (daysBefore leap) (add-one (day / 31 + 1)));
       }
@@ -174,6 +171,6 @@ module _ (leap : Bool) (day : ℕ) (h : day < yearDays leap) where
     where
       last : Dec (11 ≤ day / 31) → day / 31 < 11
       last (yes i) =
-          let e : day / 31 + 1 + 1 ≡ 13 = omega (arith, (year-short leap)) in
+          let e : day / 31 + 1 + 1 ≡ 13 = omega (arith, year-short leap) in
           absurd (omega (arith, k, ap (daysBefore leap) e, before-end leap))
       last (no i) = omega arith
