@@ -2,6 +2,7 @@
 pub mod days;
 pub mod fields;
 pub mod frame;
+pub mod names;
 pub mod number_text;
 pub mod refusal;
 pub mod utf8;
