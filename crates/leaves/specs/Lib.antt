@@ -10,3 +10,5 @@ pub mod Utf8
 pub mod Utf8Laws
 pub mod NumberText
 pub mod NumberTextLaws
+pub mod Names
+pub mod NamesLaws

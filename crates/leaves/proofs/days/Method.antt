@@ -1,22 +1,41 @@
 -- The method of `days`: years by a sum of quotients and a first guess, months by a table and a first guess. Each law ties it to the calendar's counting.
 -- Assumes nothing.
-use Prim.Native.Nat.{ℕ, suc, _+_, _-_, _*_, _/_, _≤_, _<_}
+use Prim.Native.Nat.{ℕ, suc, _+_, _-_, _*_, _/_, _%_, _≤_, _<_}
 use native.Mathlib.Nat.{add-zero}
 use native.Mathlib.Numerals.{add-one}
 use native.Mathlib.Decide.{decLe}
 use native.Mathlib.Omega.{arith}
 use mathlib.Core.Path.{_≡_, sym, ap, _∙_}
+use mathlib.Core.Logic.{_≢_}
 use mathlib.Core.Bool.{Bool, true, false, cond}
 use mathlib.Core.List.{List, [], _∷_}
-use borrow.Author.Tests.{lt-ltb, le-ltb}
+use borrow.Author.Tests.{lt-ltb, le-ltb, eq-eqb, ne-eqb}
 use lib.Dec.{leb, ltb, eqb}
 use lib.ListN.{getD}
 use mir.Facts.{leb-yes, eqb-yes}
-use Rattle.leaves.specs.Calendar.{yearDays, monthDays, daysOfYears, daysBefore}
+use Rattle.leaves.specs.Calendar.{isLeap, yearDays, monthDays, daysOfYears, daysBefore}
 use Rattle.leaves.specs.CalendarLaws.{below, leapDay, leapsTo, leaps-rise, leaps-1969, years-sum, before-rises, before-end}
 use Rattle.leaves.specs.CalendarDates.{YearOf, MonthOf}
 
 -- ---- years
+
+-- the leap year rule, case by case
+module _ (year : ℕ) where
+  pub leap-no-fourth : year % 4 ≢ 0 → 0 ≡ leapDay (isLeap year)
+  unfolding isLeap
+  leap-no-fourth h = simp (ne-eqb (year % 4) 0 h)
+
+  pub leap-fourth : year % 4 ≡ 0 → year % 100 ≢ 0 → 1 ≡ leapDay (isLeap year)
+  unfolding isLeap
+  leap-fourth h k = simp (eq-eqb (year % 4) 0 h, ne-eqb (year % 100) 0 k)
+
+  pub leap-century : year % 4 ≡ 0 → year % 100 ≡ 0 → year % 400 ≢ 0 → 0 ≡ leapDay (isLeap year)
+  unfolding isLeap
+  leap-century h k l = simp (eq-eqb (year % 4) 0 h, eq-eqb (year % 100) 0 k, ne-eqb (year % 400) 0 l)
+
+  pub leap-fourth-century : year % 4 ≡ 0 → year % 100 ≡ 0 → year % 400 ≡ 0 → 1 ≡ leapDay (isLeap year)
+  unfolding isLeap
+  leap-fourth-century h k l = simp (eq-eqb (year % 4) 0 h, eq-eqb (year % 100) 0 k, eq-eqb (year % 400) 0 l)
 
 closed : (year : ℕ) → 1970 ≤ year → 365 * (year - 1970) + (leapsTo (year - 1) - 477) ≡ daysOfYears (year - 1970)
 closed year h =
@@ -27,7 +46,7 @@ pub years-closed : (year : ℕ) → 1970 ≤ year → 365 * (year - 1970) + ((ye
 unfolding leapsTo
 years-closed year h = closed year h
 
--- n years have a leap day in four, but for 2100, 2200, 2300 and 2500
+-- one year in four is a leap year, but for 2100, 2200, 2300 and 2500
 hundreds : (x : ℕ) → 1969 ≤ x → x < 2600 → (15 + x / 400 ≤ x / 100) × (x / 100 ≤ 19 + x / 400) × (x / 100 ≤ 25)
 hundreds x h k = (omega arith, omega arith, omega arith)
 
@@ -49,9 +68,6 @@ abbrev guess : ℕ → ℕ
 guess day = day * 4 / 1461
 
 module _ (day : ℕ) (h : day ≤ 213503) where
-  guess-small : guess day ≤ 584
-  guess-small = omega arith
-
   begun : daysOfYears (guess day) ≤ day
   begun = omega (arith, near (guess day) (omega arith) .0)
 
@@ -110,7 +126,7 @@ leap-short false = omega arith
 pub before-short : (month : ℕ) → month < 14 → getD commonBefore month 0 ≤ 365
 before-short month h = leb-yes (below (λ m. leb (getD commonBefore m 0) 365) 14 tt month h)
 
--- a month has at most 31 days, and any two that follow each other, and all before them, more than 31 for each but one
+-- the first n months have at most 31 days each, and the first n + 2 at least 31 for each but one
 pub before-least : (leap : Bool) (n : ℕ) → n < 12 → daysBefore leap (n + 1) ≤ 31 * n
 unfolding daysBefore monthDays
 before-least true n h = leb-yes (below (λ m. leb (daysBefore true (m + 1)) (31 * m)) 12 tt n h)
@@ -131,13 +147,13 @@ months-short leap month h = omega (arith, before-rises leap month 13 h, before-e
 -- the guess: a month has at most 31 days; at most one more is over
 module _ (leap : Bool) (day : ℕ) (h : day < yearDays leap) where
   first : daysBefore leap (day / 31 + 1) ≤ day
-  first = omega (arith, before-least leap (day / 31) (omega (arith, (year-short leap))))
+  first = omega (arith, before-least leap (day / 31) (omega (arith, year-short leap)))
 
   pub month-same : day < daysBefore leap (day / 31 + 1 + 1) → MonthOf leap day (day / 31 + 1)
   month-same k =
       record {
         from = omega arith;
-        to = omega (arith, (year-short leap));
+        to = omega (arith, year-short leap);
         begun = first;
         over = omega (arith, k, ap (daysBefore leap) (add-one (day / 31 + 1)));
       }
@@ -155,6 +171,6 @@ module _ (leap : Bool) (day : ℕ) (h : day < yearDays leap) where
     where
       last : Dec (11 ≤ day / 31) → day / 31 < 11
       last (yes i) =
-          let e : day / 31 + 1 + 1 ≡ 13 = omega (arith, (year-short leap)) in
+          let e : day / 31 + 1 + 1 ≡ 13 = omega (arith, year-short leap) in
           absurd (omega (arith, k, ap (daysBefore leap) e, before-end leap))
       last (no i) = omega arith

@@ -27,10 +27,10 @@ add-result c =
 returns : tie.Need-returns
 returns c =
     let a = c .before .before .args in
-    ap (λ (r : ℕ). getD commonBefore (a .month) 0 + r) (c .leap-day .ensures) ∙ before-late (isLeap (a .year)) (a .month) (c .before .before .pre) (c .before .if1 .taken)
+    ap (λ (r : ℕ). getD commonBefore (a .month) 0 + r) (c .leap-day .ensures) ∙ before-late (isLeap (a .year)) (a .month) (c .before .before .pre) (omega arith)
 
 returns-2 : tie.Need-returns-2
-returns-2 c = before-early (isLeap (c .before .args .year)) (c .before .args .month) (c .if1 .left)
+returns-2 c = before-early (isLeap (c .before .args .year)) (c .before .args .month) (omega arith)
 
 pub before-month-spec : {M : Type 1} → statement M
 before-month-spec =

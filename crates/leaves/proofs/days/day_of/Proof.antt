@@ -53,7 +53,7 @@ pub record Short (date : ℕ) : Type 0 where
   pub years : daysOfYears (yearIn date - 1970) ≤ 219150
   pub months : daysBefore (isLeap (yearIn date)) (monthIn date) ≤ 366
 
-short : (date : ℕ) → date ≤ 25540721 → monthIn date ≤ 12 → Short date
+short : (date : ℕ) → date < 25600000 → monthIn date ≤ 12 → Short date
 short date h k = record { years = years-short (yearIn date - 1970) (omega arith); months = months-short (isLeap (yearIn date)) (monthIn date) (omega arith) }
 
 -- the entry, from the second call of `before_month`
