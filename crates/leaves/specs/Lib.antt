@@ -12,3 +12,4 @@ pub mod NumberText
 pub mod NumberTextLaws
 pub mod Names
 pub mod NamesLaws
+pub mod NamesList

@@ -73,6 +73,11 @@ memory bytes places names used e =
       room = leb-true _ _ (and-right (leb places 4096 && leb bytes 65536 && leb names places) (leb used bytes) e);
     }
 
+-- and back
+pub memory-so : (bytes places names used : ℕ) → Memory bytes places names used → memoryOk bytes places names used ≡ true
+unfolding memoryOk
+memory-so bytes places names used m = rw (le-leb _ _ (m .few), le-leb _ _ (m .small), le-leb _ _ (m .held)) (le-leb _ _ (m .room))
+
 -- no place is left
 pub room-none : (bytes places names used size : ℕ) → Memory bytes places names used → places ≤ names → false ≡ hasRoom bytes places names used size
 unfolding hasRoom
