@@ -1,1 +1,3 @@
 pub mod Interval
+pub mod Insert
+pub mod Check
