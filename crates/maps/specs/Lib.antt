@@ -4,3 +4,5 @@ pub mod Points
 pub mod PointsLaws
 pub mod PointsSteps
 pub mod Interval
+pub mod Insert
+pub mod Check

@@ -13,3 +13,5 @@ pub mod MemoryLaws
 pub mod Moves
 pub mod Search
 pub mod Pieces
+pub mod Checks
+pub mod Outcomes
