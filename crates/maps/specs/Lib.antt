@@ -6,3 +6,5 @@ pub mod PointsSteps
 pub mod Interval
 pub mod Insert
 pub mod Check
+pub mod Mapping
+pub mod MappingLaws

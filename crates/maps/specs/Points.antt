@@ -12,8 +12,6 @@ use Rattle.leaves.specs.Refusal.{refused}
 use Rattle.leaves.specs.declared.refusal.Refusal.the-variants.{NoRoom, IllFormed, BadMemory}
 use Rattle.maps.specs.Entries.{entries, putEntries}
 use Rattle.maps.specs.declared.entries.Entry.{Entry}
-use Rattle.maps.specs.declared.points.Checked.{Checked}
-use Rattle.maps.specs.declared.points.Checked.the-variants.{WellFormed, Refused as CheckRefused}
 use Rattle.maps.specs.declared.points.Found.{Found}
 use Rattle.maps.specs.declared.points.Found.the-variants.{Symbol, Nothing, Refused as FindRefused}
 use Rattle.maps.specs.declared.points.Stored.{Stored}
@@ -73,10 +71,6 @@ pointsChecked t used names =
     cond (pointsFit (length t) used && namesFit names)
     (cond (wellFormed names (entries t used)) (answer 0 []) (refused IllFormed))
     (refused BadMemory)
-
-abbrev pub checkedOf : Checked → Answer
-checkedOf WellFormed = answer 0 []
-checkedOf (CheckRefused r) = refused r
 
 -- the answer that is a symbol or nothing
 abbrev pub symbolAnswer : Option ℕ → Answer

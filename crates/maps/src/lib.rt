@@ -3,6 +3,7 @@ pub mod check;
 pub mod entries;
 pub mod insert;
 pub mod interval;
+pub mod mapping;
 pub mod moves;
 pub mod points;
 pub mod search;

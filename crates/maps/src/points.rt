@@ -1,5 +1,8 @@
 // The point-in-time table of document 01, "The map over time": one entry an instrument, sorted by instrument, in lent bytes
 // of which `used` entries are in use from the front. Its length is `used`.
+use crate::check::Checked;
+use crate::check::NAME_LIMIT;
+use crate::check::ROOM_LIMIT;
 use crate::entries::Entry;
 use crate::entries::WIDTH;
 use crate::entries::entry_at;
@@ -12,20 +15,10 @@ ghost use Prim.Native.Nat.{_*_, _≤_, _<_};
 ghost use lib.ListN.{length};
 ghost use lib.Dec.{T};
 ghost use Rattle.leaves.specs.Refusal.{refused};
+ghost use Rattle.maps.specs.Check.{checkedOf};
 ghost use Rattle.maps.specs.Entries.{entries};
-ghost use Rattle.maps.specs.Points.{rising, wellFormed, pointsFit, setEntry, pointsChecked, checkedOf, pointFound, foundOf, storedAnswer, storedBytes, storedOf};
+ghost use Rattle.maps.specs.Points.{rising, wellFormed, pointsFit, setEntry, pointsChecked, pointFound, foundOf, storedAnswer, storedBytes, storedOf};
 ghost use Rattle.maps.specs.PointsSteps.{standsAt, holdsAt, Placed};
-
-// A table's room is at most so many entries.
-const MOST_ENTRIES: usize = 65536;
-// At most so many names.
-const MOST_NAMES: usize = 4096;
-
-// What the check answers.
-pub enum Checked {
-    WellFormed,
-    Refused(Refusal),
-}
 
 // What the lookup answers: a symbol number, or nothing.
 pub enum Found {
@@ -47,7 +40,7 @@ pub fn points_fit(bytes: usize, used: usize) -> bool
     if bytes % WIDTH != 0 {
         return false;
     }
-    if MOST_ENTRIES < bytes / WIDTH {
+    if ROOM_LIMIT < bytes / WIDTH {
         return false;
     }
     used <= bytes / WIDTH
@@ -91,7 +84,7 @@ pub fn check_points(table: &[u8], used: usize, names: usize) -> Checked
     if !points_fit(table.len(), used) {
         return Checked::Refused(Refusal::BadMemory);
     }
-    if MOST_NAMES < names {
+    if NAME_LIMIT < names {
         return Checked::Refused(Refusal::BadMemory);
     }
     if !well_formed(table, used, names) {
