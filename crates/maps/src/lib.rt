@@ -2,5 +2,6 @@
 pub mod check;
 pub mod insert;
 pub mod interval;
+pub mod lookup;
 pub mod moves;
 pub mod search;
