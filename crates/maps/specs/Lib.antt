@@ -8,3 +8,4 @@ pub mod Insert
 pub mod Check
 pub mod Mapping
 pub mod MappingLaws
+pub mod Lookup

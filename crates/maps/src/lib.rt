@@ -4,6 +4,7 @@ pub mod entries;
 pub mod insert;
 pub mod interval;
 pub mod mapping;
+pub mod lookup;
 pub mod moves;
 pub mod points;
 pub mod search;

@@ -15,3 +15,4 @@ pub mod Search
 pub mod Pieces
 pub mod Checks
 pub mod Outcomes
+pub mod Looks

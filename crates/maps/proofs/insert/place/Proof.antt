@@ -51,7 +51,11 @@ replace-requires : tie.Need-replace-requires
 replace-requires c κs = (search (needs, in-order), search needs, search needs, search needs, search needs, search needs)
 
 clear-requires : tie.Need-clear-requires
-clear-requires c κs = omega (arith, c .before .before .before .replace .kept .0, c .before .before .before .before .before .before .before .before .before .before .before .before .before .before .before .before .before .before .before .pre .0, c .before .before .before .before .before .before .before .before .before .before .before .before .before .before .before .before .before .before .before .pre .1)
+clear-requires c κs =
+    let replacing = c .before .before .before in
+    let testing = replacing .before .before .before .before .before .before in
+    let entry = testing .before .before .before .before .before .before .before .before .before .before in
+    omega (arith, replacing .replace .kept .0, entry .pre .0, entry .pre .1)
 
 same-length : tie.Need-same-length
 same-length c = search needs
@@ -64,13 +68,25 @@ same-length-2 c = search needs
 
 returns-2 : tie.Need-returns-2
 returns-2 c =
-    placed (c .before .before .before .before .before .before .before .before .before .before .before .before .before .before .before .before .before .before .before .before .before .before .pre .2) (c .before .before .before .before .before .before .before .before .before .before .before .before .before .before .before .before .before .before .before .before .before .before .pre .3) (c .before .before .before .before .before .before .before .before .before .before .before .before .before .before .before .before .before .before .before .find .ensures) (c .before .before .before .before .before .before .before .before .before .before .before .before .before .before .before .before .before .find2 .ensures)
-    (c .before .before .before .before .before .before .before .before .before .before .before .before .before .before .before .first-of .ensures .0) (c .before .before .before .before .before .before .before .before .before .before .before .before .before .before .before .first-of .ensures .1) (c .before .before .before .before .before .before .before .before .before .before .before .before .before .last-of .ensures .0) (c .before .before .before .before .before .before .before .before .before .before .before .before .before .last-of .ensures .1)
-    (c .before .before .before .before .before .before .before .before .before .before .before .before .left-count .ensures .0) (c .before .before .before .before .before .before .before .before .before .before .before .right-count .ensures .0) (c .before .before .before .before .before .before .before .before .before .start-of .ensures) (c .before .before .before .before .before .before .before .before .end-of .ensures)
-    (λ x. omega (arith, c .before .before .before .before .before .before .before .before .before .before .before .before .before .before .before .before .before .before .before .before .before .slice-known .given x)) (λ x. omega (arith, c .slice-known3 .given x))
-    (c .before .before .before .before .before .before .before .before .before .before .before .before .before .before .before .before .before .before .before .before .before .before .pre .0) (c .before .before .clear .kept .0 ∙ c .before .before .before .before .before .before .replace .kept .0) (c .before .before .before .before .before .before .before .before .before .before .before .before .before .before .before .before .before .before .before .before .before .before .pre .1)
-    (c .before .before .before .before .before .before .before .before .before .before .if1 .left)
-    (c .before .before .before .before .before .before .replace .ensures) (c .before .before .clear .ensures)
+    let clearing = c .before .before in
+    let replacing = clearing .before .before .before .before in
+    let ending = replacing .before .before in
+    let starting = ending .before in
+    let fitting = starting .before in
+    let righting = fitting .before in
+    let lefting = righting .before in
+    let lasting = lefting .before in
+    let firsting = lasting .before .before in
+    let high = firsting .before .before in
+    let low = high .before .before in
+    let known = low .before .before in
+    let entry = known .before in
+    placed (entry .pre .2) (entry .pre .3) (low .find .ensures) (high .find2 .ensures)
+    (firsting .first-of .ensures .0) (firsting .first-of .ensures .1) (lasting .last-of .ensures .0) (lasting .last-of .ensures .1)
+    (lefting .left-count .ensures .0) (righting .right-count .ensures .0) (starting .start-of .ensures) (ending .end-of .ensures)
+    (λ x. omega (arith, known .slice-known .given x)) (λ x. omega (arith, c .slice-known3 .given x))
+    (entry .pre .0) (clearing .clear .kept .0 ∙ replacing .replace .kept .0) (entry .pre .1) (fitting .if1 .left)
+    (replacing .replace .ensures) (clearing .clear .ensures)
 
 pub place-spec : {M : Type 1} → statement M
 place-spec =
