@@ -8,4 +8,5 @@ pub mod Insert
 pub mod Check
 pub mod Mapping
 pub mod MappingLaws
+pub mod MappingInterval
 pub mod Lookup

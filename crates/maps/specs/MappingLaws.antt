@@ -19,12 +19,14 @@ use Rattle.leaves.specs.FrameLaws.{mapped-other, mapped-symbol, mapped-refused,
 use Rattle.leaves.specs.declared.frame.Mapping.{Mapping}
 use Rattle.leaves.specs.declared.frame.Mapping.the-variants.{Other, Symbol, Refused as NotRead}
 use Rattle.leaves.specs.Names.{memoryOk, wellFormed as wellFormedNames, namesOf, least, isName, written, hasRoom as hasNameRoom}
-use Rattle.leaves.specs.NamesLaws.{holds, fails, Memory, memory, Ordered, formed, ordered, numbered-old, numbered-new, numbered-none}
+use Rattle.leaves.specs.NamesLaws.{holds, fails, Memory, memory, Ordered as OrderedNames, formed, ordered, numbered-old, numbered-new, numbered-none}
 use Rattle.maps.specs.Entries.{entries}
 use Rattle.maps.specs.declared.entries.Entry.{Entry}
 use Rattle.maps.specs.Points.{rising, allKnown, wellFormed, setEntry, pointsFit, hasRoom, storedAnswer, storedBytes}
 use Rattle.maps.specs.PointsSteps.{fit-bytes}
 use Rattle.maps.specs.Mapping.{Wanted, nothing, refuses, stores, numberingIn, numbered, pointWanted, pointJudged, pointOutcome, pointJoins, pointTable, pointAnswer, namesThen, sizeThen, bytesThen, endsThen, planOf}
+use Rattle.tables.specs.Table.{Ordered}
+use Rattle.tables.specs.Memory.{width, rows, roomOf}
 use Rattle.maps.specs.declared.mapping.Plan.{Plan}
 use Rattle.maps.specs.declared.mapping.Plan.the-variants.{Nothing, Store, Refuse}
 
@@ -50,13 +52,27 @@ ReadyPoint t used bytes ends names size rec (Refuse r) = Unit {0}
 ReadyPoint t used bytes ends names size rec (Store instrument start end number new from to) =
     Lies bytes ends names size rec from to new × (used * 8 ≤ length t) × T (rising (entries t used))
 
+-- a plan for a table over time stores a stretch that is not empty
+abbrev pub Forward : Plan → Type 0
+Forward Nothing = Unit {0}
+Forward (Refuse r) = Unit {0}
+Forward (Store instrument start end number new from to) = start < end
+
+-- and what such a table has been tested for
+abbrev pub ReadyInterval : List ℕ → ℕ → List ℕ → List ℕ → ℕ → ℕ → List ℕ → Plan → Type 0
+ReadyInterval t used bytes ends names size rec Nothing = Unit {0}
+ReadyInterval t used bytes ends names size rec (Refuse r) = Unit {0}
+ReadyInterval t used bytes ends names size rec (Store instrument start end number new from to) =
+    Lies bytes ends names size rec from to new
+    × ((length t ≡ roomOf t * width) × (used ≤ roomOf t) × (start < end) × Ordered (rows t used))
+
 -- ---- the number of a valid name
 
-and-fst : (a b : Bool) → (a && b) ≡ true → a ≡ true
+pub and-fst : (a b : Bool) → (a && b) ≡ true → a ≡ true
 and-fst true b e = refl
 and-fst false b e = e
 
-and-snd : (a b : Bool) → (a && b) ≡ true → b ≡ true
+pub and-snd : (a b : Bool) → (a && b) ≡ true → b ≡ true
 and-snd true b e = e
 and-snd false b e = let z : _≡_ {A = ℕ} 0 1 = cc in absurd (omega arith)
 
@@ -92,7 +108,7 @@ pub few-names : (bytes places names size : ℕ) → memoryOk bytes places names 
 few-names bytes places names size m = let l = memory bytes places names size m in omega (arith, l .few, l .held)
 
 module _ (bytes ends rec : List ℕ) (names size from to : ℕ) (m : memoryOk (length bytes) (length ends) names size ≡ true) (p : Part rec from to) where
-  pub find-ready : wellFormedNames bytes ends names size ≡ true → Ordered bytes ends names
+  pub find-ready : wellFormedNames bytes ends names size ≡ true → OrderedNames bytes ends names
   find-ready w = ordered (memory _ _ _ _ m) (formed bytes ends size names w)
 
   module _ {n : ℕ} (e : n ≡ least (slice from to rec) (namesOf bytes ends names)) where
@@ -139,7 +155,7 @@ module _ (bytes ends rec : List ℕ) (names size from to : ℕ) (m : memoryOk (l
 
 -- ---- what the record asks
 
-two : {A : Type 0} (b : Bool) (x y : A) (P : A → Type 0) → P (cond b x y) → ((b ≡ true) × P x) ⊎ ((b ≡ false) × P y)
+pub two : {A : Type 0} (b : Bool) (x y : A) (P : A → Type 0) → P (cond b x y) → ((b ≡ true) × P x) ⊎ ((b ≡ false) × P y)
 two true x y P h = inl (refl, h)
 two false x y P h = inr (refl, h)
 
@@ -187,7 +203,7 @@ module _ (bytes ends rec : List ℕ) (names size : ℕ) {a : Mapping} (e : mappi
       ap refuses (g ∙ ap (mappedOf (length rec)) (m .1)) ∙ wanted bytes ends rec names size (sym (m .1))
 
   module _ {i s t from to : ℕ} (f : a ≡ Symbol i s t from to) where
-    asked : (mappedIn rec ≡ symbol i s t) × (from ≡ 32) × (to ≡ length rec)
+    pub asked : (mappedIn rec ≡ symbol i s t) × (from ≡ 32) × (to ≡ length rec)
     asked = mapped-symbol (length rec) i s t from to (mappedIn rec) (sym (ap mappingOf f) ∙ e)
 
     pub asked-part : Part rec from to

@@ -12,8 +12,8 @@ use Rattle.leaves.specs.Refusal.{refused}
 use Rattle.leaves.specs.declared.refusal.Refusal.the-variants.{NoRoom, IllFormed, BadMemory}
 use Rattle.maps.specs.Entries.{entries, putEntries}
 use Rattle.maps.specs.declared.entries.Entry.{Entry}
-use Rattle.maps.specs.declared.points.Found.{Found}
-use Rattle.maps.specs.declared.points.Found.the-variants.{Symbol, Nothing, Refused as FindRefused}
+use Rattle.maps.specs.declared.lookup.Found.{Found}
+use Rattle.maps.specs.declared.lookup.Found.the-variants.{Symbol, Nothing, Refused as FindRefused}
 use Rattle.maps.specs.declared.points.Stored.{Stored}
 use Rattle.maps.specs.declared.points.Stored.the-variants.{Done, Refused as StoreRefused}
 

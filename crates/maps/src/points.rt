@@ -8,6 +8,7 @@ use crate::entries::WIDTH;
 use crate::entries::entry_at;
 use crate::entries::move_up;
 use crate::entries::put_entry;
+use crate::lookup::Found;
 use leaves::refusal::Refusal;
 ghost use mathlib.Core.Path.{_≡_};
 ghost use mathlib.Core.Bool.{false};
@@ -19,13 +20,6 @@ ghost use Rattle.maps.specs.Check.{checkedOf};
 ghost use Rattle.maps.specs.Entries.{entries};
 ghost use Rattle.maps.specs.Points.{rising, wellFormed, pointsFit, setEntry, pointsChecked, pointFound, foundOf, storedAnswer, storedBytes, storedOf};
 ghost use Rattle.maps.specs.PointsSteps.{standsAt, holdsAt, Placed};
-
-// What the lookup answers: a symbol number, or nothing.
-pub enum Found {
-    Symbol(u32),
-    Nothing,
-    Refused(Refusal),
-}
 
 // What a call that stores answers: how many entries are in use then.
 pub enum Stored {
