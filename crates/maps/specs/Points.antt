@@ -2,7 +2,7 @@
 -- "sets the instrument's entry", "a later entry for one instrument replaces the earlier one"; "its lookup takes the instrument
 -- alone; its length counts entries".
 use Prim.Native.Nat.{ℕ, _/_, _%_}
-use mathlib.Core.Bool.{Bool, true, _&&_, cond}
+use mathlib.Core.Bool.{Bool, true, not, _&&_, cond}
 use mathlib.Core.Option.{Option, none, some}
 use mathlib.Core.List.{List, [], _∷_}
 use lib.ListN.{length}
@@ -10,6 +10,7 @@ use lib.Dec.{ltb, leb, eqb}
 use Rattle.theory.specs.Answer.{Answer, answer}
 use Rattle.leaves.specs.Refusal.{refused}
 use Rattle.leaves.specs.declared.refusal.Refusal.the-variants.{NoRoom, IllFormed, BadMemory}
+use Rattle.tables.specs.Table.{badRoom, badNames}
 use Rattle.maps.specs.Entries.{entries, putEntries}
 use Rattle.maps.specs.declared.entries.Entry.{Entry}
 use Rattle.maps.specs.declared.lookup.Found.{Found}
@@ -55,20 +56,16 @@ setEntry x (y ∷ ys) =
 
 -- ---- calls
 
--- not 15: a length that is a multiple of 8, a room of at most 65,536 entries, and no more in use than the room (01, Numbers
--- the desk lives by)
+-- not 15: a length that is a multiple of 8, a room within the limit, and no more in use than the room (01, Numbers the desk
+-- lives by)
 unfoldable pub pointsFit : ℕ → ℕ → Bool
-pointsFit bytes used = eqb (bytes % 8) 0 && (leb (bytes / 8) 65536 && leb used (bytes / 8))
-
--- not 15: at most 4,096 names
-unfoldable pub namesFit : ℕ → Bool
-namesFit names = leb names 4096
+pointsFit bytes used = eqb (bytes % 8) 0 && not (badRoom (bytes / 8) used)
 
 -- the check's answer: 15; 14 unless the table is well-formed; done
 unfoldable pub pointsChecked : List ℕ → ℕ → ℕ → Answer
-unfolding pointsFit namesFit wellFormed
+unfolding pointsFit wellFormed
 pointsChecked t used names =
-    cond (pointsFit (length t) used && namesFit names)
+    cond (pointsFit (length t) used && not (badNames names))
     (cond (wellFormed names (entries t used)) (answer 0 []) (refused IllFormed))
     (refused BadMemory)
 
