@@ -1,20 +1,21 @@
 -- What an opening lays is a sound state, the machine's start; and what its tests show. Assumes nothing.
 use mathlib.Core.Path.{_≡_, refl, sym, ap, ap₂, _∙_}
+use mathlib.Core.Logic.{_≢_, _⊎_, inl, inr, ⊎-elim}
 use Prim.Native.Nat.{ℕ, zero, suc, _+_, _-_, _≤_, _<_, zero-le}
 use native.Mathlib.Decide.{ℕ-discrete}
 use native.Mathlib.Numerals.{add-one}
 use native.Mathlib.Omega.{arith}
-use mathlib.Core.Bool.{Bool, true, false, cond, _&&_}
+use mathlib.Core.Bool.{Bool, true, false, cond, _&&_, _||_}
 use mathlib.Core.List.{List, _∷_, map}
 use lib.ListN.{length, getD, set, length-set, List·getD-eq-default}
 use lib.Seq.{getD-set-same, getD-set-other}
-use lib.Dec.{leb, ltb}
+use lib.Dec.{eqb, leb, ltb}
 use borrow.Author.Tests.{lt-ltb, le-ltb, lt-leb, le-leb, leb-true, eqb-true}
 use Rattle.machine.specs.Machine.{waiting, start}
 use Rattle.machine.specs.View.{tab, statusOf, statusesOf}
 use Rattle.machine.specs.Sift.{Heaped}
 use Rattle.machine.specs.Holds.{Holds, holds-moved}
-use Rattle.machine.specs.State.{rightMemory, Room, riseTo, padded, Opened}
+use Rattle.machine.specs.State.{bit, rightMemory, rightStreams, Room, riseTo, padded, Opened}
 
 -- ---- each place of the 256 is laid
 
@@ -127,6 +128,14 @@ module _ {n : ℕ} {hints ms ts cs hs hp : List ℕ} (few : n ≤ 256) (given : 
 
 -- ---- the tests
 
+pub bit-no : (x : Bool) {r : ℕ} → r ≡ bit x → r ≡ 0 → x ≡ false
+bit-no true e z = absurd (omega arith)
+bit-no false e z = refl
+
+pub bit-yes : (x : Bool) {r : ℕ} → r ≡ bit x → r ≢ 0 → x ≡ true
+bit-yes true e d = refl
+bit-yes false e d = absurd (d e)
+
 both : (x y : Bool) → (x && y) ≡ true → (x ≡ true) × (y ≡ true)
 both true y e = (refl, e)
 both false y e = let z : _≡_ {A = ℕ} 0 1 = cc in absurd (omega arith)
@@ -145,6 +154,28 @@ right-room held ms ts cs hs hp e =
       omega (arith, eqb-true (length cs) 256 (d .0)),
       omega (arith, eqb-true (length hs) 256 (f .0)),
       omega (arith, eqb-true (length hp) 256 (f .1)),
+    )
+
+either : (x y : Bool) → (x || y) ≡ true → (x ≡ true) ⊎ (y ≡ true)
+either true y e = inl refl
+either false y e = inr e
+
+-- right streams are from 1 to 256, and have no more hints
+pub right-count : (size : ℕ) (cuts : List ℕ) (hints : ℕ) → rightStreams size cuts hints ≡ true → (2 ≤ length cuts) × (length cuts ≤ 257) × (hints ≤ length cuts - 1)
+unfolding rightStreams
+right-count size cuts hints e =
+    let given = eqb hints 0 || eqb hints (length cuts - 1) in
+    let from₅ = given && riseTo (length cuts - 1) cuts in
+    let from₄ = eqb (getD cuts (length cuts - 1) 0) size && from₅ in
+    let from₃ = eqb (getD cuts 0 0) 0 && from₄ in
+    let a = both (leb 2 (length cuts)) (leb (length cuts) 257 && from₃) e in
+    let b = both (leb (length cuts) 257) from₃ (a .1) in
+    let c = both (eqb (getD cuts 0 0) 0) from₄ (b .1) in
+    let d = both (eqb (getD cuts (length cuts - 1) 0) size) from₅ (c .1) in
+    let f = both given (riseTo (length cuts - 1) cuts) (d .1) in (
+      leb-true 2 (length cuts) (a .0),
+      leb-true (length cuts) 257 (b .0),
+      ⊎-elim (λ z. omega (arith, eqb-true hints 0 z)) (λ z. omega (arith, eqb-true hints (length cuts - 1) z)) (either (eqb hints 0) (eqb hints (length cuts - 1)) (f .0)),
     )
 
 -- a fall among the cuts, and none

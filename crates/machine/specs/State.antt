@@ -58,7 +58,7 @@ unfoldable pub rightStreams : ℕ → List ℕ → ℕ → Bool
 unfolding riseTo
 rightStreams size cuts hints =
     leb 2 (length cuts) && (leb (length cuts) 257 && (eqb (getD cuts 0 0) 0 && (eqb (getD cuts (length cuts - 1) 0) size
-    && ((eqb hints 0 || eqb (hints + 1) (length cuts)) && riseTo (length cuts - 1) cuts))))
+    && ((eqb hints 0 || eqb hints (length cuts - 1)) && riseTo (length cuts - 1) cuts))))
 
 -- the hints of n streams: "an empty hint list means all hints 0"
 unfoldable pub padded : ℕ → List ℕ → List ℕ
