@@ -1,1 +1,4 @@
 pub mod Interval
+pub mod Insert
+pub mod Check
+pub mod Lookup

@@ -14,7 +14,7 @@ use mir.Facts.{eqb-yes, eqb-no}
 use Rattle.theory.specs.Runs.{answerAt, Mem, IsRun, Same}
 use Rattle.theory.specs.RunsTools.{cond-case, ltb-case, T-and}
 use Rattle.theory.specs.RunsLongest.{Rising, same-run}
-use Rattle.tables.specs.Table.{Row, intervalOf, group, answerFor, Ordered, allKnown, Outcome, refusedBy, stored, ifRoom, badRoom, badNames, wellFormed, insertRows, entered, inserted}
+use Rattle.tables.specs.Table.{Row, intervalOf, group, answerFor, Ordered, allKnown, Outcome, refusedBy, stored, nowStored, ifRoom, badRoom, badNames, wellFormed, insertRows, entered, inserted}
 use Rattle.tables.specs.Tests.{formed-parts, formed-both, memory-good}
 use Rattle.tables.specs.Groups.{Sorted}
 use Rattle.tables.specs.Rules.{rows-longest, only-rows, front, empty-front, rows-ok, rows-answer, known-answers}
@@ -28,11 +28,6 @@ pub data Event (A : Type 0) : Type 0 where
   look : ℕ → ℕ → ℕ → Event A
 
 module _ {X : Type 0} where
-  -- what is stored after an outcome: a refused insert changes nothing
-  unfoldable pub nowStored : List X → Outcome X → List X
-  nowStored xs (refusedBy c) = xs
-  nowStored xs (stored ys) = ys
-
   -- the accepted inserts after one more, the latest first
   unfoldable pub noted : X → List X → Outcome X → List X
   noted n ns (refusedBy c) = ns

@@ -13,3 +13,6 @@ pub mod MemoryLaws
 pub mod Moves
 pub mod Search
 pub mod Pieces
+pub mod Checks
+pub mod Outcomes
+pub mod Looks

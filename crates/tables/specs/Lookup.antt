@@ -15,7 +15,7 @@ use Rattle.tables.specs.Table.{Row, group, answerFor, Ordered}
 use Rattle.tables.specs.Groups.{formed-iff}
 
 -- what a lookup finds: an answer, and the new hint
-pub record Found (A : Type 0) : Type 0 where
+pub record Finding (A : Type 0) : Type 0 where
   pub said : Option A
   pub hint : ℕ
 
@@ -37,23 +37,23 @@ module _ {A : Type 0} where
   started (x ∷ xs) m = let c = started xs m in cond (ltb m (x .start)) 0 (suc c)
 
   -- the last of so many, with none the hint stays
-  unfoldable pub arrive : List (Interval A) → ℕ → ℕ → ℕ → Found A
+  unfoldable pub arrive : List (Interval A) → ℕ → ℕ → ℕ → Finding A
   unfolding seen
   arrive rs m h zero = record { said = none; hint = h }
   arrive rs m h (suc k) = record { said = seen rs k m; hint = k }
 
   -- an answer at k, or else what follows
-  unfoldable pub orElse : Option A → ℕ → Found A → Found A
+  unfoldable pub orElse : Option A → ℕ → Finding A → Finding A
   orElse (some v) k f = record { said = some v; hint = k }
   orElse none k f = f
 
   -- a lookup among the intervals of one instrument
-  unfoldable pub lookup : List (Interval A) → ℕ → ℕ → Found A
+  unfoldable pub lookup : List (Interval A) → ℕ → ℕ → Finding A
   unfolding orElse seen arrive started
   lookup rs h m = orElse (seen rs h m) h (orElse (seen rs (suc h) m) (suc h) (arrive rs m h (started rs m)))
 
   -- a lookup in a table: instrument, moment, hint
-  unfoldable pub lookupRows : List (Row A) → ℕ → ℕ → ℕ → Found A
+  unfoldable pub lookupRows : List (Row A) → ℕ → ℕ → ℕ → Finding A
   unfolding lookup group
   lookupRows xs i m h = lookup (group i xs) h m
 
@@ -142,7 +142,7 @@ module _ {A : Type 0} where
   arrive-right rs w m zero e h = sym (none-right rs w m e)
   arrive-right rs w m (suc c) e h = last-right rs w m c e
 
-  orElse-right : (a o : Option A) (k : ℕ) (f : Found A) → ((v : A) → o ≡ some v → a ≡ some v) → f .said ≡ a → orElse o k f .said ≡ a
+  orElse-right : (a o : Option A) (k : ℕ) (f : Finding A) → ((v : A) → o ≡ some v → a ≡ some v) → f .said ≡ a → orElse o k f .said ≡ a
   unfolding orElse
   orElse-right a none k f g e = e
   orElse-right a (some v) k f g e = sym (g v refl)
@@ -155,7 +155,7 @@ module _ {A : Type 0} where
       (orElse-right (answerAt rs m) (seen rs (suc h) m) (suc h) _ (λ v e. seen-hit rs w (suc h) m v e .right)
       (arrive-right rs w m (started rs m) refl h))
 
-  orElse-hint : (j : ℕ) (o : Option A) (k : ℕ) (f : Found A) → ((v : A) → o ≡ some v → k ≡ j) → f .hint ≡ j → orElse o k f .hint ≡ j
+  orElse-hint : (j : ℕ) (o : Option A) (k : ℕ) (f : Finding A) → ((v : A) → o ≡ some v → k ≡ j) → f .hint ≡ j → orElse o k f .hint ≡ j
   unfolding orElse
   orElse-hint j none k f g e = e
   orElse-hint j (some v) k f g e = g v refl

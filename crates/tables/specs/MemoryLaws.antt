@@ -2,18 +2,16 @@
 -- rows whose fields fit are those rows (rows-bytes), and so what holds of every place gives the whole memory (memory-is).
 -- Assumes nothing.
 use mathlib.Core.Path.{_≡_, refl, sym, ap, _∙_}
-use mathlib.Core.Logic.{_≢_}
 use Prim.Native.Nat.{ℕ, zero, suc, _+_, _-_, _*_, _/_, _%_, _^_, _≤_, _<_, max}
 use native.Mathlib.Nat.{add-zero, zero-add, suc-add, add-suc, pow-succ', mul-comm, div-lt-iff-lt-mul}
-use native.Mathlib.Numerals.{add-one}
 use native.Mathlib.Omega.{arith}
-use mathlib.Core.List.{List, [], _∷_, _++_, append-assoc, append-nil}
-use lib.ListN.{length, getD, take, drop, replicate, length-append, length-drop, length-replicate, replicate-append-replicate}
-use lib.Seq.{take-add, take-all, drop-drop, drop-cons, drop-append-add, drop-at}
+use mathlib.Core.List.{List, [], _∷_, _++_, append-assoc}
+use lib.ListN.{length, getD, take, drop, replicate, length-drop, replicate-append-replicate}
+use lib.Seq.{take-add, take-all, drop-drop, drop-cons, drop-at}
 use Rattle.theory.specs.Runs.{All}
-use Rattle.theory.specs.Fields.{field, Agree, Bytes, field-same, field-moved, field-drop, field-below}
+use Rattle.theory.specs.Fields.{field, Agree, Bytes, field-same, field-drop, field-below}
 use Rattle.tables.specs.Table.{Row}
-use Rattle.tables.specs.Memory.{width, rowAt, Fit, rowsFrom, rows, bytesOf, rowBytes, rowsBytes, written}
+use Rattle.tables.specs.Memory.{rowAt, Fit, rowsFrom, rows, bytesOf, rowBytes, rowsBytes, written}
 
 -- ---- the rows of a memory, one by one and as a list
 

@@ -1,13 +1,13 @@
 -- A binary search by the side of a row: before, touching or after another. What its two ends tell is, in an ordered table,
 -- where the table is cut (cuts). Assumes nothing.
-use mathlib.Core.Path.{_≡_, refl, sym, ap, _∙_}
+use mathlib.Core.Path.{_≡_, sym, ap, _∙_}
 use Prim.Native.Nat.{ℕ, _+_, _-_, _/_, _≤_, _<_}
 use native.Mathlib.Nat.{zero-add}
 use native.Mathlib.Decide.{decLe}
 use native.Mathlib.Omega.{arith}
 use mathlib.Core.Bool.{cond}
 use mathlib.Core.List.{List}
-use lib.ListN.{length, getD}
+use lib.ListN.{getD}
 use lib.Dec.{ltb}
 use Rattle.theory.specs.RunsTools.{cond-lt, cond-ge, Order, less, equal, more, order}
 use Rattle.tables.specs.Table.{Row, Ordered}

@@ -75,6 +75,11 @@ pub data Outcome (X : Type 0) : Type 0 where
   refusedBy : ℕ → Outcome X
   stored : List X → Outcome X
 
+-- what is stored after an outcome: a refused insert changes nothing
+unfoldable pub nowStored : {X : Type 0} → List X → Outcome X → List X
+nowStored xs (refusedBy c) = xs
+nowStored xs (stored ys) = ys
+
 -- 2: the outcome would not fit the room
 unfoldable pub ifRoom : {X : Type 0} → ℕ → List X → Outcome X
 ifRoom room ys = cond (ltb room (length ys)) (refusedBy 2) (stored ys)

@@ -108,10 +108,6 @@ or-left : (a b : Bool) → T a → T (a || b)
 or-left true b t = tt
 or-left false b t = absurd t
 
-or-right : (a b : Bool) → T b → T (a || b)
-or-right true b t = tt
-or-right false b t = t
-
 -- the memory is as it should be, as numbers
 pub record Good (room used : ℕ) : Type 0 where
   pub limit : room ≤ 65536
@@ -134,10 +130,6 @@ good-room room used g = both (ltb 65536 room) (ltb room used) (le→nltb 65536 r
 pub bad-limit : (room used : ℕ) → 65536 < room → T (badRoom room used)
 unfolding badRoom
 bad-limit room used h = or-left (ltb 65536 room) (ltb room used) (lt→ltb 65536 room h)
-
-pub bad-use : (room used : ℕ) → room < used → T (badRoom room used)
-unfolding badRoom
-bad-use room used h = or-right (ltb 65536 room) (ltb room used) (lt→ltb room used h)
 
 -- and the names too
 pub memory-good : (room used names : ℕ) → T (not (badRoom room used || badNames names)) → Good room used × names ≤ 4096
