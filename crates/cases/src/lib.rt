@@ -125,23 +125,40 @@ fn pair_at(text: &[u8], at: usize) -> u64
     if 16 <= low { 256 } else { high * 16 + low }
 }
 
-// The bytes that pairs of hexadecimal digits spell from a place on, blanks between them; answers how many were put into out.
-pub fn bytes_at(text: &[u8], at: usize, out: &mut [u8]) -> usize
-    ensures { λ r. ⌜ Counts r (now (out .exit)) ⌝ }
+// Bytes read from the text: how many, and the place after them.
+pub struct Word {
+    pub count: usize,
+    pub next: usize,
+}
+
+// The bytes that a word of hexadecimal digits at a place spells, blanks before it passed over, put into out; a `-` is no byte.
+pub fn bytes_at(text: &[u8], at: usize, out: &mut [u8]) -> Word
+    ensures { λ r. ⌜ Counts (r .count) (now (out .exit)) ⌝ }
 {
-    let mut i = at;
+    let mut i = past_blanks(text, at);
     let mut n = 0;
     while n < out.len() {
-        let from = past_blanks(text, i);
-        let b = pair_at(text, from);
+        let b = pair_at(text, i);
         if 256 <= b {
-            return n;
+            return Word {
+                count: n,
+                next: past_dash(text, i),
+            };
         }
         out[n] = low_byte(b);
         n += 1;
-        i = from + 2;
+        i += 2;
     }
-    n
+    Word { count: n, next: i }
+}
+
+// The place after a `-`, or the place itself.
+fn past_dash(text: &[u8], at: usize) -> usize {
+    if byte_at(text, at) == b'-' {
+        past(text, at)
+    } else {
+        at
+    }
 }
 
 // One case more.
