@@ -13,7 +13,7 @@ use std::{
 use dbn::{
     decode::{merge, private::LastRecord, DbnMetadata, DecodeRecordRef},
     record::Other,
-    v1, Error, HasRType, MappingInterval, Metadata, PitSymbolMap, Rec, Record, RecordHeader, RecordRef, SType, Schema,
+    v1, Error, MappingInterval, Metadata, PitSymbolMap, Rec, Record, RecordHeader, RecordRef, SType, Schema,
     SymbolIndex, SymbolIntervals, SymbolMapping, SymbolMappingMsg, TsSymbolMap,
 };
 use time::{Date, Duration, Month};
@@ -261,8 +261,8 @@ fn mappings(mut case: Case) -> String {
         let (start_ts, end_ts) = (case.number(), case.number());
         let mapping = SymbolMappingMsg { instrument_id, start_ts, end_ts, name: case.bytes() };
         let record = match kind {
-            "2" => Rec::Mapping(mapping),
-            "1" => Rec::MappingV1(v1::SymbolMappingMsg(mapping)),
+            "m" => Rec::Mapping(mapping),
+            "v" => Rec::MappingV1(v1::SymbolMappingMsg(mapping)),
             _ => Rec::Other(Other { instrument_id, ts: start_ts }),
         };
         let hex = |name: &str| hexadecimal(name.as_bytes());
