@@ -9,6 +9,7 @@ import random
 import sys
 from itertools import product
 
+import lent
 import model
 from answer import flat
 
@@ -71,7 +72,7 @@ def number_texts(rng, many):
         for zeros, plus in product([0, 1, 3, 200], [b"", b"+", b"++"]):
             yield words("number", plus + b"0" * zeros + str(value).encode())
     for _ in range(many):
-        text = bytearray(str(rng.choice([rng.randrange(2**32), rng.randrange(2**34)])).zfill(rng.randint(0, 40)).encode())
+        text = bytearray(str(rng.randrange(2 ** rng.randint(1, 34))).zfill(rng.randint(0, 40)).encode())
         if rng.random() < 0.5:
             text[rng.randrange(len(text))] = rng.choice(b"+-./:09 \0\x80")
         yield words("number", bytes(text))
@@ -86,8 +87,8 @@ def utf8_texts(rng, many):
         for lead, rest in product(leads, product(edges, repeat=length)):
             yield words("utf8", bytes([lead, *rest]))
     for _ in range(many):
-        letters = [chr(rng.choice([rng.randrange(0x80), rng.randrange(0xD800), rng.randrange(0xE000, 0x110000)])) for _ in range(20)]
-        text = bytearray("".join(letters).encode())
+        widths = [range(0x80), range(0x80, 0x800), range(0x800, 0xD800), range(0xE000, 0x10000), range(2**16, 0x110000)]
+        text = bytearray("".join(chr(rng.choice(rng.choice(widths))) for _ in range(60)).encode())
         if rng.random() < 0.7:
             text[rng.randrange(len(text))] = rng.randrange(256)
         yield words("utf8", bytes(text[: rng.randint(0, 255)]))
@@ -228,7 +229,7 @@ def domain(rng, long):
     yield from (mapping_records(rng) for _ in range(5_000 * times))
     yield from number_texts(rng, 20_000 * times)
     yield from utf8_texts(rng, 20_000 * times)
-    yield from dates(range(1970, 2555) if long else [*range(1970, 2005), 2099, 2100, 2200, 2300, 2400, 2500, 2553, 2554])
+    yield from dates(range(1970, 2555) if long else [*range(1970, 2005), *range(2096, 2501, 4), 2553, 2554])
     yield from (f"date {day}" for day in range(0, 213_504, 1 if long else 7))
     yield from ["date 213503"]
     yield from short_walks(4 if long else 3)
@@ -266,8 +267,6 @@ if __name__ == "__main__":
     part, size, *seed = sys.argv[1:]
     seed = int(seed[0]) if seed else random.randrange(2**32)
     print(f"seed {seed}", file=sys.stderr)
-    import lent
-
     parts = {"domain": domain, "beyond": beyond, "lent": lent.cases}
     for line in parts[part](random.Random(seed), size == "long"):
         print(line)

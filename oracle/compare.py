@@ -24,5 +24,6 @@ print(f"{'kind':16} {'cases':>9} {'answers':>9} {'differ':>7}")
 for kind, count in [*counts.items(), ("all", [sum(column) for column in zip(*counts.values())])]:
     print(f"{kind:16} {count[0]:9} {count[1]:9} {count[2]:7}")
 for kind, (case, one, other) in shortest.items():
-    print(f"\nshortest case of {kind} that differs\n  {case.strip()}\n  {sys.argv[2]}: {one.strip()}\n  {sys.argv[3]}: {other.strip()}")
+    print(f"\nshortest case of {kind} that differs\n  {case.strip()}")
+    print(f"  {sys.argv[2]}: {one.strip()}\n  {sys.argv[3]}: {other.strip()}")
 sys.exit(1 if shortest else 0)

@@ -41,6 +41,7 @@ fn answer(line: &str, hint_at: usize) -> String {
         "merge" => merged(case),
         "build" => build(case),
         "build_day" => build_day(case),
+        "build_merged" => build_merged(case),
         "records" => records(case),
         "decoder" => decoder(case),
         kind => panic!("no such kind: {kind}"),
@@ -384,6 +385,16 @@ fn build_day(mut case: Case) -> String {
     }
 }
 
+/// The build over time from several metadata merged; its outcome may change from run to run.
+fn build_merged(mut case: Case) -> String {
+    let names = case.names();
+    let mut given: Vec<Metadata> = (0..case.number()).map(|_: usize| case.metadata(&names)).collect();
+    match given.remove(0).merge(given).and_then(|merged| merged.symbol_map()) {
+        Ok(map) => format!("0 {}", table(&map, name_number(&names))),
+        Err(error) => refusal(error),
+    }
+}
+
 // Records.
 
 /// A stream of records by their times, whose reads fail after the last where it is damaged.
@@ -441,7 +452,7 @@ fn run(opened: dbn::Result<impl DecodeRecordRef<RecordHeader>>) -> String {
     let mut line = String::new();
     let mut merge = match opened {
         Ok(merge) => merge,
-        Err(Error::Damaged) => return "d".to_owned(),
+        Err(Error::Damaged) => return "refused".to_owned(),
         Err(error) => return refusal(error),
     };
     let mut ends = 0;

@@ -257,9 +257,10 @@ def build_traps():
     two = [(NAME_A, [(D1, D3, FIVE)]), (NAME_B, [(D1, D3, FIVE)])]
     yield "B29", building_day(FORWARD, two, 0, (5, NAME_B), room=1)
     yield "B29", building_day(FORWARD, [(NAME_A, [(D3, D1, FIVE)])], 0)
-    for head, number in [({"start": 2 * DAY + DAY // 2}, 0), ({"end": 2 * DAY}, 10), ({"end": 2 * DAY + 1}, 0), ({"end": 0}, 0)]:
-        yield "B30", building_day(FORWARD | head, [], number)
-    yield "B30", building_day(FORWARD | {"start": 3 * DAY}, [], 10)
+    for start, number in [(2 * DAY + DAY // 2, 0), (3 * DAY, 10)]:
+        yield "B30", building_day(FORWARD | {"start": start}, [], number)
+    for end, number in [(2 * DAY, 10), (2 * DAY + 1, 0), (0, 0)]:
+        yield "B30", building_day(FORWARD | {"end": end}, [], number)
 
 
 def metadata_traps():
