@@ -48,27 +48,23 @@ class Case:
         return Lent(head, counts, [self.numbers() for _ in range(5)])
 
 
-def flat(*values):
-    """Numbers and bytes in the words of a case; a list comes after its count."""
-    words = []
-    for value in values:
-        if isinstance(value, bytes):
-            words.append(value.hex() or "-")
-        elif isinstance(value, tuple):
-            words += flat(*value)
-        elif isinstance(value, list):
-            words += [str(len(value)), *flat(*value)]
-        elif isinstance(value, NameList):
-            words += flat(value.names, value.used, value.bytes, value.ends)
-        elif isinstance(value, Lent):
-            words += flat(*value.head, *value.counts, *value.lists)
-        else:
-            words.append(str(value))
-    return words
+def words(*values):
+    """Values in the words of a case: bytes in hexadecimal, a list after its count."""
+    return " ".join(word for value in values for word in spelled(value))
 
 
-def said(*values):
-    return " ".join(flat(*values))
+def spelled(value):
+    if isinstance(value, bytes):
+        return [value.hex() or "-"]
+    if isinstance(value, tuple):
+        return [word for part in value for word in spelled(part)]
+    if isinstance(value, list):
+        return [str(len(value)), *spelled(tuple(value))]
+    if isinstance(value, NameList):
+        return spelled((value.names, value.used, value.bytes, value.ends))
+    if isinstance(value, Lent):
+        return spelled((*value.head, *value.counts, *value.lists))
+    return [str(value)]
 
 
 def answer_of(call):
@@ -92,13 +88,13 @@ def map_(case):
                 lambda: model.inserted(rows, model.ROOM, model.NAMES, instrument, start, end, symbol)
             )
             rows = rows if new is None else new
-            out.append(said(answer, rows))
+            out.append(words(answer, rows))
         elif step == "g":
             out.append(found(rows, instrument, case.number(), case.number()))
         else:
             moments, hints = case.number(), case.number()
             for moment in range(moments):
-                out += [found(rows, instrument, moment, hint) for hint in [*range(hints), 2**64 - 1]]
+                out += [found(rows, instrument, moment, hint) for hint in [*range(hints), model.TOP]]
     return " ; ".join(out)
 
 
@@ -120,15 +116,15 @@ def mappings(case):
         answer, new = answer_of(lambda: model.on_record(*over_time, record))
         over_time = new or over_time
         rows = model.rows_of(*over_time[:2])
-        out.append(said(answer, [(*row[:3], over_time[2].all()[row[3]]) for row in rows]))
+        out.append(words(answer, [(*row[:3], over_time[2].all()[row[3]]) for row in rows]))
         answer, new = answer_of(lambda: model.on_record_point(*point, record))
         point = new or point
-        out.append(said(answer, [(i, point[2].all()[symbol]) for i, symbol in model.entries_of(*point[:2])]))
+        out.append(words(answer, [(i, point[2].all()[symbol]) for i, symbol in model.entries_of(*point[:2])]))
     return " ; ".join(out)
 
 
 def number(case):
-    return said(*with_values(lambda: model.number_of(case.bytes())))
+    return words(*with_values(lambda: model.number_of(case.bytes())))
 
 
 def utf8(case):
@@ -137,11 +133,11 @@ def utf8(case):
 
 def day(case):
     answer, day = answer_of(lambda: model.day_of(case.number()))
-    return said(answer) if day is None else said(answer, day, day * model.DAY)
+    return words(answer) if day is None else words(answer, day, day * model.DAY)
 
 
 def date(case):
-    return said(*with_values(lambda: model.date_of(case.number())))
+    return words(*with_values(lambda: model.date_of(case.number())))
 
 
 def with_values(call):
@@ -160,25 +156,25 @@ def merge(case):
     names = case.names()
     given = [case.metadata() for _ in range(case.number())]
     gathered = model.without_repeats(given[0])
-    out = [said(0, in_order(gathered))]
+    out = [words(0, in_order(gathered))]
     for added in given[1:]:
         answer, new = answer_of(lambda: model.merged(gathered, added, len(names)))
         if new is None:
-            out.append(said(answer))
+            out.append(words(answer))
             break
         gathered = new
-        out.append(said(0, in_order(gathered)))
+        out.append(words(0, in_order(gathered)))
     return " ; ".join(out)
 
 
 def build(case):
     names = case.names()
-    return said(*with_values(lambda: model.built(case.metadata(), names, model.ROOM)))
+    return words(*with_values(lambda: model.built(case.metadata(), names, model.ROOM)))
 
 
 def build_day(case):
     asked, names = case.number(), case.names()
-    return said(*with_values(lambda: model.built_for_day(case.metadata(), names, model.ROOM, asked)))
+    return words(*with_values(lambda: model.built_for_day(case.metadata(), names, model.ROOM, asked)))
 
 
 def records(case):
@@ -192,8 +188,8 @@ def records(case):
         cuts.append(cuts[-1] + len(stream))
     out = run(RecordMerge, b"".join(streams), cuts, hints)
     return " ; ".join(
-        f"r {words[1]} {int(words[2]) // 16} {words[6]}" if words[0] == "r" else words[0]
-        for words in (answer.split() for answer in out)
+        f"r {given[1]} {int(given[2]) // 16} {given[6]}" if given[0] == "r" else given[0]
+        for given in (answer.split() for answer in out)
     )
 
 
@@ -201,14 +197,14 @@ def run(open_, *given):
     """Calls to the second end."""
     answer, merge = answer_of(lambda: open_(*given))
     if merge is None:
-        return [said(answer)]
+        return [words(answer)]
     out = []
     while out[-2:] != ["e", "e"]:
         answer, record = answer_of(merge.next)
         if answer != (0,):
-            out.append("d " + said(answer[1:]))
+            out.append("d " + words(answer[1:]))
         else:
-            out.append("e" if record is None else "r " + said(record))
+            out.append("e" if record is None else "r " + words(record))
     return out
 
 
@@ -216,7 +212,7 @@ def run(open_, *given):
 
 
 def check(case):
-    return said(answer_of(lambda: model.check(case.bytes(), case.number(), case.number()))[0])
+    return words(answer_of(lambda: model.check(case.bytes(), case.number(), case.number()))[0])
 
 
 def insert(case):
@@ -224,35 +220,35 @@ def insert(case):
     row = [case.number() for _ in range(4)]
     answer, new = answer_of(lambda: model.insert(table, used, names, *row))
     table, used = new or (table, used)
-    return said(answer, used, table)
+    return words(answer, used, table)
 
 
 def get_for_ts(case):
     table, used, instrument, moment, hint = case.bytes(), *(case.number() for _ in range(4))
     answer, new = answer_of(lambda: model.get_for_ts(table, used, instrument, moment, hint))
     symbol, hint = new or (None, hint)
-    return said(answer, int(symbol is not None), symbol or 0, hint)
+    return words(answer, int(symbol is not None), symbol or 0, hint)
 
 
 def check_point(case):
-    return said(answer_of(lambda: model.check_point(case.bytes(), case.number(), case.number()))[0])
+    return words(answer_of(lambda: model.check_point(case.bytes(), case.number(), case.number()))[0])
 
 
 def get_point(case):
     answer, symbol = answer_of(lambda: model.get_point(case.bytes(), case.number(), case.number()))
-    return said(answer, int(symbol is not None), symbol or 0)
+    return words(answer, int(symbol is not None), symbol or 0)
 
 
 def naming(case):
     names, name = case.name_list(), case.bytes()
     answer, new = answer_of(lambda: model.naming(names, name))
     n, names = new or (0, names)
-    return said(answer, n, names)
+    return words(answer, n, names)
 
 
 def place_of(case):
     answer, place = answer_of(lambda: model.place_of(case.name_list(), case.number()))
-    return said(answer, place or (0, 0))
+    return words(answer, place or (0, 0))
 
 
 def record_on(call):
@@ -261,32 +257,32 @@ def record_on(call):
         record = case.bytes()
         answer, new = answer_of(lambda: call(*given, record))
         table, used, names = new or given
-        return said(answer, used, table, names)
+        return words(answer, used, table, names)
 
     return answer
 
 
 def lent_build(case):
     answer, table = model.build(case.bytes(), case.name_list(), case.lent())
-    return said(answer[0], answer[1] if answer[0] == 0 else 0, table)
+    return words(answer[0], answer[1] if answer[0] == 0 else 0, table)
 
 
 def lent_build_day(case):
     table, asked = case.bytes(), case.number()
     answer, table = model.build_for_day(table, asked, case.name_list(), case.lent())
-    return said(answer[0], answer[1] if answer[0] == 0 else 0, table)
+    return words(answer[0], answer[1] if answer[0] == 0 else 0, table)
 
 
 def open_metadata(case):
     lent = case.lent()
     answer, new = answer_of(lambda: model.open_metadata(lent))
-    return said(answer, new or lent)
+    return words(answer, new or lent)
 
 
 def merge_metadata(case):
     names, left, right = case.number(), case.lent(), case.lent()
     answer, new = answer_of(lambda: model.merge_metadata(left, right, names))
-    return said(answer, new or left)
+    return words(answer, new or left)
 
 
 def streams(case):
@@ -294,7 +290,7 @@ def streams(case):
 
 
 def replay(case):
-    return said(model.replay(case.bytes()).encode())
+    return words(model.replay(case.bytes()).encode())
 
 
 KINDS = {

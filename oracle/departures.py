@@ -9,8 +9,8 @@ import sys
 from pathlib import Path
 
 import answer
-from cases import TOP, words
-from model import DAY
+from answer import words
+from model import DAY, TOP
 
 HERE = Path(__file__).resolve().parent
 D1, D2, D3 = 19700102, 19700103, 19700104

@@ -3,17 +3,12 @@
 from struct import pack
 
 import model
-from answer import flat
-from model import Lent, NameList
+from answer import words
+from model import TOP, Lent, NameList
 
-TOP = 2**64 - 1
 TEXTS = [b"", b"A", b"BC", b"7", b"+7", b"007", b"8", b"x", b"4294967296", "\u00e9".encode()]
 DATES = [19700101, 19700102, 20240229, 20240301, 20240302, 25540721]
 BAD_DATES = [0, 19691231, 20230229, 25540722, 2**32 - 1]
-
-
-def words(*values):
-    return " ".join(flat(*values))
 
 
 def damaged(rng, text):

@@ -11,7 +11,7 @@ from struct import Struct
 NAME, NAMES, NAME_BYTES = 255, 4_096, 65_536
 ROOM, MAPPINGS, ENTRIES, INTERVALS = 65_536, 4_096, 4_096, 65_536
 STREAMS, RECORD, HEAD = 256, 1_024, 16
-MISSING = 2**64 - 1
+TOP = 2**64 - 1  # the largest number of 64 bits; as a time of a mapping record: missing
 DAY = 86_400_000_000_000
 INSTRUMENT_ID = 0
 NO_SCHEMA, NO_STYPE = 65_535, 255
@@ -307,7 +307,7 @@ def mapping_record(record):
     except Refused as refused:
         raise Refused(13, 0, 0, refused.answer[1]) from None
     start, end = (int.from_bytes(record[at : at + 8], "little") for at in (16, 24))
-    return instrument, 0 if start == MISSING else start, end, record[32:]
+    return instrument, 0 if start == TOP else start, end, record[32:]
 
 
 def on_record(table, used, names, record):

@@ -8,8 +8,8 @@ import sys
 
 import answer as answers
 import model
-from cases import TOP, words
-from model import DAY, NO_SCHEMA, Lent, NameList
+from answer import words
+from model import DAY, NO_SCHEMA, TOP, Lent, NameList
 
 A, B, UNKNOWN = 0, 1, 9
 
