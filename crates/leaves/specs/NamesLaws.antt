@@ -1,9 +1,9 @@
 -- The laws of name lists: what well-formed gives place by place, and how the code's walks go.
 -- Assumes nothing.
 use Prim.Native.Nat.{ℕ, zero, suc, _+_, _-_, _≤_, _<_}
-use mathlib.Core.List.{List, [], _∷_, _++_}
+use mathlib.Core.List.{List, [], _∷_}
 use mathlib.Core.Bool.{Bool, true, false, cond, _&&_, not, false≢true}
-use mathlib.Core.Path.{_≡_, refl, ap, _∙_, sym, subst}
+use mathlib.Core.Path.{_≡_, refl, ap, _∙_, sym}
 use native.Mathlib.Omega.{arith}
 use native.Mathlib.Numerals.{add-one}
 use borrow.Author.Tests.{lt-ltb, le-ltb, le-leb, lt-leb, eq-eqb, ne-eqb, leb-true, leb-false, eqb-true, ltb-true, ltb-false, not-true, not-false}
@@ -14,7 +14,7 @@ use native.Mathlib.Nat.{add-zero, zero-add, sub-zero}
 use Rattle.leaves.specs.Utf8.{isUtf8}
 use Rattle.leaves.specs.Utf8Laws.{cut, none-left}
 use Rattle.leaves.specs.Names.{startOf, endOf, nameOf, namesFrom, namesOf, isName, standFrom, wellFormed, memoryOk, same, least, hasRoom, numbering, naming, namingAnswer, written, bytesAfter, endsAfter}
-use Rattle.theory.specs.Answer.{Answer, answer}
+use Rattle.theory.specs.Answer.{answer}
 use Rattle.leaves.specs.Refusal.{refused}
 use Rattle.leaves.specs.declared.refusal.Refusal.{Refusal}
 use Rattle.leaves.specs.declared.names.Naming.{Naming}
@@ -72,6 +72,11 @@ memory bytes places names used e =
       held = leb-true _ _ (and-right (leb places 4096 && leb bytes 65536) (leb names places) p);
       room = leb-true _ _ (and-right (leb places 4096 && leb bytes 65536 && leb names places) (leb used bytes) e);
     }
+
+-- and back
+pub memory-so : (bytes places names used : ℕ) → Memory bytes places names used → memoryOk bytes places names used ≡ true
+unfolding memoryOk
+memory-so bytes places names used m = rw (le-leb _ _ (m .few), le-leb _ _ (m .small), le-leb _ _ (m .held)) (le-leb _ _ (m .room))
 
 -- no place is left
 pub room-none : (bytes places names used size : ℕ) → Memory bytes places names used → places ≤ names → false ≡ hasRoom bytes places names used size

@@ -1,14 +1,14 @@
 -- What a step over one UTF8-char means for the text from a place on: the code's walk, a law for each way that a step goes.
 -- Assumes nothing.
-use Prim.Native.Nat.{ℕ, suc, _+_, _-_, _≤_, _<_}
+use Prim.Native.Nat.{ℕ, _+_, _-_, _≤_, _<_}
 use mathlib.Core.List.{List, [], _∷_}
 use mathlib.Core.Bool.{Bool, true, false}
 use mathlib.Core.Path.{_≡_, refl, ap, _∙_, sym}
 use native.Mathlib.Omega.{arith}
 use native.Mathlib.Numerals.{add-one}
-use lib.ListN.{length, getD, take}
+use lib.ListN.{length, getD}
 use lib.Seq.{slice, slice-cons, slice-empty, take-all}
-use Rattle.leaves.specs.Utf8.{utf8-1, utf8-2, utf8-3, utf8-4, isUtf8, from-2, from-3, from-4}
+use Rattle.leaves.specs.Utf8.{utf8-1, utf8-2, utf8-3, utf8-4, isUtf8}
 
 -- n is the length of the UTF8-char that stands at place at, of the bytes before to; 0 where none does
 pub record Stepped (s : List ℕ) (at to n : ℕ) : Type 0 where
@@ -18,19 +18,19 @@ pub record Stepped (s : List ℕ) (at to n : ℕ) : Type 0 where
 
 -- ---- the definition, one byte after the other
 
-is-1 : (a : ℕ) (s : List ℕ) → utf8-1 a ≡ true → isUtf8 (a ∷ s) ≡ isUtf8 s
+pub is-1 : (a : ℕ) (s : List ℕ) → utf8-1 a ≡ true → isUtf8 (a ∷ s) ≡ isUtf8 s
 unfolding isUtf8
 is-1 a s e = rw e
 
-is-2 : (a b : ℕ) (s : List ℕ) → utf8-1 a ≡ false → utf8-2 a b ≡ true → isUtf8 (a ∷ b ∷ s) ≡ isUtf8 s
+pub is-2 : (a b : ℕ) (s : List ℕ) → utf8-1 a ≡ false → utf8-2 a b ≡ true → isUtf8 (a ∷ b ∷ s) ≡ isUtf8 s
 unfolding isUtf8
 is-2 a b s e f = rw (e, f)
 
-is-3 : (a b c : ℕ) (s : List ℕ) → utf8-1 a ≡ false → utf8-2 a b ≡ false → utf8-3 a b c ≡ true → isUtf8 (a ∷ b ∷ c ∷ s) ≡ isUtf8 s
+pub is-3 : (a b c : ℕ) (s : List ℕ) → utf8-1 a ≡ false → utf8-2 a b ≡ false → utf8-3 a b c ≡ true → isUtf8 (a ∷ b ∷ c ∷ s) ≡ isUtf8 s
 unfolding isUtf8
 is-3 a b c s e f g = rw (e, f, g)
 
-is-4 : (a b c d : ℕ) (s : List ℕ) → utf8-1 a ≡ false → utf8-2 a b ≡ false → utf8-3 a b c ≡ false → utf8-4 a b c d ≡ true → isUtf8 (a ∷ b ∷ c ∷ d ∷ s) ≡ isUtf8 s
+pub is-4 : (a b c d : ℕ) (s : List ℕ) → utf8-1 a ≡ false → utf8-2 a b ≡ false → utf8-3 a b c ≡ false → utf8-4 a b c d ≡ true → isUtf8 (a ∷ b ∷ c ∷ d ∷ s) ≡ isUtf8 s
 unfolding isUtf8
 is-4 a b c d s e f g h = rw (e, f, g, h)
 

@@ -3,7 +3,7 @@
 ghost use mathlib.Core.Path.{_≡_};
 ghost use mathlib.Core.Bool.{true};
 ghost use Prim.Native.Nat.{_+_, _-_, _<_, _≤_};
-ghost use lib.ListN.{length, set, getD};
+ghost use lib.ListN.{length, set};
 ghost use lib.Seq.{slice};
 ghost use Rattle.leaves.specs.Names.{startOf, endOf, nameOf, namesOf, isName, wellFormed, memoryOk, same, least, hasRoom, written, checkedOf, checkNames, naming, namedOf, namingAnswer, bytesAfter, endsAfter, placedOf, placeOfName};
 ghost use Rattle.leaves.specs.NamesLaws.{standing, Ordered};

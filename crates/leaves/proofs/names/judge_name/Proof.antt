@@ -1,11 +1,10 @@
 -- `names::judge_name` meets its contract: each test decides its case.
 -- Assumes nothing.
-use mathlib.Core.Path.{sym, ap, _∙_}
-use Prim.Native.Nat.{ℕ}
+use mathlib.Core.Path.{sym, _∙_}
 use native.Mathlib.Omega.{arith}
 use borrow.Author.Needs.{needs}
-use lib.Seq.{slice, length-slice}
-use Rattle.leaves.specs.Names.{hasRoom, naming}
+use lib.Seq.{length-slice}
+use Rattle.leaves.specs.Names.{naming}
 use Rattle.leaves.specs.NamesLaws.{memory, formed, ordered, holds, fails, numbered-old, numbered-new, numbered-none}
 use Rattle.leaves.proofs.names.judge_name.Statement.{statement}
 use Rattle.leaves.proofs.names.judge_name.Tie as tie
