@@ -1,5 +1,5 @@
--- `reader::read_from` meets its contract: a walk of its MIR, by hand. A `Reader` that `new` returns is held in a local, passed to `moved`, and what that returns to `next`. All that the proof knows of the three is that each meets its contract.
--- Copied from `reader/proofs/read_from`, with one call more and a number among the parameters. Assumes nothing.
+-- `reader::read_from` meets its contract: a walk of its MIR, by hand. The reader that `new` returns is held in a local, passed to `moved`, and what that returns to `read`. All that the proof knows of the three is that each meets its contract.
+-- Assumes nothing.
 use mathlib.Core.Path.{_≡_, refl, ap, _∙_}
 use Prim.Native.Nat.{ℕ, _<_, _^_}
 use mathlib.Core.List.{List, [], _∷_}
