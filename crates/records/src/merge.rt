@@ -123,7 +123,7 @@ fn pack(head: Head) -> u64
 }
 
 // What stands at a place of a stream.
-fn read_at(buffer: &[u8], cuts: &[u64], stream: usize, place: u64) -> Got
+fn read_stream(buffer: &[u8], cuts: &[u64], stream: usize, place: u64) -> Got
     requires { ⌜ stream < 256 ⌝ }
     ensures { λ r. ⌜ gotOf (r .found) (r .time) (r .head) ≡ streamsOf (now (buffer .entry)) (now (cuts .entry)) stream .read place ⌝ }
 {
@@ -192,7 +192,7 @@ fn turns(
         let p = slot(heap[0]);
         let place = places[p];
         if marks[p] == WAITING {
-            let got = read_at(buffer, cuts, p, place);
+            let got = read_stream(buffer, cuts, p, place);
             let found = got.found;
             if found < RECORD {
                 marks[p] = GONE;

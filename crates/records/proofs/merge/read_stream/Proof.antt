@@ -3,8 +3,8 @@ use Rattle.leaves.specs.Frame.{headOf}
 use Rattle.machine.specs.Bytes.{stream-read}
 use Rattle.machine.specs.StateLaws.{got-packed}
 use borrow.Author.Needs.{needs}
-use Rattle.records.proofs.merge.read_at.Statement.{statement}
-use Rattle.records.proofs.merge.read_at.Tie as tie
+use Rattle.records.proofs.merge.read_stream.Statement.{statement}
+use Rattle.records.proofs.merge.read_stream.Tie as tie
 
 entry-or-zero-requires : tie.Need-entry-or-zero-requires
 entry-or-zero-requires c κs = search needs
@@ -28,8 +28,8 @@ returns c = let a = c .before .before .before .before .before .before .args in
     let e = c .before .read-within .ensures in
     rw (c .pack .ensures, got-packed (h .found) (h .length) (h .kind) (h .instrument) (h .time) (search needs) (search needs), stream-read, ← (c .before .before .before .entry-or-zero .ensures), ← (c .before .before .entry-or-zero2 .ensures)) e
 
-pub read-at-spec : {M : Type 1} → statement M
-read-at-spec =
+pub read-stream-spec : {M : Type 1} → statement M
+read-stream-spec =
     tie.close
     (tie.spec
     entry-or-zero-requires
