@@ -1,8 +1,9 @@
 -- `utf8::is_4` meets its contract: it tries the alternatives in their order.
 -- Assumes nothing.
-use mathlib.Core.Path.{sym, _∙_}
+use mathlib.Core.Path.{_≡_, sym, _∙_}
+use mathlib.Core.Bool.{true, false}
 use borrow.Author.Needs.{needs}
-use Rattle.leaves.specs.Utf8.{utf8-4}
+use Rattle.leaves.specs.Utf8.{four, utf8-4}
 use Rattle.leaves.proofs.utf8.is_4.Statement.{statement}
 use Rattle.leaves.proofs.utf8.is_4.Tie as tie
 
@@ -11,7 +12,10 @@ is-four-requires c κs = search needs
 
 returns : tie.Need-returns
 unfolding utf8-4
-returns c = rw (sym (c .before .is-four .ensures) ∙ c .if1 .taken)
+returns c =
+    let a = c .before .before .args in
+    let e1 : four 0xF0 0xF0 0x90 0xBF (a .a) (a .b) (a .c) (a .d) ≡ true = sym (c .before .is-four .ensures) ∙ c .if1 .taken in
+    rw e1
 
 is-four-requires-2 : tie.Need-is-four-requires-2
 is-four-requires-2 c κs = search needs
@@ -19,10 +23,10 @@ is-four-requires-2 c κs = search needs
 returns-2 : tie.Need-returns-2
 unfolding utf8-4
 returns-2 c =
-    rw (
-      sym (c .before .before .before .is-four .ensures) ∙ c .before .before .if1 .left,
-      sym (c .before .is-four2 .ensures) ∙ c .if2 .taken,
-    )
+    let a = c .before .before .before .before .args in
+    let e1 : four 0xF0 0xF0 0x90 0xBF (a .a) (a .b) (a .c) (a .d) ≡ false = sym (c .before .before .before .is-four .ensures) ∙ c .before .before .if1 .left in
+    let e2 : four 0xF1 0xF3 0x80 0xBF (a .a) (a .b) (a .c) (a .d) ≡ true = sym (c .before .is-four2 .ensures) ∙ c .if2 .taken in
+    rw (e1, e2)
 
 is-four-requires-3 : tie.Need-is-four-requires-3
 is-four-requires-3 c κs = search needs
@@ -30,11 +34,10 @@ is-four-requires-3 c κs = search needs
 returns-3 : tie.Need-returns-3
 unfolding utf8-4
 returns-3 c =
-    rw (
-      sym (c .before .before .before .before .is-four .ensures) ∙ c .before .before .before .if1 .left,
-      sym (c .before .before .is-four2 .ensures) ∙ c .before .if2 .left,
-    )
-    (c .is-four3 .ensures)
+    let a = c .before .before .before .before .before .args in
+    let e1 : four 0xF0 0xF0 0x90 0xBF (a .a) (a .b) (a .c) (a .d) ≡ false = sym (c .before .before .before .before .is-four .ensures) ∙ c .before .before .before .if1 .left in
+    let e2 : four 0xF1 0xF3 0x80 0xBF (a .a) (a .b) (a .c) (a .d) ≡ false = sym (c .before .before .is-four2 .ensures) ∙ c .before .if2 .left in
+    rw (e1, e2) (c .is-four3 .ensures)
 
 pub is-4-spec : {M : Type 1} → statement M
 is-4-spec = tie.close (tie.spec is-four-requires returns is-four-requires-2 returns-2 is-four-requires-3 returns-3)
