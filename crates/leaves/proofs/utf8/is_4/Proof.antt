@@ -1,9 +1,7 @@
 -- `utf8::is_4` meets its contract: it tries the alternatives in their order.
 -- Assumes nothing.
-use mathlib.Core.Path.{_≡_, sym, _∙_}
-use mathlib.Core.Bool.{true, false}
 use borrow.Author.Needs.{needs}
-use Rattle.leaves.specs.Utf8.{four, utf8-4}
+use Rattle.leaves.specs.Utf8Laws.{fourth-1, fourth-2, fourth-3}
 use Rattle.leaves.proofs.utf8.is_4.Statement.{statement}
 use Rattle.leaves.proofs.utf8.is_4.Tie as tie
 
@@ -11,33 +9,28 @@ is-four-requires : tie.Need-is-four-requires
 is-four-requires c κs = search needs
 
 returns : tie.Need-returns
-unfolding utf8-4
 returns c =
-    let a = c .before .before .args in
-    let e1 : four 0xF0 0xF0 0x90 0xBF (a .a) (a .b) (a .c) (a .d) ≡ true = sym (c .before .is-four .ensures) ∙ c .if1 .taken in
-    rw e1
+    fourth-1 _ _ _ _
+    (c .before .is-four .ensures) (c .if1 .taken)
 
 is-four-requires-2 : tie.Need-is-four-requires-2
 is-four-requires-2 c κs = search needs
 
 returns-2 : tie.Need-returns-2
-unfolding utf8-4
 returns-2 c =
-    let a = c .before .before .before .before .args in
-    let e1 : four 0xF0 0xF0 0x90 0xBF (a .a) (a .b) (a .c) (a .d) ≡ false = sym (c .before .before .before .is-four .ensures) ∙ c .before .before .if1 .left in
-    let e2 : four 0xF1 0xF3 0x80 0xBF (a .a) (a .b) (a .c) (a .d) ≡ true = sym (c .before .is-four2 .ensures) ∙ c .if2 .taken in
-    rw (e1, e2)
+    fourth-2 _ _ _ _
+    (c .before .before .before .is-four .ensures) (c .before .before .if1 .left)
+    (c .before .is-four2 .ensures) (c .if2 .taken)
 
 is-four-requires-3 : tie.Need-is-four-requires-3
 is-four-requires-3 c κs = search needs
 
 returns-3 : tie.Need-returns-3
-unfolding utf8-4
 returns-3 c =
-    let a = c .before .before .before .before .before .args in
-    let e1 : four 0xF0 0xF0 0x90 0xBF (a .a) (a .b) (a .c) (a .d) ≡ false = sym (c .before .before .before .before .is-four .ensures) ∙ c .before .before .before .if1 .left in
-    let e2 : four 0xF1 0xF3 0x80 0xBF (a .a) (a .b) (a .c) (a .d) ≡ false = sym (c .before .before .is-four2 .ensures) ∙ c .before .if2 .left in
-    rw (e1, e2) (c .is-four3 .ensures)
+    fourth-3 _ _ _ _
+    (c .before .before .before .before .is-four .ensures) (c .before .before .before .if1 .left)
+    (c .before .before .is-four2 .ensures) (c .before .if2 .left)
+    (c .is-four3 .ensures)
 
 pub is-4-spec : {M : Type 1} → statement M
 is-4-spec = tie.close (tie.spec is-four-requires returns is-four-requires-2 returns-2 is-four-requires-3 returns-3)
