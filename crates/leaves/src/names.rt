@@ -184,7 +184,7 @@ pub fn has_room(bytes: usize, places: usize, names: usize, used: usize, size: us
     size <= bytes - used
 }
 
-// Copies the source's bytes from `from` to before `to` to place `at`.
+// Writes the text's bytes from `from` to before `to` at place `at`.
 fn copy(bytes: &mut [u8], at: usize, text: &[u8], from: usize, to: usize)
     requires { ⌜ (from ≤ to) × (to ≤ length (now text)) × (at + (to - from) ≤ length (now bytes)) ⌝ }
     ensures { λ _. ⌜ now (bytes .exit) ≡ written (now (bytes .entry)) at (slice from to (now (text .entry))) ⌝ }
@@ -284,7 +284,7 @@ pub fn number_of(
     }
 }
 
-// Where a name begins, of which there is one before it or none.
+// Where a name begins: at 0, or where the one before it ends.
 pub fn name_start(ends: &[u32], number: usize) -> usize
     requires { ⌜ number ≤ length (now ends) ⌝ }
     ensures { λ r. ⌜ r ≡ startOf (now (ends .entry)) number ⌝ }
