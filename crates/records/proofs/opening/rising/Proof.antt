@@ -6,8 +6,8 @@ use native.Mathlib.Omega.{arith}
 use lib.ListN.{length}
 use Rattle.machine.specs.State.{riseTo}
 use Rattle.machine.specs.Opening.{falls, rises-more}
-use Rattle.records.proofs.merge.rising.Statement.{statement}
-use Rattle.records.proofs.merge.rising.Tie as tie
+use Rattle.records.proofs.opening.rising.Statement.{statement}
+use Rattle.records.proofs.opening.rising.Tie as tie
 
 abbrev Inv-loop : tie.InvT-loop
 Inv-loop cuts i₀ i = (i < length cuts) × (riseTo i cuts ≡ true)

@@ -1,8 +1,8 @@
 -- The tests of the definition, one after the other. Assumes nothing.
 use borrow.Author.Tests.{lt-leb, le-leb, eq-eqb, ne-eqb}
 use Rattle.machine.specs.State.{rightMemory}
-use Rattle.records.proofs.merge.memory.Statement.{statement}
-use Rattle.records.proofs.merge.memory.Tie as tie
+use Rattle.records.proofs.state.memory.Statement.{statement}
+use Rattle.records.proofs.state.memory.Tie as tie
 
 returns : tie.Need-returns
 unfolding rightMemory

@@ -1,7 +1,7 @@
 -- The two tests of the definition. Assumes nothing.
 use borrow.Author.Tests.{eq-eqb, ne-eqb}
-use Rattle.records.proofs.merge.hints_right.Statement.{statement}
-use Rattle.records.proofs.merge.hints_right.Tie as tie
+use Rattle.records.proofs.opening.hints_right.Statement.{statement}
+use Rattle.records.proofs.opening.hints_right.Tie as tie
 
 returns : tie.Need-returns
 returns c = simp (eq-eqb _ _ (c .if1 .taken))

@@ -2,8 +2,8 @@
 use mathlib.Core.Path.{sym}
 use lib.ListN.{List·getD-eq-default}
 use borrow.Author.Needs.{needs}
-use Rattle.records.proofs.merge.entry_or_zero.Statement.{statement}
-use Rattle.records.proofs.merge.entry_or_zero.Tie as tie
+use Rattle.records.proofs.state.entry_or_zero.Statement.{statement}
+use Rattle.records.proofs.state.entry_or_zero.Tie as tie
 
 mul-result : tie.Need-mul-result
 mul-result c = search needs

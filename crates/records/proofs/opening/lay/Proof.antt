@@ -3,8 +3,8 @@ use Prim.Native.Nat.{_-_}
 use native.Mathlib.Omega.{arith}
 use Rattle.machine.specs.Opening.{Laying, laying-start, laying-step}
 use borrow.Author.Needs.{needs}
-use Rattle.records.proofs.merge.lay.Statement.{statement}
-use Rattle.records.proofs.merge.lay.Tie as tie
+use Rattle.records.proofs.opening.lay.Statement.{statement}
+use Rattle.records.proofs.opening.lay.Tie as tie
 
 abbrev Inv-loop : tie.InvT-loop
 Inv-loop n hints marks₀ times₀ places₀ heads₀ heap₀ i₀ marks times places heads heap i = Laying n i hints marks₀ times₀ places₀ heads₀ heap₀ marks times places heads heap

@@ -7,8 +7,8 @@ use borrow.Author.Tests.{lt-leb, le-leb, eq-eqb, ne-eqb}
 use Rattle.machine.specs.State.{rightStreams}
 use Rattle.machine.specs.Opening.{bit-no, bit-yes}
 use borrow.Author.Needs.{needs}
-use Rattle.records.proofs.merge.streams_right.Statement.{statement}
-use Rattle.records.proofs.merge.streams_right.Tie as tie
+use Rattle.records.proofs.opening.streams_right.Statement.{statement}
+use Rattle.records.proofs.opening.streams_right.Tie as tie
 
 returns : tie.Need-returns
 unfolding rightStreams

@@ -2,8 +2,8 @@
 use borrow.Author.Tests.{lt-ltb, le-ltb}
 use Rattle.machine.specs.Opening.{numberAt}
 use borrow.Author.Needs.{needs}
-use Rattle.records.proofs.merge.number_at.Statement.{statement}
-use Rattle.records.proofs.merge.number_at.Tie as tie
+use Rattle.records.proofs.opening.number_at.Statement.{statement}
+use Rattle.records.proofs.opening.number_at.Tie as tie
 
 cast-result : tie.Need-cast-result
 cast-result c = search needs
