@@ -1,0 +1,2 @@
+pub mod Sections
+pub mod SectionsLaws
