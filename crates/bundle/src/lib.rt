@@ -1,3 +1,4 @@
 // A bundle of document 01, "Merging records", taken apart, and the whole text of its replay.
-
-pub mod sections;
+mod copy;
+mod lines;
+mod sections;

@@ -3,7 +3,6 @@
 ghost use mathlib.Core.Path.{_≡_};
 ghost use Prim.Native.Nat.{_+_, _≤_};
 ghost use lib.ListN.{length, getD, drop};
-ghost use lib.Seq.{paste};
 ghost use Rattle.bundle.specs.Sections.{sectionSize, PartedOk};
 
 // A bundle over this many bytes is bad.
@@ -21,18 +20,6 @@ const STREAM: u16 = 1;
 pub enum Parted {
     Streams { count: usize, bytes: usize },
     Bad,
-}
-
-// Lays the n bytes of `from` that stand at `at` over those of `to` from `place` on.
-fn copy(to: &mut [u8], place: usize, from: &[u8], at: usize, n: usize)
-    requires { ⌜ (place + n ≤ length (now to)) × (at + n ≤ length (now from)) ⌝ }
-    ensures { λ _. ⌜ now (to .exit) ≡ paste (now (to .entry)) place (drop at (now (from .entry))) n ⌝ }
-{
-    let mut i = 0;
-    while i < n {
-        to[place + i] = from[at + i];
-        i += 1;
-    }
 }
 
 // The whole length of the section that stands at `at`, or 0 where none stands there.
@@ -76,7 +63,7 @@ pub fn part(bundle: &[u8], buffer: &mut [u8], cuts: &mut [u64]) -> Parted
         if size == 0 {
             return Parted::Bad;
         }
-        copy(buffer, bytes, bundle, at + HEAD, size - HEAD);
+        crate::copy::copy(buffer, bytes, bundle, at + HEAD, size - HEAD);
         bytes += size - HEAD;
         at += size;
         count += 1;

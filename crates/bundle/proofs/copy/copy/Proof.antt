@@ -7,8 +7,8 @@ use Prim.Native.Nat.{ℕ, _+_, _-_, _≤_, _<_}
 use lib.ListN.{length, getD, set, drop, length-set, length-drop}
 use lib.Seq.{paste, paste-zero, paste-suc, getD-drop}
 use denote.Ref.{now}
-use Rattle.bundle.proofs.sections.copy.Statement.{statement}
-use Rattle.bundle.proofs.sections.copy.Tie as tie
+use Rattle.bundle.proofs.copy.copy.Statement.{statement}
+use Rattle.bundle.proofs.copy.copy.Tie as tie
 
 abbrev Inv-loop : tie.InvT-loop
 Inv-loop to₀ place from at n i₀ to i = (i ≤ n) × (to ≡ paste to₀ place (drop at from) i) × (length to ≡ length to₀)
