@@ -1,1 +1,3 @@
+pub mod Frame
+pub mod FrameLaws
 pub mod Refusal
