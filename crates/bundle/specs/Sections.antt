@@ -57,9 +57,9 @@ few none = none
 few (some ss) = cond (leb 1 (length ss) && leb (length ss) 256) (some ss) none
 
 -- the streams of a bundle; none: bad ("a bundle it can't take apart, over 60,000 bytes, or with 0 or over 256 sections")
-unfoldable pub streamsOf : List ℕ → Option (List (List ℕ))
+unfoldable pub streamsIn : List ℕ → Option (List (List ℕ))
 unfolding sections few
-streamsOf b = cond (leb (length b) 60000) (few (sections b)) none
+streamsIn b = cond (leb (length b) 60000) (few (sections b)) none
 
 -- ---- what the code makes of it
 
@@ -81,7 +81,7 @@ pub record Cuts (cuts : List ℕ) (n bytes : ℕ) : Type 0 where
 
 -- the bundle's streams are those that the cuts mark in the buffer
 pub record Apart (bundle buffer cuts : List ℕ) (n bytes : ℕ) : Type 0 where
-  pub streams : streamsOf bundle ≡ some (cutOut buffer cuts n)
+  pub streams : streamsIn bundle ≡ some (cutOut buffer cuts n)
   pub cut : Cuts cuts n bytes
   pub some : 0 < n
   pub few : n ≤ 256
@@ -90,4 +90,4 @@ pub record Apart (bundle buffer cuts : List ℕ) (n bytes : ℕ) : Type 0 where
 -- what an answer says of the bundle
 abbrev pub PartedOk : List ℕ → List ℕ → List ℕ → Parted → Type 0
 PartedOk bundle buffer cuts (Streams n bytes) = Apart bundle buffer cuts n bytes
-PartedOk bundle buffer cuts Bad = streamsOf bundle ≡ none
+PartedOk bundle buffer cuts Bad = streamsIn bundle ≡ none

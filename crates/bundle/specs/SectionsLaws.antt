@@ -14,7 +14,7 @@ use lib.Seq.{slice, paste, take-nil, drop-drop, drop-at, take-paste, take-append
 use lib.Dec.{leb, eqb}
 use borrow.Author.Tests.{leb-true, leb-false, eqb-true, eqb-false, le-leb, lt-leb, eq-eqb, ne-eqb}
 use Rattle.theory.specs.Fields.{field, field-drop}
-use Rattle.bundle.specs.Sections.{sizeOf, kindOf, whole, streamOf, sectionSize, ahead, sectionsF, sections, few, streamsOf, streamAt, cutOut, Cuts, Apart}
+use Rattle.bundle.specs.Sections.{sizeOf, kindOf, whole, streamOf, sectionSize, ahead, sectionsF, sections, few, streamsIn, streamAt, cutOut, Cuts, Apart}
 
 -- ---- a section at the front
 
@@ -336,17 +336,17 @@ sections-some s h ys e = go (whole s) refl
     go false w = let n : none ≡ some ys = sym (sections-bad s h w) ∙ e in let z : _≡_ {A = ℕ} 0 1 = cc in absurd (omega arith)
 
 -- too many bytes
-pub bad-long : (b : List ℕ) → 60000 < length b → streamsOf b ≡ none
-unfolding streamsOf
+pub bad-long : (b : List ℕ) → 60000 < length b → streamsIn b ≡ none
+unfolding streamsIn
 bad-long b h = rw (lt-leb (length b) 60000 h)
 
 module _ {bundle buffer cuts : List ℕ} {at bytes count : ℕ} (t : Taking bundle buffer cuts at bytes count) (small : length bundle ≤ 60000) where
-  judged : streamsOf bundle ≡ few (ahead (cutOut buffer cuts count) (sections (drop at bundle)))
-  unfolding streamsOf
+  judged : streamsIn bundle ≡ few (ahead (cutOut buffer cuts count) (sections (drop at bundle)))
+  unfolding streamsIn
   judged = rw (le-leb (length bundle) 60000 small) (ap few (t .same))
 
   -- a section after the 256th
-  pub bad-many : at < length bundle → count ≡ 256 → streamsOf bundle ≡ none
+  pub bad-many : at < length bundle → count ≡ 256 → streamsIn bundle ≡ none
   bad-many more e =
       judged
       ∙ few-bad (cutOut buffer cuts count) (sections (drop at bundle))
@@ -358,12 +358,12 @@ module _ {bundle buffer cuts : List ℕ} {at bytes count : ℕ} (t : Taking bund
       ))
 
   -- no section where one should stand
-  pub bad-section : at < length bundle → sectionSize (drop at bundle) ≡ 0 → streamsOf bundle ≡ none
+  pub bad-section : at < length bundle → sectionSize (drop at bundle) ≡ 0 → streamsIn bundle ≡ none
   unfolding few ahead
   bad-section more e =
       judged ∙ ap (λ (o : Option (List (List ℕ))). few (ahead (cutOut buffer cuts count) o)) (sections-bad (drop at bundle) (omega (arith, length-drop at bundle)) (size-none (drop at bundle) e))
 
-  ended : length bundle ≤ at → streamsOf bundle ≡ few (some (cutOut buffer cuts count))
+  ended : length bundle ≤ at → streamsIn bundle ≡ few (some (cutOut buffer cuts count))
   unfolding ahead
   ended done =
       judged
@@ -371,7 +371,7 @@ module _ {bundle buffer cuts : List ℕ} {at bytes count : ℕ} (t : Taking bund
       ∙ ap (λ (xs : List (List ℕ)). few (some xs)) (append-nil (cutOut buffer cuts count))
 
   -- no section at all
-  pub bad-none : length bundle ≤ at → count ≡ 0 → streamsOf bundle ≡ none
+  pub bad-none : length bundle ≤ at → count ≡ 0 → streamsIn bundle ≡ none
   unfolding few
   bad-none done e = ended done ∙ rw (length-cutOut buffer cuts count, e)
 
