@@ -1,27 +1,29 @@
 -- Laws on a replay's text: how many lines it can have, and the loop that writes it, answer by answer. Assumes nothing.
 use mathlib.Core.Path.{_≡_, refl, sym, ap, _∙_}
-use mathlib.Core.Logic.{_≢_}
 use Prim.Native.Nat.{ℕ, zero, suc, _+_, _-_, _*_, _≤_, _<_}
 use native.Mathlib.Numerals.{add-one}
+use native.Mathlib.Decide.{decLt}
 use native.Mathlib.Omega.{arith}
 use mathlib.Core.Bool.{Bool, true, false, not, _||_}
 use mathlib.Core.List.{List, [], _∷_, _++_, append-assoc, append-nil}
-use lib.ListN.{length, getD, replicate, length-append, length-take, length-drop, length-replicate}
-use lib.Seq.{slice}
+use lib.ListN.{length, getD, take, drop, replicate, length-take, length-drop, List·getD-eq-default}
+use lib.Seq.{slice, drop-nil, take-take, getD-take, length-take-le}
 use lib.Dec.{T, eqb, ltb}
 use mir.Facts.{ltb-no}
 use Rattle.theory.specs.Fields.{field}
 use Rattle.leaves.specs.Frame.{Read, whole, ended, damaged, judged, recordAt, frameAt}
 use Rattle.machine.specs.Machine.{rec, Fits, Stream, Said, record-at, damage-at, ownOn, ownF, own}
 use Rattle.machine.specs.Machine.{Status, waiting, Answer, says, end, Turn, turn, next, answer, rest, upTo, runF, start}
-use Rattle.machine.specs.Bytes.{bytesOf, frame-fits}
+use Rattle.machine.specs.Bytes.{bytesOf, frame-fits, streamsOf}
+use Rattle.machine.specs.Literal.{told, told-run}
 use Rattle.machine.specs.Least.{cond-case}
 use Rattle.machine.specs.Kept.{size, leftOf, sumBy, total, TurnOk, next-ok}
 use Rattle.machine.specs.Whole.{bytes, run, own-short}
-use Rattle.bundle.specs.Sections.{streamAt, cutOut, Cuts}
+use Rattle.bundle.specs.Sections.{streamAt, cutOut, Cuts, Apart}
+use Rattle.bundle.specs.SectionsLaws.{cutOut-same, length-cutOut, getD-cutOut}
 use Rattle.bundle.specs.Lines.{endLine, laid, Lays}
 use Rattle.bundle.specs.LinesLaws.{lays-then, lays-same}
-use Rattle.bundle.specs.Replay.{among, lineOf, linesOf}
+use Rattle.bundle.specs.Replay.{among, lineOf, linesOf, textOf, replayText}
 
 -- ---- how many answers streams of so many bytes can give: a record takes 16 bytes at least, and damage is said once
 
@@ -143,15 +145,15 @@ module _ (b : ℕ → Stream) (ss ss' : List Status) where
 
 -- ---- the loop that writes
 
--- so far: what is written, with the lines to come, is the whole, and these have room, 63 bytes a line and 4 for the last
+-- so far: what is written, with the lines to come, is the whole, and these have room, 63 bytes a line, the last one too
 pub record Writing (b : ℕ → Stream) (whole text₀ : List ℕ) (ss : List Status) (text : List ℕ) (at : ℕ) : Type 0 where
   pub done : List ℕ
   pub lays : Lays text₀ 0 done at text
   pub same : done ++ linesLeft b ss ≡ whole
-  pub room : at + 63 * total b ss + 4 ≤ length text₀
+  pub room : at + 63 * total b ss + 63 ≤ length text₀
   pub long : length text ≡ length text₀
 
-pub writing-start : (b : ℕ → Stream) (text : List ℕ) (ss : List Status) → 63 * total b ss + 4 ≤ length text
+pub writing-start : (b : ℕ → Stream) (text : List ℕ) (ss : List Status) → 63 * total b ss + 63 ≤ length text
     → Writing b (linesLeft b ss) text ss text 0
 unfolding laid
 writing-start b text ss h = record { done = []; lays = record { behind = refl; whole = refl }; same = refl; room = omega arith; long = refl }
@@ -173,3 +175,68 @@ module _ {b : ℕ → Stream} {whole text₀ : List ℕ} {ss : List Status} {tex
   writing-end {ss'} {r} {text'} e l =
       let z : w .done ++ endLine ≡ whole = ap (λ (x : List ℕ). w .done ++ x) (sym (left-end b ss ss' e)) ∙ w .same in
       lays-same z (lays-then (omega arith) (w .lays) l)
+
+-- ---- the streams that were cut out, as the merge reads them
+
+-- a cut is no more than the last one
+cut-below : (cuts : List ℕ) (n : ℕ) → ((p : ℕ) → p < n → getD cuts p 0 ≤ getD cuts (p + 1) 0)
+    → (k p : ℕ) → p + k ≡ n → getD cuts p 0 ≤ getD cuts n 0
+cut-below cuts n rises zero p e = let z : p ≡ n = omega arith in rw z (omega arith)
+cut-below cuts n rises (suc k) p e = omega (arith, rises p (omega arith), cut-below cuts n rises k (p + 1) (omega arith))
+
+module _ (buffer cuts : List ℕ) (n bytes : ℕ) (c : Cuts cuts n bytes) where
+  old : (p : ℕ) → p ≤ n → getD (take (n + 1) cuts) p 0 ≡ getD cuts p 0
+  old p h = getD-take (n + 1) cuts p 0 (omega arith)
+
+  -- the buffer and the cuts may be cut down to what is in use
+  pub cut-down : cutOut (take bytes buffer) (take (n + 1) cuts) n ≡ cutOut buffer cuts n
+  unfolding streamAt
+  cut-down = cutOut-same n buffer (take bytes buffer) cuts (take (n + 1) cuts) (λ p h.
+      rw (old p (omega arith), old (p + 1) (omega arith))
+      (ap (drop (getD cuts p 0)) (take-take (getD cuts (p + 1) 0) bytes buffer (omega (arith, c .last, cut-below cuts n (c .rises) (n - (p + 1)) (p + 1) (omega arith))))))
+
+  pub cs-cuts : Cuts (take (n + 1) cuts) n bytes
+  cs-cuts = record {
+    first = old 0 (omega arith) ∙ c .first;
+    last = old n (omega arith) ∙ c .last;
+    rises = λ p h. rw (old p (omega arith), old (p + 1) (omega arith)) (c .rises p h);
+  }
+
+-- cuts of n streams, and no more: the merge's streams are those that are cut out
+pub among-cuts : (buffer cs : List ℕ) (n : ℕ) → length cs ≡ n + 1 → among (cutOut buffer cs n) ≡ streamsOf buffer cs
+unfolding among streamsOf streamAt
+among-cuts buffer cs n e = λ i p. same p (decLt p n) i
+  where
+    same : (p : ℕ) → Dec (p < n) → bytesOf (getD (cutOut buffer cs n) p []) ≡ bytesOf (slice (getD cs p 0) (getD cs (p + 1) 0) buffer)
+    same p (yes h) = ap bytesOf (getD-cutOut buffer cs n p h)
+    same p (no d) =
+        let z : getD cs (p + 1) 0 ≡ 0 = List·getD-eq-default cs 0 (omega arith) in
+        let f : slice (getD cs p 0) (getD cs (p + 1) 0) buffer ≡ [] = rw z (drop-nil (getD cs p 0)) in
+        ap bytesOf (List·getD-eq-default (cutOut buffer cs n) [] (omega (arith, length-cutOut buffer cs n)) ∙ sym f)
+
+-- the text of a bundle that was taken apart
+pub apart-text : (bundle buffer cuts : List ℕ) (n bytes : ℕ) → (a : Apart bundle buffer cuts n bytes) → n + 1 ≤ length cuts
+    → replayText bundle ≡ linesLeft (streamsOf (take bytes buffer) (take (n + 1) cuts)) (start (replicate n 0))
+unfolding replayText textOf
+apart-text bundle buffer cuts n bytes a h =
+    let b = take bytes buffer in
+    let c = take (n + 1) cuts in
+    ap textOf (a .streams)
+    ∙ ap (λ (ss : List (List ℕ)). linesOf (told (among ss) (replicate (length ss) 0))) (sym (cut-down buffer cuts n bytes (a .cut)))
+    ∙ ap (λ (k : ℕ). linesOf (told (among (cutOut b c n)) (replicate k 0))) (length-cutOut b c n)
+    ∙ ap (λ (f : ℕ → Stream). linesOf (told f (replicate n 0))) (among-cuts b c n (length-take-le (n + 1) cuts h))
+    ∙ ap linesOf (told-run (streamsOf b c) (replicate n 0))
+    ∙ sym (left-start (streamsOf b c) (replicate n 0))
+
+-- and it fits: 60,000 / 16 records, 256 damage reports and the end, 63 bytes each
+pub apart-room : (bundle buffer cuts : List ℕ) (n bytes : ℕ) → (a : Apart bundle buffer cuts n bytes) → n + 1 ≤ length cuts
+    → 63 * total (streamsOf (take bytes buffer) (take (n + 1) cuts)) (start (replicate n 0)) + 63 ≤ 252441
+apart-room bundle buffer cuts n bytes a h =
+    let b = take bytes buffer in
+    let c = take (n + 1) cuts in
+    let k = cs-cuts buffer cuts n bytes (a .cut) in
+    let f = answers-few (cutOut b c n) in
+    let l : length (cutOut b c n) ≡ n = length-cutOut b c n in
+    let g : 16 * total (among (cutOut b c n)) (start (replicate n 0)) ≤ bytesIn (cutOut b c n) + 15 * n = rw l at f in
+    let w : 16 * total (streamsOf b c) (start (replicate n 0)) ≤ bytesIn (cutOut b c n) + 15 * n = rw (among-cuts b c n (length-take-le (n + 1) cuts h)) at g in
+    omega (arith, bytes-cut b c n (k .first) (k .rises), k .last, a .few, a .fits)

@@ -168,7 +168,7 @@ getD-cutOut b cs (suc n) p h = go (ℕ-discrete p n) (λ k. getD-cutOut b cs n p
         let l : p < n = omega arith in
         List·getD-append (cutOut b cs n) (streamAt b cs n ∷ []) [] p (omega (arith, length-cutOut b cs n)) ∙ ih l
 
-cutOut-same : (n : ℕ) (b b′ cs cs′ : List ℕ) → ((p : ℕ) → p < n → streamAt b′ cs′ p ≡ streamAt b cs p) → cutOut b′ cs′ n ≡ cutOut b cs n
+pub cutOut-same : (n : ℕ) (b b′ cs cs′ : List ℕ) → ((p : ℕ) → p < n → streamAt b′ cs′ p ≡ streamAt b cs p) → cutOut b′ cs′ n ≡ cutOut b cs n
 unfolding cutOut
 cutOut-same zero b b′ cs cs′ h = refl
 cutOut-same (suc n) b b′ cs cs′ h =
