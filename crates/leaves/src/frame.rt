@@ -11,9 +11,10 @@ ghost use lib.Seq.{slice};
 ghost use Rattle.leaves.specs.Frame.{frameAt, headOf, foundAlone, frameOf, readOf, startOf, notOneRecord, mappingOf, mappedOf, mappedIn};
 
 // A record's least and greatest whole length.
-const HEADER: u64 = 16;
+const HEADER: u16 = 16;
 
-const LONGEST: u64 = 1024;
+const LONGEST: u16 = 1024;
+
 // What `Head` says was found: the end, damage (its reasons), or a record.
 const END: u64 = 0;
 
@@ -24,6 +25,7 @@ const BAD_LENGTH: u64 = 2;
 const PAST_END: u64 = 3;
 
 const RECORD: u64 = 4;
+
 // A symbol mapping's kind, where its times and its name stand, and the reason for a body that has no room for the times.
 const SYMBOL_MAPPING: u16 = 2;
 
@@ -42,7 +44,7 @@ const MISSING: u64 = 18446744073709551615;
 // What stands at a place, in numbers: found is 0 for the end, 1, 2 or 3 for damage with this reason, 4 for a record.
 pub struct Head {
     pub found: u64,
-    pub length: u64,
+    pub length: u16,
     pub kind: u16,
     pub instrument: u32,
     pub time: u64,
@@ -51,7 +53,7 @@ pub struct Head {
 // What stands at a place.
 pub enum Frame {
     Record {
-        length: u64,
+        length: u16,
         kind: u16,
         instrument: u32,
         time: u64,
@@ -106,18 +108,18 @@ pub fn read_within(buffer: &[u8], from: u64, to: u64, place: u64) -> Head
     if left == 0 {
         return no_record(END);
     }
-    if left < HEADER {
+    if left < HEADER as u64 {
         return no_record(SHORT);
     }
     let at = (from + place) as usize;
-    let length = u16_at(buffer, at) as u64;
+    let length = u16_at(buffer, at);
     if length < HEADER {
         return no_record(BAD_LENGTH);
     }
     if LONGEST < length {
         return no_record(BAD_LENGTH);
     }
-    if left < length {
+    if left < length as u64 {
         return no_record(PAST_END);
     }
     Head {
@@ -199,7 +201,7 @@ pub fn read_mapping(bytes: &[u8]) -> Mapping
     if found < RECORD {
         return not_one_record(found);
     }
-    if head.length != size {
+    if head.length as u64 != size {
         return not_one_record(PAST_END);
     }
     if head.kind != SYMBOL_MAPPING {

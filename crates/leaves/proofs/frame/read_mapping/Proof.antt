@@ -32,6 +32,9 @@ returns-2 c =
     let m = mapping-damaged b (h .found) (h .length) (h .kind) (h .instrument) (h .time) (r .ensures) (search needs) (search needs) in
     rw (c .not-one-record2 .ensures, m)
 
+cast-if3 : tie.Need-cast-if3
+cast-if3 c = search needs
+
 not-one-record-requires-3 : tie.Need-not-one-record-requires-3
 not-one-record-requires-3 c κs = search needs
 
@@ -92,6 +95,7 @@ read-mapping-spec =
     returns
     not-one-record-requires-2
     returns-2
+    cast-if3
     not-one-record-requires-3
     returns-3
     returns-4

@@ -22,6 +22,9 @@ returns c =
     let l = c .before .before .left-of in
     rw (c .no-record .ensures) (sym (within-ended (a .buffer .now) (a .from) (a .to) (a .place) (l .result) (l .ensures) (search needs)))
 
+cast-if2 : tie.Need-cast-if2
+cast-if2 c = search needs
+
 no-record-requires-2 : tie.Need-no-record-requires-2
 no-record-requires-2 c κs = search needs
 
@@ -37,9 +40,6 @@ add-at c = search needs
 
 u16-at-requires : tie.Need-u16-at-requires
 u16-at-requires c κs = search needs
-
-cast-length : tie.Need-cast-length
-cast-length c = search needs
 
 no-record-requires-3 : tie.Need-no-record-requires-3
 no-record-requires-3 c κs = search needs
@@ -62,6 +62,9 @@ returns-4 c =
     let l = c .before .before .before .before .before .before .left-of in
     let size : c .before .before .before .u16-at .result ≡ field 2 (a .buffer .now) (a .from + a .place) = c .before .before .before .u16-at .ensures in
     rw (c .no-record4 .ensures) (sym (within-high (a .buffer .now) (a .from) (a .to) (a .place) (l .result) (l .ensures) (omega arith) (omega arith)))
+
+cast-if5 : tie.Need-cast-if5
+cast-if5 c = search needs
 
 no-record-requires-5 : tie.Need-no-record-requires-5
 no-record-requires-5 c κs = search needs
@@ -108,15 +111,16 @@ read-within-spec =
     left-of-requires
     no-record-requires
     returns
+    cast-if2
     no-record-requires-2
     returns-2
     add-at
     u16-at-requires
-    cast-length
     no-record-requires-3
     returns-3
     no-record-requires-4
     returns-4
+    cast-if5
     no-record-requires-5
     returns-5
     add-u16-at
