@@ -4,4 +4,5 @@ pub mod Lines
 pub mod LinesLaws
 pub mod Replay
 pub mod ReplayLaws
+pub mod ReplayCalls
 pub mod Examples
