@@ -11,6 +11,8 @@ use Rattle.leaves.specs.Refusal.{refused}
 use Rattle.machine.specs.Machine.{Rec, Stream, record-at, damage-at, Answer, says, end}
 use Rattle.machine.specs.Bytes.{bytesOf}
 use Rattle.machine.specs.Literal.{told}
+use Rattle.bundle.specs.declared.replay.Replayed.{Replayed}
+use Rattle.bundle.specs.declared.replay.Replayed.the-variants.{Text, Refused}
 use Rattle.bundle.specs.Sections.{streamsIn}
 use Rattle.bundle.specs.Lines.{recordLine, damageLine, endLine, badLine, laid}
 
@@ -42,3 +44,24 @@ textOf (some ss) = linesOf (told (among ss) (replicate (length ss) 0))
 unfoldable pub replayText : List ℕ → List ℕ
 unfolding textOf streamsIn
 replayText bundle = textOf (streamsIn bundle)
+
+-- ---- a call
+
+-- the bytes that every text fits: 60,000 / 16 records, 256 damage reports and the end, 63 bytes each
+abbrev pub textRoom : ℕ
+textRoom = 4007 * 63
+
+-- what a call answers over so many lent bytes: 15 where they are fewer, else done with the length of the text
+unfoldable pub replayAnswer : List ℕ → ℕ → theory.Answer
+unfolding replayText
+replayAnswer bundle room = cond (ltb room textRoom) (theory.answer 15 []) (theory.answer 0 (length (replayText bundle) ∷ []))
+
+-- what the lent bytes then hold: the text from the front on, and what stood behind it
+unfoldable pub replayLaid : List ℕ → List ℕ → List ℕ
+unfolding replayText laid
+replayLaid bundle text = cond (ltb (length text) textRoom) text (laid text 0 (replayText bundle))
+
+-- the answer that a `Replayed` is
+abbrev pub replayedOf : Replayed → theory.Answer
+replayedOf (Text n) = theory.answer 0 (n ∷ [])
+replayedOf (Refused r) = refused r
