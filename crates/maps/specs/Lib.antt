@@ -1,4 +1,4 @@
 pub mod Interval
 pub mod Insert
-pub mod Check
+pub mod Table
 pub mod Lookup
