@@ -1,6 +1,7 @@
 // The maps of document 01, "The map over time": the table over time and the point-in-time table, in lent bytes.
 pub mod check;
 pub mod entries;
+// The maps: the table over time in lent bytes.
 pub mod insert;
 pub mod interval;
 pub mod lookup;
@@ -8,3 +9,4 @@ pub mod mapping;
 pub mod moves;
 pub mod points;
 pub mod search;
+pub mod table;
