@@ -1,8 +1,6 @@
 // The maps of document 01, "The map over time": the table over time and the point-in-time table, in lent bytes.
-pub mod check;
 pub mod cursor;
 pub mod entries;
-// The maps: the table over time in lent bytes.
 pub mod insert;
 pub mod interval;
 pub mod lookup;
