@@ -5,7 +5,6 @@ pub mod PointsLaws
 pub mod PointsSteps
 pub mod Interval
 pub mod Insert
-pub mod Check
 pub mod Mapping
 pub mod MappingLaws
 pub mod MappingInterval

@@ -19,7 +19,7 @@ use Rattle.leaves.specs.FrameLaws.{mapped-other, mapped-symbol, mapped-refused,
 use Rattle.leaves.specs.declared.frame.Mapping.{Mapping}
 use Rattle.leaves.specs.declared.frame.Mapping.the-variants.{Other, Symbol, Refused as NotRead}
 use Rattle.leaves.specs.Names.{memoryOk, wellFormed as wellFormedNames, namesOf, least, isName, written, hasRoom as hasNameRoom}
-use Rattle.leaves.specs.NamesLaws.{holds, fails, Memory, memory, Ordered as OrderedNames, formed, ordered, numbered-old, numbered-new, numbered-none}
+use Rattle.leaves.specs.NamesLaws.{holds, fails, Memory, memory, Ordered as OrderedNames, formed, ordered, numbered-old, numbered-fresh}
 use Rattle.maps.specs.Entries.{entries}
 use Rattle.maps.specs.declared.entries.Entry.{Entry}
 use Rattle.maps.specs.Points.{rising, allKnown, wellFormed, setEntry, pointsFit, hasRoom, storedAnswer, storedBytes}
@@ -125,11 +125,11 @@ module _ (bytes ends rec : List ℕ) (names size from to : ℕ) (m : memoryOk (l
 
       pub plan-new : (i s t : ℕ) → b ≡ true → stores i s t names true ≡ numbered i s t (numberingIn bytes ends names size (nameIn rec))
       unfolding numberingIn
-      plan-new i s t g = ap (numbered i s t) (numbered-new _ _ _ _ _ _ least-is h (judged g))
+      plan-new i s t g = ap (numbered i s t) (sym (numbered-fresh _ _ _ _ _ _ least-is h ∙ rw (judged g)))
 
       pub plan-none : (i s t : ℕ) → b ≡ false → refuses (refused NoNameRoom) ≡ numbered i s t (numberingIn bytes ends names size (nameIn rec))
       unfolding numberingIn
-      plan-none i s t g = ap (numbered i s t) (numbered-none _ _ _ _ _ _ least-is h (judged g))
+      plan-none i s t g = ap (numbered i s t) (sym (numbered-fresh _ _ _ _ _ _ least-is h ∙ rw (judged g)))
 
   pub lies-old : Lies bytes ends names size rec from to false
   lies-old = record {
