@@ -29,6 +29,10 @@ use Rattle.tables.specs.Search.{sideOf, Found, at-row, Side, lies-before
 
 -- ---- definitions
 
+-- document 01's number of an answer
+abbrev pub numberIn : Answer → ℕ
+numberIn (answer c vs) = c
+
 -- what a lookup answers: the new hint, and the symbol if there is one
 unfoldable pub saidAnswer : ℕ → Option ℕ → Answer
 saidAnswer h none = answer 0 (h ∷ [])
@@ -383,3 +387,6 @@ covers-fits t used k i m e f l =
 -- what is compared with is the stretch up to the moment
 pub found-at : {t : List ℕ} {used i m c r : ℕ} {n : Row ℕ} → n ≡ atMoment i m → Found t used n c r → Found t used (atMoment i m) c r
 found-at e f = rw e at f
+
+pub bad-not : {b : Bool} (long used : ℕ) → b ≡ badTable long used → b ≡ true → badTable long used ≡ false → ⊥
+bad-not long used e f g = never (badTable long used) (true-T (badTable long used) (sym e ∙ f)) g
