@@ -77,12 +77,13 @@ and-snd true b e = e
 and-snd false b e = let z : _≡_ {A = ℕ} 0 1 = cc in absurd (omega arith)
 
 -- what room for one name more gives
-record Room (bytes places names used size : ℕ) : Type 0 where
-  small : used + size ≤ 65536
-  place : names < places
-  inside : used + size ≤ bytes
+pub record Room (bytes places names used size : ℕ) : Type 0 where
+  pub few : names + 1 ≤ 4096
+  pub small : used + size ≤ 65536
+  pub place : names < places
+  pub inside : used + size ≤ bytes
 
-room : (bytes places names used size : ℕ) → hasNameRoom bytes places names used size ≡ true → Room bytes places names used size
+pub room : (bytes places names used size : ℕ) → hasNameRoom bytes places names used size ≡ true → Room bytes places names used size
 unfolding hasNameRoom
 room bytes places names used size e =
     let a = leb (names + 1) 4096 in
@@ -92,6 +93,7 @@ room bytes places names used size e =
     let abc : (a && b && c) ≡ true = and-fst (a && b && c) d e in
     let ab : (a && b) ≡ true = and-fst (a && b) c abc in
     record {
+      few = leb-true (names + 1) 4096 (and-fst a b ab);
       small = leb-true (used + size) 65536 (and-snd a b ab);
       place = omega (arith, leb-true (names + 1) places (and-snd (a && b) c abc));
       inside = leb-true (used + size) bytes (and-snd (a && b && c) d e);
