@@ -11,6 +11,10 @@ EPOCH = datetime.date(1970, 1, 1).toordinal()
 LAST = datetime.date(2554, 7, 21)
 
 
+def spelled(data):
+    return data.hex().upper() or "-"
+
+
 def day(year, month, day_of_month):
     return datetime.date(year, month, day_of_month).toordinal() - EPOCH
 
@@ -69,7 +73,7 @@ def yield_text(text, seen):
         sign = "+"
     except UnicodeDecodeError:
         sign = "-"
-    print("u", sign, " ".join(f"{b:02X}" for b in text))
+    print("u", sign, spelled(text))
 
 
 def numbers():
@@ -83,18 +87,14 @@ def numbers():
         ("+-1", "-", 1), ("1.0", "-", 1), ("18446744073709551616", "-", 10), ("9" * 40, "-", 9),
     ]
     for text, sign, value in cases:
-        print("n", sign, value, " ".join(f"{b:02X}" for b in text.encode()))
-    print("n - 1 31 C2 B2")
-    print("n - 0 D9 A1")
+        print("n", sign, value, spelled(text.encode()))
+    print("n - 1 31C2B2")
+    print("n - 0 D9A1")
 
 
 def record(kind=1, instrument=7, time=5, body=b"", length=None):
     whole = 16 + len(body) if length is None else length
     return whole.to_bytes(2, "little") + kind.to_bytes(2, "little") + instrument.to_bytes(4, "little") + time.to_bytes(8, "little") + body
-
-
-def spelled(data):
-    return " ".join(f"{b:02X}" for b in data)
 
 
 def frames():
@@ -131,7 +131,7 @@ def frames():
         print("r", number, *values, spelled(data))
 
 
-print("# The cases of vectors_leaves, made by tools/make_vectors_leaves.py")
+print("# The cases of vectors_leaves, made by tools/make_vectors_leaves.py. BYTES are hexadecimal, a - for none")
 dates()
 texts()
 numbers()

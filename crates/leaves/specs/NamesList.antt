@@ -1,21 +1,19 @@
 -- The list of names as a list: what stands at each number, what the least number is, and what a naming makes of the list. A new name joins
 -- at the end, the list stays well-formed, and no number is taken back.
 -- Assumes nothing.
-use Prim.Native.Nat.{ℕ, zero, suc, _+_, _-_, _≤_, _<_}
+use Prim.Native.Nat.{ℕ, zero, suc, _+_, _≤_, _<_}
 use mathlib.Core.List.{List, [], _∷_, _++_, append-assoc}
-use mathlib.Core.Bool.{Bool, true, false, cond, _&&_, false≢true}
+use mathlib.Core.Bool.{Bool, true, false, cond, false≢true}
 use mathlib.Core.Logic.{⊎-elim}
 use mathlib.Core.Path.{_≡_, refl, ap, ap₂, _∙_, sym, subst}
 use native.Mathlib.Omega.{arith}
-use native.Mathlib.Numerals.{add-one}
 use native.Mathlib.Nat.{add-zero, eq-or-lt-of-le}
-use borrow.Author.Tests.{le-leb, eqb-true, eq-eqb}
-use lib.Dec.{leb, ltb, eqb}
-use lib.ListN.{length, getD, set, take, drop, length-set, length-append, List·getD-append}
-use lib.Seq.{slice, paste, take-append-le, take-take, take-paste, length-paste, length-take-le, drop-at, take-length, getD-set-same, getD-set-other}
+use borrow.Author.Tests.{eqb-true, eq-eqb}
+use lib.Dec.{eqb}
+use lib.ListN.{length, getD, set, take, drop, length-set, List·getD-append}
+use lib.Seq.{slice, take-append-le, take-take, take-paste, length-paste, length-take-le, drop-at, take-length, getD-set-same, getD-set-other}
 use Rattle.leaves.specs.Names.{startOf, endOf, nameOf, namesFrom, namesOf, isName, wellFormed, memoryOk, same, least, naming, written}
 use Rattle.leaves.specs.NamesLaws.{Formed, Memory, Room, memory-so, start-next, well-formed, case-old, case-new}
-use Rattle.leaves.specs.declared.names.Naming.{Naming}
 use Rattle.leaves.specs.declared.names.Naming.the-variants.{Old, New}
 
 -- ---- what stands at each number

@@ -9,3 +9,10 @@ pub mod Rules
 pub mod Heap
 pub mod View
 pub mod Examples
+pub mod Sift
+pub mod Holds
+pub mod State
+pub mod StateLaws
+pub mod Steps
+pub mod Opening
+pub mod Calls

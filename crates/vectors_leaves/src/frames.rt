@@ -110,7 +110,8 @@ pub fn frame(text: &[u8], at: usize) -> bool {
     let place = cases::number_at(text, at);
     let expected = expected_at(text, place.next);
     let mut bytes = room();
-    let n = cases::bytes_at(text, expected.next, &mut bytes);
+    let word = cases::bytes_at(text, expected.next, &mut bytes);
+    let n = word.count;
     are_same(
         of_frame(leaves::frame::frame_at(&bytes[..n], place.value)),
         expected.answer,
@@ -121,7 +122,8 @@ pub fn frame(text: &[u8], at: usize) -> bool {
 pub fn mapping(text: &[u8], at: usize) -> bool {
     let expected = expected_at(text, at);
     let mut bytes = room();
-    let n = cases::bytes_at(text, expected.next, &mut bytes);
+    let word = cases::bytes_at(text, expected.next, &mut bytes);
+    let n = word.count;
     are_same(
         of_mapping(leaves::frame::read_mapping(&bytes[..n])),
         expected.answer,

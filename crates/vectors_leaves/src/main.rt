@@ -3,6 +3,7 @@
 // means. A case that is answered otherwise than expected is printed. Names are tried by calls.
 mod dates;
 mod frames;
+mod names;
 mod texts;
 
 ghost use mathlib.Core.Path.{_≡_};
@@ -66,4 +67,5 @@ fn main() {
     run(b"number texts", text, b'n');
     run(b"frames", text, b'f');
     run(b"single records", text, b'r');
+    names::run();
 }

@@ -15,7 +15,8 @@ pub fn utf8(text: &[u8], at: usize) -> bool {
     let sign = cases::past_blanks(text, at);
     let expected = cases::byte_at(text, sign) == b'+';
     let mut bytes = room();
-    let n = cases::bytes_at(text, cases::past(text, sign), &mut bytes);
+    let word = cases::bytes_at(text, cases::past(text, sign), &mut bytes);
+    let n = word.count;
     leaves::utf8::is_utf8(&bytes[..n]) == expected
 }
 
@@ -24,7 +25,8 @@ pub fn number(text: &[u8], at: usize) -> bool {
     let sign = cases::past_blanks(text, at);
     let expected = cases::number_at(text, cases::past(text, sign));
     let mut bytes = room();
-    let n = cases::bytes_at(text, expected.next, &mut bytes);
+    let word = cases::bytes_at(text, expected.next, &mut bytes);
+    let n = word.count;
     match leaves::number_text::number(&bytes[..n]) {
         Reading::Value(v) => cases::byte_at(text, sign) == b'+' && v as u64 == expected.value,
         Reading::Stuck(place) => cases::byte_at(text, sign) == b'-'
