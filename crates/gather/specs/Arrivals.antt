@@ -7,7 +7,7 @@ use native.Mathlib.Decide.{decLe, ℕ-discrete}
 use native.Mathlib.Numerals.{add-one}
 use mathlib.Core.Bool.{Bool, true, false, cond}
 use mathlib.Core.List.{List, [], _∷_, _++_}
-use lib.ListN.{length, getD, set, take, drop, length-set, length-append, length-take}
+use lib.ListN.{length, getD, set, take, drop, length-set, length-append, length-take, replicate, length-replicate, getD-replicate}
 use lib.Seq.{getD-set-same, getD-set-other, take-suc, take-suc-set, length-take-le, set-split, set-out}
 use lib.Dec.{eqb, ltb}
 use borrow.Author.Tests.{lt-ltb, le-ltb}
@@ -180,6 +180,11 @@ unfolding NotYet
 found-none xs x n i l f h =
     let k = length-take-le n xs l in
     sym (index-none (take n xs) x (λ j g p. f j (omega arith) (sym (front-same xs n j (omega arith)) ∙ p)) ∙ k)
+
+-- with no arrivals every mark is 0
+pub marked-none : (k : ℕ) → Marked (replicate k 0) []
+unfolding Marked markOf indexOf
+marked-none k = λ x h. let l = length-replicate {A = ℕ} k 0 in getD-replicate k x 0 0 (omega arith)
 
 -- ---- one more
 

@@ -42,7 +42,7 @@ rest-list m v off t p c d h =
     let z : (p + c) - p ≡ countAt m t = omega arith in
     rw (z, d) refl
 
-list-length : (m v off : List ℕ) (t : ℕ) → length (listAt m v off t) ≡ countAt m t
+pub list-length : (m v off : List ℕ) (t : ℕ) → length (listAt m v off t) ≡ countAt m t
 list-length m v off t =
     let r = rest-length v (getD off t 0) (getD off t 0 + countAt m t) in
     let e : length (rest v (getD off t 0) (getD off t 0 + countAt m t)) ≡ length (listAt m v off t) = ap length (rest-list m v off t _ _ refl refl) in
