@@ -5,3 +5,4 @@ pub mod Name
 pub mod Names
 pub mod NamesLaying
 pub mod NamesWhole
+pub mod NamesWords

@@ -85,7 +85,7 @@ put-words p r a b c k x h =
     ∙ set-at (p ++ x .start ∷ x .end ∷ []) c r (x .symbol) (3 * k + 2) (simp length-append (omega arith))
     ∙ append-assoc p (x .start ∷ x .end ∷ []) (x .symbol ∷ r)
 
-lay-words : (xs : List Interval) (p w r : List ℕ) (k : ℕ) → length p ≡ 3 * k → length w ≡ 3 * length xs → lay (p ++ (w ++ r)) k xs ≡ p ++ (wordsOf xs ++ r)
+pub lay-words : (xs : List Interval) (p w r : List ℕ) (k : ℕ) → length p ≡ 3 * k → length w ≡ 3 * length xs → lay (p ++ (w ++ r)) k xs ≡ p ++ (wordsOf xs ++ r)
 unfolding lay wordsOf
 lay-words [] p [] r k h n = refl
 lay-words [] p (a ∷ w) r k h n = absurd (omega arith)
