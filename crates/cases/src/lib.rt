@@ -9,12 +9,17 @@ pub struct Token {
     pub next: usize,
 }
 
-// No number of a case is larger; a longer row of digits is cut here.
-const LARGE: u64 = 1000000000000000000;
+// The largest number; a row of digits that would pass it is cut there.
+const LARGEST: u64 = 18446744073709551615;
 
 // The byte at a place; past the end it is the end of a line.
 pub fn byte_at(text: &[u8], at: usize) -> u8 {
     if at < text.len() { text[at] } else { b'\n' }
+}
+
+// The place after one; at the end it is the end.
+pub fn past(text: &[u8], at: usize) -> usize {
+    if at < text.len() { at + 1 } else { at }
 }
 
 // Where the line that a place stands in ends.
@@ -29,6 +34,14 @@ pub fn line_end(text: &[u8], at: usize) -> usize
         i += 1;
     }
     i
+}
+
+// Where the line after the one that a place stands in begins.
+pub fn next_line(text: &[u8], at: usize) -> usize
+    ensures { λ r. do ⌜ (at < (← ⟦text.len()⟧ .entry) → at < r) ⌝ }
+{
+    let end = line_end(text, at);
+    if end < text.len() { end + 1 } else { end }
 }
 
 // The place of the first byte from a place on that is no blank.
@@ -75,10 +88,14 @@ pub fn number_at(text: &[u8], at: usize) -> Token {
         if 10 <= d {
             return Token { value, next: i };
         }
-        if LARGE <= value {
+        if LARGEST / 10 < value {
             return Token { value, next: i };
         }
-        value = value * 10 + d;
+        let tens = value * 10;
+        if LARGEST - tens < d {
+            return Token { value, next: i };
+        }
+        value = tens + d;
         i += 1;
     }
     Token { value, next: i }
@@ -129,7 +146,7 @@ pub fn bytes_at(text: &[u8], at: usize, out: &mut [u8]) -> usize
 
 // One case more.
 pub fn one_more(n: u64) -> u64 {
-    if n < LARGE { n + 1 } else { n }
+    if n < LARGEST { n + 1 } else { n }
 }
 
 // Prints a group's line: its name, how many cases it had and how many of them were answered otherwise than expected.

@@ -1,1 +1,14 @@
+pub mod Frame
+pub mod FrameLaws
 pub mod Refusal
+pub mod Calendar
+pub mod Days
+pub mod CalendarLaws
+pub mod CalendarDates
+pub mod DaysLaws
+pub mod Utf8
+pub mod Utf8Laws
+pub mod NumberText
+pub mod NumberTextLaws
+pub mod Names
+pub mod NamesLaws

@@ -3,3 +3,4 @@ pub mod Runs
 pub mod RunsTools
 pub mod RunsOverwrite
 pub mod RunsLongest
+pub mod Fields

@@ -1,0 +1,11 @@
+pub mod Machine
+pub mod Least
+pub mod Bytes
+pub mod Kept
+pub mod Order
+pub mod Whole
+pub mod Literal
+pub mod Rules
+pub mod Heap
+pub mod View
+pub mod Examples

@@ -1,0 +1,15 @@
+pub mod Table
+pub mod Tests
+pub mod Groups
+pub mod Splice
+pub mod RowSplice
+pub mod Cuts
+pub mod Lookup
+pub mod Places
+pub mod Rules
+pub mod History
+pub mod Memory
+pub mod MemoryLaws
+pub mod Moves
+pub mod Search
+pub mod Pieces
