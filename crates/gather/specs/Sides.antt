@@ -156,7 +156,7 @@ picked-counted m v off ps n f (suc k) p z =
 abbrev pub Offs : List ℕ → List ℕ → ℕ → Type 0
 Offs m off n = (t : ℕ) → t < n → getD off t 0 ≡ before m t
 
-placed-flat : (m v off : List ℕ) (n : ℕ) → Offs m off n → placedFrom m v off 0 n ≡ mappingsFrom m v 0 0 n
+pub placed-flat : (m v off : List ℕ) (n : ℕ) → Offs m off n → placedFrom m v off 0 n ≡ mappingsFrom m v 0 0 n
 unfolding before
 placed-flat m v off n f = flat-same m v off n f n 0 (omega arith)
 
