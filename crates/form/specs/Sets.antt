@@ -31,3 +31,7 @@ unfolding once
 all-united a b t c t' at g count t'' at' h =
     let e : addAll (take c t') b ≡ addAll (once a) b = ap (λ (l : List ℕ). addAll l b) (g .stand) in
     record { how-many = h .how-many ∙ ap length e; stand = h .stand ∙ e }
+
+pub all-alone : (a t : List ℕ) (count : ℕ) (t' at : List ℕ) → AllAdded (addAll (take 0 t) a) count t' at → AllUnited a [] count t'
+unfolding once addAll
+all-alone a t count t' at g = record { how-many = g .how-many; stand = g .stand }

@@ -3,6 +3,7 @@ use gather::arrivals::add_all;
 use judge::entries_known;
 ghost use mathlib.Core.Path.{_≡_};
 ghost use mathlib.Core.Bool.{_&&_};
+ghost use mathlib.Core.List.{[]};
 ghost use Prim.Native.Nat.{_+_, _<_, _≤_};
 ghost use lib.ListN.{length, take};
 ghost use Rattle.merging.specs.Metadata.{every};
@@ -23,6 +24,15 @@ pub fn together(a: &[u32], n: usize, b: &[u32], m: usize, t: &mut [u32]) -> usiz
     let mut at = [0u32; 4096];
     let c = add_all(t, 0, &mut at, a, n);
     add_all(t, c, &mut at, b, m)
+}
+
+// The first n of a, each entry once, at the front of t; answers how many.
+pub fn alone(a: &[u32], n: usize, t: &mut [u32]) -> usize
+    requires { ⌜ (n ≤ length (now a)) × (n ≤ length (now t)) × (length (now t) < 4294967296) ⌝ }
+    ensures { λ r. ⌜ AllUnited (take n (now (a .entry))) [] r (now (t .exit)) ⌝ }
+{
+    let mut at = [0u32; 4096];
+    add_all(t, 0, &mut at, a, n)
 }
 
 // Whether each entry of both sides was handed out.

@@ -127,7 +127,7 @@ read-back ms rm rv = mappings-read ms [] rm [] rv 0 0 (omega arith) (omega arith
 
 -- ---- tests over words are tests over mappings
 
-every-append : {X : Type 0} (p : X → Bool) (xs ys : List X) → every p (xs ++ ys) ≡ (every p xs && every p ys)
+pub every-append : {X : Type 0} (p : X → Bool) (xs ys : List X) → every p (xs ++ ys) ≡ (every p xs && every p ys)
 unfolding every
 every-append p [] ys = refl
 every-append p (x ∷ xs) ys = ap (λ (b : Bool). p x && b) (every-append p xs ys) ∙ and-assoc (p x) (every p xs) (every p ys)
