@@ -20,7 +20,7 @@ import model  # noqa: E402
 import traps  # noqa: E402
 from answer import words  # noqa: E402
 
-KINDS = ["check", "insert", "get_for_ts", "check_point", "get_point", "on_record", "on_record_point"]
+KINDS = ["check", "insert", "get_for_ts", "check_point", "get_point"]
 LONGEST = 1500
 NAMES = 3
 ROOM = 8
@@ -68,7 +68,7 @@ for _, (case, said) in traps.traps():
         show(case, said)
 rng = random.Random(1)
 for faults in (0, 0.3):
-    for part in (lent.table_case, lent.point_case, lent.record_case):
+    for part in (lent.table_case, lent.point_case):
         for _ in range(60):
             case = part(rng, faults)
             if is_served(case):

@@ -1,5 +1,7 @@
 // Runs the cases that stand on standard input over the maps, and prints a line for each kind of them. The data itself says
-// what a line means; a case that is answered otherwise than expected is printed.
+// what a line means; a case that is answered otherwise than expected is printed. Mapping calls are tried by calls.
+mod mappings;
+mod points;
 mod tables;
 
 ghost use mathlib.Core.Path.{_≡_};
@@ -19,6 +21,10 @@ const INSERT: u8 = 1;
 
 const GET_FOR_TS: u8 = 2;
 
+const CHECK_POINT: u8 = 3;
+
+const GET_POINT: u8 = 4;
+
 // Whether the case that a line holds, from a place behind its kind on, is answered as expected.
 fn is_right(text: &[u8], at: usize, kind: u8) -> bool {
     if kind == CHECK {
@@ -29,6 +35,12 @@ fn is_right(text: &[u8], at: usize, kind: u8) -> bool {
     }
     if kind == GET_FOR_TS {
         return tables::get_for_ts(text, at);
+    }
+    if kind == CHECK_POINT {
+        return points::check(text, at);
+    }
+    if kind == GET_POINT {
+        return points::get(text, at);
     }
     false
 }
@@ -58,4 +70,7 @@ fn main() {
     run(text, b"check", CHECK);
     run(text, b"insert", INSERT);
     run(text, b"get_for_ts", GET_FOR_TS);
+    run(text, b"check_point", CHECK_POINT);
+    run(text, b"get_point", GET_POINT);
+    mappings::run();
 }

@@ -7,7 +7,7 @@ ghost use mathlib.Core.Path.{_≡_};
 ghost use lib.ListN.{length};
 
 // Room for the lent bytes of one case.
-fn room() -> [u8; 2048]
+pub fn room() -> [u8; 2048]
     ensures { λ r. ⌜ 2048 ≡ length r ⌝ }
 {
     [0; 2048]
@@ -37,7 +37,7 @@ struct Asked {
     next: usize,
 }
 
-fn narrow(n: u64) -> u32 {
+pub fn narrow(n: u64) -> u32 {
     if n <= 4294967295 {
         n as u32
     } else {
