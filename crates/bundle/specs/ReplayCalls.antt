@@ -4,9 +4,10 @@ use mathlib.Core.Logic.{_≢_}
 use Prim.Native.Nat.{ℕ, zero, suc, _-_, _+_, _*_, _≤_, _<_}
 use native.Mathlib.Omega.{arith}
 use mathlib.Core.List.{List, [], _∷_}
-use lib.ListN.{length, getD, take, replicate}
+use lib.ListN.{length, getD, take, drop, replicate, length-append}
 use lib.Seq.{length-take-le}
-use mathlib.Core.Bool.{Bool, true, _&&_}
+use mathlib.Core.Bool.{Bool, true, false, _&&_, cond}
+use lib.Dec.{ltb}
 use borrow.Author.Tests.{le-leb, eq-eqb, lt-ltb, le-ltb}
 use mathlib.Core.Option.{none}
 use Rattle.theory.specs.Answer as theory
@@ -16,7 +17,7 @@ use Rattle.machine.specs.Kept.{total}
 use Rattle.machine.specs.View.{tab, statusesOf}
 use Rattle.machine.specs.State.{answerOf, rightMemory, riseTo, rightStreams, padded, opening, StateOk, Opened}
 use Rattle.bundle.specs.Sections.{streamsIn, Apart}
-use Rattle.bundle.specs.Lines.{recordLine, damageLine, endLine, badLine, Lays}
+use Rattle.bundle.specs.Lines.{recordLine, damageLine, endLine, badLine, laid, Lays}
 use Rattle.bundle.specs.LinesLaws.{lays-same}
 use Rattle.bundle.specs.Replay.{lineOf, textOf, replayText, replayAnswer, replayLaid}
 use Rattle.bundle.specs.ReplayLaws.{linesLeft, left-says, Writing, writing-start, writing-says, writing-end, cs-cuts, apart-text, apart-room}
@@ -286,3 +287,16 @@ unfolding replayAnswer replayLaid
 replay-laid bundle {text} {text'} {r} h l =
     let e : r ≡ length (replayText bundle) = omega (arith, l .behind) in
     (rw (le-ltb (length text) 252441 h) (ap (λ (k : ℕ). theory.answer 0 (k ∷ [])) e), rw (le-ltb (length text) 252441 h) (l .whole))
+
+-- a text that was laid is no longer than what it was laid in
+pub text-fits : (bundle text text' : List ℕ) (n : ℕ) → theory.answer 0 (n ∷ []) ≡ replayAnswer bundle (length text) → text' ≡ replayLaid bundle text
+    → length text' ≡ length text → n ≤ length text'
+unfolding replayAnswer replayLaid laid
+text-fits bundle text text' n e l k = go (ltb (length text) 252441) e l
+  where
+    go : (b : Bool) → theory.answer 0 (n ∷ []) ≡ cond b (theory.answer 15 []) (theory.answer 0 (length (replayText bundle) ∷ []))
+        → text' ≡ cond b text (laid text 0 (replayText bundle)) → n ≤ length text'
+    go true e′ l′ = let z : _≡_ {A = ℕ} 0 15 = cc in absurd (omega arith)
+    go false e′ l′ =
+        let w : n ≡ length (replayText bundle) = cc in
+        omega (arith, ap length l′, length-append (replayText bundle) (drop (0 + length (replayText bundle)) text))
