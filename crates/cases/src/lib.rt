@@ -9,12 +9,17 @@ pub struct Token {
     pub next: usize,
 }
 
-// No number of a case is larger; a longer row of digits is cut here.
-const LARGE: u64 = 1000000000000000000;
+// The largest number; a row of digits that would pass it is cut there.
+const LARGEST: u64 = 18446744073709551615;
 
 // The byte at a place; past the end it is the end of a line.
 pub fn byte_at(text: &[u8], at: usize) -> u8 {
     if at < text.len() { text[at] } else { b'\n' }
+}
+
+// The place after one; at the end it is the end.
+pub fn past(text: &[u8], at: usize) -> usize {
+    if at < text.len() { at + 1 } else { at }
 }
 
 // Where the line that a place stands in ends.
@@ -29,6 +34,14 @@ pub fn line_end(text: &[u8], at: usize) -> usize
         i += 1;
     }
     i
+}
+
+// Where the line after the one that a place stands in begins.
+pub fn next_line(text: &[u8], at: usize) -> usize
+    ensures { λ r. do ⌜ (at < (← ⟦text.len()⟧ .entry) → at < r) ⌝ }
+{
+    let end = line_end(text, at);
+    if end < text.len() { end + 1 } else { end }
 }
 
 // The place of the first byte from a place on that is no blank.
@@ -49,7 +62,7 @@ fn wide(b: u8) -> u64
     b as u64
 }
 
-// What a digit stands for, decimal or hexadecimal in capitals; 16 where the byte is none.
+// What a digit stands for, decimal or hexadecimal; 16 where the byte is none.
 fn digit(b: u8) -> u64
     ensures { λ r. ⌜ r < 17 ⌝ }
 {
@@ -63,7 +76,42 @@ fn digit(b: u8) -> u64
     if n < 17 {
         return 16;
     }
-    if n < 23 { n - 7 } else { 16 }
+    if n < 23 {
+        return n - 7;
+    }
+    if n < 49 {
+        return 16;
+    }
+    if n < 55 { n - 39 } else { 16 }
+}
+
+// Where the word that a place stands in ends: at a blank, or at the line's end.
+pub fn word_end(text: &[u8], at: usize) -> usize {
+    let mut i = at;
+    while i < text.len() {
+        if text[i] == b' ' {
+            return i;
+        }
+        if text[i] == b'\n' {
+            return i;
+        }
+        i += 1;
+    }
+    i
+}
+
+// Whether the word at a place is this one.
+pub fn is_word(text: &[u8], at: usize, word: &[u8]) -> bool {
+    let mut place = at;
+    let mut i = 0;
+    while i < word.len() {
+        if byte_at(text, place) != word[i] {
+            return false;
+        }
+        place = past(text, place);
+        i += 1;
+    }
+    place == word_end(text, place)
 }
 
 // The decimal number at a place, blanks before it passed over; 0 where no digit stands there.
@@ -75,10 +123,14 @@ pub fn number_at(text: &[u8], at: usize) -> Token {
         if 10 <= d {
             return Token { value, next: i };
         }
-        if LARGE <= value {
+        if LARGEST / 10 < value {
             return Token { value, next: i };
         }
-        value = value * 10 + d;
+        let tens = value * 10;
+        if LARGEST - tens < d {
+            return Token { value, next: i };
+        }
+        value = tens + d;
         i += 1;
     }
     Token { value, next: i }
@@ -108,28 +160,57 @@ fn pair_at(text: &[u8], at: usize) -> u64
     if 16 <= low { 256 } else { high * 16 + low }
 }
 
-// The bytes that pairs of hexadecimal digits spell from a place on, blanks between them; answers how many were put into out.
-pub fn bytes_at(text: &[u8], at: usize, out: &mut [u8]) -> usize
-    ensures { λ r. ⌜ Counts r (now (out .exit)) ⌝ }
+// Bytes read from the text: how many, and the place after them.
+pub struct Word {
+    pub count: usize,
+    pub next: usize,
+}
+
+// The bytes that a word of hexadecimal digits at a place spells, blanks before it passed over, put into out; a `-` is no byte.
+pub fn bytes_at(text: &[u8], at: usize, out: &mut [u8]) -> Word
+    ensures { λ r. ⌜ Counts (r .count) (now (out .exit)) ⌝ }
 {
-    let mut i = at;
+    let mut i = past_blanks(text, at);
     let mut n = 0;
     while n < out.len() {
-        let from = past_blanks(text, i);
-        let b = pair_at(text, from);
+        let b = pair_at(text, i);
         if 256 <= b {
-            return n;
+            return Word {
+                count: n,
+                next: past_dash(text, i),
+            };
         }
         out[n] = low_byte(b);
         n += 1;
-        i = from + 2;
+        i += 2;
     }
-    n
+    Word { count: n, next: i }
+}
+
+// The place after a `-`, or the place itself.
+fn past_dash(text: &[u8], at: usize) -> usize {
+    if byte_at(text, at) == b'-' {
+        past(text, at)
+    } else {
+        at
+    }
+}
+
+// The place after the next `=`, or the text's end.
+pub fn past_equals(text: &[u8], at: usize) -> usize {
+    let mut i = at;
+    while i < text.len() {
+        if text[i] == b'=' {
+            return i + 1;
+        }
+        i += 1;
+    }
+    i
 }
 
 // One case more.
 pub fn one_more(n: u64) -> u64 {
-    if n < LARGE { n + 1 } else { n }
+    if n < LARGEST { n + 1 } else { n }
 }
 
 // Prints a group's line: its name, how many cases it had and how many of them were answered otherwise than expected.

@@ -15,3 +15,4 @@ pub mod State
 pub mod StateLaws
 pub mod Steps
 pub mod Opening
+pub mod Calls

@@ -171,3 +171,34 @@ pub run-calls : (b : ℕ → Stream) (hs : List ℕ) → length (run b hs) ≡ s
 unfolding run
 run-calls b hs =
     calls (suc (bytes b (length hs))) b (start hs) (omega (arith, total-start b hs)) ∙ ap suc (total-counted b hs)
+
+-- ---- the answers from a state on, with no count: what a loop over `next` cites
+
+pub run-same : (f g : ℕ) (b : ℕ → Stream) (ss : List Status) → total b ss < f → total b ss < g → runF f b ss ≡ runF g b ss
+unfolding runF upTo answer rest size
+run-same zero g b ss h k = absurd (omega arith)
+run-same (suc f) zero b ss h k = absurd (omega arith)
+run-same (suc f) (suc g) b ss h k = go (next b ss) (next-ok b ss) (λ ss' i j. run-same f g b ss' i j)
+  where
+    go : (r : Turn) → TurnOk b ss r → ((ss' : List Status) → total b ss' < f → total b ss' < g → runF f b ss' ≡ runF g b ss')
+        → upTo (answer r) (runF f b (rest r)) ≡ upTo (answer r) (runF g b (rest r))
+    go (turn (says q y) ss') (z, c) ih = ap (λ (xs : List Answer). says q y ∷ xs) (ih ss' (omega (arith, z .less)) (omega (arith, z .less)))
+    go (turn end ss') (z, c) ih = refl
+
+-- the answers of call after call, up to the first end
+unfoldable pub allFrom : (ℕ → Stream) → List Status → List Answer
+unfolding runF total
+allFrom b ss = runF (suc (total b ss)) b ss
+
+pub all-step : (b : ℕ → Stream) (ss : List Status) → allFrom b ss ≡ upTo (answer (next b ss)) (allFrom b (rest (next b ss)))
+unfolding allFrom runF upTo answer rest size
+all-step b ss = go (next b ss) (next-ok b ss)
+  where
+    go : (r : Turn) → TurnOk b ss r → upTo (answer r) (runF (total b ss) b (rest r)) ≡ upTo (answer r) (runF (suc (total b (rest r))) b (rest r))
+    go (turn (says q y) ss') (z, c) =
+        ap (λ (xs : List Answer). says q y ∷ xs) (run-same (total b ss) (suc (total b ss')) b ss' (omega (arith, z .less)) (omega arith))
+    go (turn end ss') (z, c) = refl
+
+pub run-all : (b : ℕ → Stream) (hs : List ℕ) → run b hs ≡ allFrom b (start hs)
+unfolding run allFrom
+run-all b hs = run-same (suc (bytes b (length hs))) (suc (total b (start hs))) b (start hs) (omega (arith, total-start b hs)) (omega arith)

@@ -15,14 +15,17 @@ Inv-loop text at out₀ i₀ n₀ out i n = (n ≤ length out) × (length out �
 abbrev μ-loop : tie.MeasureT-loop
 μ-loop text at out₀ i₀ n₀ out i n = length out - n
 
-loop-holds : tie.Need-loop-holds Inv-loop μ-loop
-loop-holds c = search needs
-
 past-blanks-requires : tie.Need-past-blanks-requires Inv-loop μ-loop
 past-blanks-requires c κs = search needs
 
+loop-holds : tie.Need-loop-holds Inv-loop μ-loop
+loop-holds c = search needs
+
 pair-at-requires : tie.Need-pair-at-requires Inv-loop μ-loop
 pair-at-requires c κs = search needs
+
+past-dash-requires : tie.Need-past-dash-requires Inv-loop μ-loop
+past-dash-requires c κs = search needs
 
 same-length : tie.Need-same-length Inv-loop μ-loop
 same-length c = search needs
@@ -60,9 +63,10 @@ bytes-at-spec =
     (tie.spec
     Inv-loop
     μ-loop
-    loop-holds
     past-blanks-requires
+    loop-holds
     pair-at-requires
+    past-dash-requires
     same-length
     returns
     low-byte-requires

@@ -1,13 +1,12 @@
--- `cases::number_at` meets its contract. The invariant: a value that takes one more digit stays below ten times the largest, so no step wraps.
--- The measure is what is left of the text. Assumes nothing.
-use Prim.Native.Nat.{_<_, _-_}
+-- `cases::number_at` meets its contract: a step is taken only where it fits, so none wraps. The measure is what is left of the text. Assumes nothing.
+use Prim.Native.Nat.{_-_}
 use lib.ListN.{length}
 use borrow.Author.Needs.{needs}
 use Rattle.cases.proofs.number_at.Statement.{statement}
 use Rattle.cases.proofs.number_at.Tie as tie
 
 abbrev Inv-loop : tie.InvT-loop
-Inv-loop text at i₀ value₀ i value = (value < 10000000000000000010)
+Inv-loop text at i₀ value₀ i value = Unit {0}
 
 abbrev μ-loop : tie.MeasureT-loop
 μ-loop text at i₀ value₀ i value = length text - i
@@ -30,8 +29,14 @@ returns c = search needs
 returns-2 : tie.Need-returns-2 Inv-loop μ-loop
 returns-2 c = search needs
 
-mul-value : tie.Need-mul-value Inv-loop μ-loop
-mul-value c = search needs
+mul-tens : tie.Need-mul-tens Inv-loop μ-loop
+mul-tens c = search needs
+
+sub-if3 : tie.Need-sub-if3 Inv-loop μ-loop
+sub-if3 c = search needs
+
+returns-3 : tie.Need-returns-3 Inv-loop μ-loop
+returns-3 c = search needs
 
 add-value : tie.Need-add-value Inv-loop μ-loop
 add-value c = search needs
@@ -45,8 +50,8 @@ loop-less c = search needs
 loop-again : tie.Need-loop-again Inv-loop μ-loop
 loop-again c = search needs
 
-returns-3 : tie.Need-returns-3 Inv-loop μ-loop
-returns-3 c = search needs
+returns-4 : tie.Need-returns-4 Inv-loop μ-loop
+returns-4 c = search needs
 
 pub number-at-spec : {M : Type 1} → statement M
 number-at-spec =
@@ -60,9 +65,11 @@ number-at-spec =
     digit-requires
     returns
     returns-2
-    mul-value
+    mul-tens
+    sub-if3
+    returns-3
     add-value
     add-i
     loop-less
     loop-again
-    returns-3)
+    returns-4)

@@ -1,0 +1,2 @@
+-- What the proofs of more than one function of `days` use.
+mod Method

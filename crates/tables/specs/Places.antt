@@ -1,0 +1,146 @@
+-- A lookup by places in the table: where an instrument's rows begin, and how far the moment reaches.
+-- Assumes nothing.
+use mathlib.Core.Path.{_≡_, refl, sym, ap, _∙_}
+use mathlib.Core.Logic.{_≢_}
+use Prim.Native.Nat.{ℕ, zero, suc, _+_, _≤_, _<_}
+use native.Mathlib.Nat.{le-refl, zero-add, suc-add}
+use native.Mathlib.Decide.{decLe}
+use native.Mathlib.Omega.{arith}
+use mathlib.Core.Bool.{cond}
+use mathlib.Core.Option.{Option, none, some}
+use mathlib.Core.List.{List, [], _∷_}
+use lib.ListN.{length, getD, getElem?}
+use lib.Dec.{ltb, eqb, eqb-refl, not-T}
+use mir.Facts.{eqb-yes}
+use Rattle.theory.specs.Runs.{Interval}
+use Rattle.theory.specs.RunsTools.{cond-yes, cond-no, cond-lt, cond-ge, Order, less, equal, more, order}
+use Rattle.tables.specs.Table.{Row, intervalOf, picked, group}
+use Rattle.tables.specs.Groups.{picked-own, picked-other, group-none, Least, least-le, Sorted}
+use Rattle.tables.specs.Lookup.{started}
+
+module _ {A : Type 0} where
+  -- the interval of a row, if it is of the instrument
+  unfoldable pub own : ℕ → Option (Row A) → Option (Interval A)
+  own i none = none
+  own i (some x) = cond (eqb (x .instrument) i) (some (intervalOf x)) none
+
+  -- how many rows come first that are of a lower instrument
+  unfoldable pub lower : ℕ → List (Row A) → ℕ
+  lower i [] = 0
+  lower i (x ∷ xs) = let c = lower i xs in cond (ltb (x .instrument) i) (suc c) 0
+
+  -- how many come first that are of a lower one, or of this one and start at the moment or before
+  unfoldable pub upper : ℕ → ℕ → List (Row A) → ℕ
+  upper i m [] = 0
+  upper i m (x ∷ xs) =
+      let c = upper i m xs in
+      cond (ltb (x .instrument) i) (suc c) (cond (ltb i (x .instrument)) 0 (cond (ltb m (x .start)) 0 (suc c)))
+
+  pub own-yes : (i : ℕ) (x : Row A) → x .instrument ≡ i → own i (some x) ≡ some (intervalOf x)
+  unfolding own
+  own-yes i x e = cond-yes (eqb (x .instrument) i) _ _ (rw e (eqb-refl i))
+
+  pub own-no : (i : ℕ) (x : Row A) → x .instrument ≢ i → own i (some x) ≡ none
+  unfolding own
+  own-no i x d = cond-no (eqb (x .instrument) i) _ _ (not-T (eqb (x .instrument) i) (λ t. d (eqb-yes t)))
+
+  own-high : (i : ℕ) (xs : List (Row A)) → Sorted xs → Least (suc i) xs → (k : ℕ) → own i (getElem? xs k) ≡ none
+  unfolding own
+  own-high i [] s l k = refl
+  own-high i (x ∷ xs) s l zero = own-no i x (omega arith)
+  own-high i (x ∷ xs) s l (suc k) = own-high i xs (s .1) (least-le (suc i) (x .instrument) xs l (s .0)) k
+
+  lower-none : (i : ℕ) (xs : List (Row A)) → Least i xs → lower i xs ≡ 0
+  unfolding lower
+  lower-none i [] l = refl
+  lower-none i (x ∷ xs) l = cond-ge (x .instrument) i _ 0 l
+
+  -- an instrument's interval number k is the row number k from where its rows begin
+  pub group-place : (i : ℕ) (xs : List (Row A)) → Sorted xs → (k : ℕ) → getElem? (group i xs) k ≡ own i (getElem? xs (lower i xs + k))
+  unfolding group lower own
+  group-place i [] s k = refl
+  group-place i (x ∷ xs) s k = go (order (x .instrument) i) k (group-place i xs (s .1))
+    where
+      go : Order (x .instrument) i → (k : ℕ) → ((j : ℕ) → getElem? (group i xs) j ≡ own i (getElem? xs (lower i xs + j)))
+          → getElem? (picked i x (group i xs)) k ≡ own i (getElem? (x ∷ xs) (lower i (x ∷ xs) + k))
+      go (less h) k f =
+          rw (picked-other i x (group i xs) (omega arith), cond-lt (x .instrument) i (suc (lower i xs)) 0 h, suc-add (lower i xs) k) (f k)
+      go (equal h) zero f =
+          rw (picked-own i x (group i xs) h, cond-ge (x .instrument) i (suc (lower i xs)) 0 (omega arith)) (sym (own-yes i x h))
+      go (equal h) (suc k) f =
+          let l : Least i xs = rw (← h) (s .0) in
+          let z : lower i xs + k ≡ k = ap (λ (c : ℕ). c + k) (lower-none i xs l) ∙ zero-add k in
+          rw (picked-own i x (group i xs) h, cond-ge (x .instrument) i (suc (lower i xs)) 0 (omega arith), zero-add (suc k)) (f k ∙ ap (λ (j : ℕ). own i (getElem? xs j)) z)
+      go (more h) k f =
+          rw (group-none i (x .instrument) (x ∷ xs) s (le-refl (x .instrument)) h, cond-ge (x .instrument) i (suc (lower i xs)) 0 (omega arith), zero-add k)
+          (sym (own-high i (x ∷ xs) s h k))
+
+  -- the runs that have started, by places
+  pub started-place : (i m : ℕ) (xs : List (Row A)) → Sorted xs → upper i m xs ≡ lower i xs + started (group i xs) m
+  unfolding group lower upper started
+  started-place i m [] s = refl
+  started-place i m (x ∷ xs) s = go (order (x .instrument) i) (started-place i m xs (s .1))
+    where
+      go : Order (x .instrument) i → upper i m xs ≡ lower i xs + started (group i xs) m → upper i m (x ∷ xs) ≡ lower i (x ∷ xs) + started (picked i x (group i xs)) m
+      go (less h) e =
+          let u : upper i m (x ∷ xs) ≡ suc (upper i m xs) = cond-lt (x .instrument) i _ _ h in
+          let l : lower i (x ∷ xs) ≡ suc (lower i xs) = cond-lt (x .instrument) i _ _ h in
+          let g : started (picked i x (group i xs)) m ≡ started (group i xs) m = ap (λ (rs : List (Interval A)). started rs m) (picked-other i x (group i xs) (omega arith)) in
+          u ∙ (let d : suc (upper i m xs) ≡ suc (lower i xs) + started (group i xs) m = omega arith in d) ∙ sym (λ q. l q + g q)
+      go (equal h) e = by (decLe (x .start) m)
+        where
+          l : lower i (x ∷ xs) ≡ 0
+          l = cond-ge (x .instrument) i _ _ (omega arith)
+
+          z : lower i xs ≡ 0
+          z = lower-none i xs (rw (← h) (s .0))
+
+          u : upper i m (x ∷ xs) ≡ cond (ltb m (x .start)) 0 (suc (upper i m xs))
+          u = cond-ge (x .instrument) i _ _ (omega arith) ∙ cond-ge i (x .instrument) _ _ (omega arith)
+
+          g : started (picked i x (group i xs)) m ≡ cond (ltb m (x .start)) 0 (suc (started (group i xs) m))
+          g = ap (λ (rs : List (Interval A)). started rs m) (picked-own i x (group i xs) h)
+
+          by : Dec (x .start ≤ m) → upper i m (x ∷ xs) ≡ lower i (x ∷ xs) + started (picked i x (group i xs)) m
+          by (yes k) =
+              let a : upper i m (x ∷ xs) ≡ suc (upper i m xs) = u ∙ cond-ge m (x .start) _ _ k in
+              let b : started (picked i x (group i xs)) m ≡ suc (started (group i xs) m) = g ∙ cond-ge m (x .start) _ _ k in
+              a ∙ (let d : suc (upper i m xs) ≡ 0 + suc (started (group i xs) m) = omega (arith, z) in d) ∙ sym (λ q. l q + b q)
+          by (no k) =
+              let a : upper i m (x ∷ xs) ≡ 0 = u ∙ cond-lt m (x .start) _ _ (omega arith) in
+              let b : started (picked i x (group i xs)) m ≡ 0 = g ∙ cond-lt m (x .start) _ _ (omega arith) in
+              a ∙ sym (λ q. l q + b q)
+      go (more h) e =
+          let u : upper i m (x ∷ xs) ≡ 0 = cond-ge (x .instrument) i _ _ (omega arith) ∙ cond-lt i (x .instrument) _ _ h in
+          let l : lower i (x ∷ xs) ≡ 0 = cond-ge (x .instrument) i _ _ (omega arith) in
+          let g : started (picked i x (group i xs)) m ≡ 0 = ap (λ (rs : List (Interval A)). started rs m) (group-none i (x .instrument) (x ∷ xs) s (le-refl (x .instrument)) h) in
+          u ∙ sym (λ q. l q + g q)
+
+  -- ---- what a search finds at its end is the place
+
+  pub lower-is : (i : ℕ) (d : Row A) (xs : List (Row A)) → Sorted xs → (r : ℕ) → r ≤ length xs
+      → ((k : ℕ) → k < r → getD xs k d .instrument < i) → (r < length xs → i ≤ getD xs r d .instrument) → lower i xs ≡ r
+  unfolding lower
+  lower-is i d [] s r h f g = omega arith
+  lower-is i d (x ∷ xs) s zero h f g = cond-ge (x .instrument) i _ _ (g (omega arith))
+  lower-is i d (x ∷ xs) s (suc r) h f g =
+      cond-lt (x .instrument) i _ _ (f 0 (omega arith)) ∙ ap suc (lower-is i d xs (s .1) r (omega arith) (λ k l. f (suc k) (omega arith)) (λ l. g (omega arith)))
+
+  pub upper-is : (i m : ℕ) (d : Row A) (xs : List (Row A)) → (r : ℕ) → r ≤ length xs
+      → ((k : ℕ) → k < r → (getD xs k d .instrument ≤ i) × (getD xs k d .instrument ≡ i → getD xs k d .start ≤ m))
+      → (r < length xs → (i ≤ getD xs r d .instrument) × (getD xs r d .instrument ≡ i → m < getD xs r d .start)) → upper i m xs ≡ r
+  unfolding upper
+  upper-is i m d [] r h f g = omega arith
+  upper-is i m d (x ∷ xs) zero h f g = go (order (x .instrument) i) (g (omega arith))
+    where
+      go : Order (x .instrument) i → (i ≤ x .instrument) × (x .instrument ≡ i → m < x .start) → upper i m (x ∷ xs) ≡ 0
+      go (less k) p = absurd (omega (arith, p .0))
+      go (equal k) p = cond-ge (x .instrument) i _ _ (omega arith) ∙ cond-ge i (x .instrument) _ _ (omega arith) ∙ cond-lt m (x .start) _ _ (p .1 k)
+      go (more k) p = cond-ge (x .instrument) i _ _ (omega arith) ∙ cond-lt i (x .instrument) _ _ k
+  upper-is i m d (x ∷ xs) (suc r) h f g =
+      go (order (x .instrument) i) (f 0 (omega arith)) (upper-is i m d xs r (omega arith) (λ k l. f (suc k) (omega arith)) (λ l. g (omega arith)))
+    where
+      go : Order (x .instrument) i → (x .instrument ≤ i) × (x .instrument ≡ i → x .start ≤ m) → upper i m xs ≡ r → upper i m (x ∷ xs) ≡ suc r
+      go (less k) p e = cond-lt (x .instrument) i _ _ k ∙ ap suc e
+      go (equal k) p e = cond-ge (x .instrument) i _ _ (omega arith) ∙ cond-ge i (x .instrument) _ _ (omega arith) ∙ cond-ge m (x .start) _ _ (p .1 k) ∙ ap suc e
+      go (more k) p e = absurd (omega (arith, p .0))

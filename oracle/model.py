@@ -1,0 +1,653 @@
+"""A plain model of document 01, written from its text and from nothing else.
+
+It is slow and short. A call that is refused raises Refused and so leaves lent memory alone; a build, which empties its
+table on a refusal, hands it back. Tables are bytes, 24 an interval over time and 8 an entry at a point in time;
+metadata are a header and five lists of numbers; a date is the number YYYYMMDD; an end, a limit of 0 is missing.
+"""
+
+from dataclasses import dataclass, replace
+from struct import Struct
+
+NAME, NAMES, NAME_BYTES = 255, 4_096, 65_536
+ROOM, MAPPINGS, ENTRIES, INTERVALS = 65_536, 4_096, 4_096, 65_536
+STREAMS, RECORD, HEAD = 256, 1_024, 16
+TOP = 2**64 - 1  # the largest number of 64 bits; as a time of a mapping record: missing
+DAY = 86_400_000_000_000
+INSTRUMENT_ID = 0
+NO_SCHEMA, NO_STYPE = 65_535, 255
+
+
+class Refused(Exception):
+    """One of document 01's numbers, and the values that come with it."""
+
+    def __init__(self, number, *values):
+        super().__init__(number, *values)
+        self.answer = (number, *values)
+
+
+def refuse_if(wrong, number, *values):
+    if wrong:
+        raise Refused(number, *values)
+
+
+# Names, numbers, days.
+
+TAIL = (0x80, 0xBF)
+UTF8 = [  # RFC 3629, section 4, production by production
+    [(0x00, 0x7F)],
+    [(0xC2, 0xDF), TAIL],
+    [(0xE0, 0xE0), (0xA0, 0xBF), TAIL],
+    [(0xE1, 0xEC), TAIL, TAIL],
+    [(0xED, 0xED), (0x80, 0x9F), TAIL],
+    [(0xEE, 0xEF), TAIL, TAIL],
+    [(0xF0, 0xF0), (0x90, 0xBF), TAIL, TAIL],
+    [(0xF1, 0xF3), TAIL, TAIL, TAIL],
+    [(0xF4, 0xF4), (0x80, 0x8F), TAIL, TAIL],
+]
+
+
+def is_utf8(text):
+    at = 0
+    while at < len(text):
+        for ranges in UTF8:
+            char = text[at : at + len(ranges)]
+            if len(char) == len(ranges) and all(low <= byte <= high for byte, (low, high) in zip(char, ranges)):
+                at += len(ranges)
+                break
+        else:
+            return False
+    return True
+
+
+def is_name(text):
+    return len(text) <= NAME and is_utf8(text)
+
+
+def number_of(text):
+    """The number that a text reads as."""
+    digits = text[1:] if text[:1] == b"+" else text
+    refuse_if(not digits or any(byte not in b"0123456789" for byte in digits), 8)
+    value = 0
+    for byte in digits:
+        value = 10 * value + byte - ord("0")
+        refuse_if(value > 4_294_967_295, 8)
+    return value
+
+
+def calendar():
+    """The dates from 1970-01-01 to 2554-07-21, in order."""
+    for year in range(1970, 2555):
+        leap = year % 4 == 0 and (year % 100 != 0 or year % 400 == 0)
+        for month, days in enumerate([31, 29 if leap else 28, 31, 30, 31, 30, 31, 31, 30, 31, 30, 31], 1):
+            for day in range(1, days + 1):
+                if (year, month, day) <= (2554, 7, 21):
+                    yield year * 10_000 + month * 100 + day
+
+
+DATES = list(calendar())
+DAYS = {date: day for day, date in enumerate(DATES)}
+
+
+def day_of(date):
+    refuse_if(date not in DAYS, 11)
+    return DAYS[date]
+
+
+def date_of(day):
+    refuse_if(day >= len(DATES), 11)
+    return DATES[day]
+
+
+@dataclass
+class NameList:
+    """A lent list of names: where each ends, and how many names and bytes are in use."""
+
+    bytes: bytes
+    ends: list
+    names: int
+    used: int
+
+    def all(self):
+        ends = self.ends[: self.names]
+        return [self.bytes[first:end] for first, end in zip([0] + ends, ends)]
+
+    def test_memory(self):
+        refuse_if(len(self.ends) > NAMES or len(self.bytes) > NAME_BYTES, 15)
+        refuse_if(self.names > len(self.ends) or self.used > len(self.bytes), 15)
+
+    def test_form(self):
+        bounds = [0] + self.ends[: self.names]
+        refuse_if(any(a > b for a, b in zip(bounds, bounds[1:])) or bounds[-1] != self.used, 14)
+        refuse_if(not all(is_name(name) for name in self.all()), 14)
+
+    def find(self, name):
+        return next((n for n, known in enumerate(self.all()) if known == name), None)
+
+    def with_new(self, name):
+        used = self.used + len(name)
+        refuse_if(self.names + 1 > len(self.ends) or used > len(self.bytes), 5)
+        ends = self.ends[: self.names] + [used] + self.ends[self.names + 1 :]
+        return NameList(self.bytes[: self.used] + name + self.bytes[used:], ends, self.names + 1, used)
+
+
+def number_for(names, name):
+    """The least number with equal bytes, else the next new one; and the list that holds the name."""
+    known = names.find(name)
+    return (known, names) if known is not None else (names.names, names.with_new(name))
+
+
+def naming(names, name):
+    names.test_memory()
+    names.test_form()
+    refuse_if(not is_name(name), 4)
+    return number_for(names, name)
+
+
+def place_of(names, n):
+    """Where name n begins and ends."""
+    names.test_memory()
+    names.test_form()
+    refuse_if(n >= names.names, 3)
+    return ([0] + names.ends)[n], names.ends[n]
+
+
+# The map over time. A row is (instrument, start, end, symbol).
+
+PLACE = Struct("<IIQQ")
+
+
+def rows_of(table, used):
+    return [(i, start, end, s) for i, s, start, end in PLACE.iter_unpack(table[: 24 * used])]
+
+
+def laid(table, used, rows):
+    """A table's bytes with these rows: places freed hold 0, other unused ones keep what they held."""
+    written = b"".join(PLACE.pack(i, s, start, end) for i, start, end, s in rows)
+    freed = bytes(max(0, 24 * used - len(written)))
+    return written + freed + table[len(written + freed) :]
+
+
+def test_table(table, used, width=24):
+    refuse_if(len(table) % width or len(table) > ROOM * width or used * width > len(table), 15)
+
+
+def test_rows(rows, names):
+    for instrument, start, end, symbol in rows:
+        refuse_if(start >= end or symbol >= names, 14)
+    for a, b in zip(rows, rows[1:]):
+        refuse_if(a[0] > b[0], 14)
+        if a[0] == b[0]:
+            refuse_if(a[2] > b[1] or (a[2] == b[1] and a[3] == b[3]), 14)
+
+
+def check(table, used, names):
+    test_table(table, used)
+    refuse_if(names > NAMES, 15)
+    test_rows(rows_of(table, used), names)
+
+
+def runs(history):
+    """The longest runs of the symbol that the latest interval of a history gives each moment."""
+    points = sorted({point for start, end, _ in history for point in (start, end)})
+    found = []
+    for a, b in zip(points, points[1:]):
+        symbol = next((symbol for start, end, symbol in reversed(history) if start <= a < end), None)
+        if symbol is None:
+            continue
+        if found and found[-1][1:] == (a, symbol):
+            found[-1] = (found[-1][0], b, symbol)
+        else:
+            found.append((a, b, symbol))
+    return found
+
+
+def inserted(rows, room, names, instrument, start, end, symbol):
+    """Rows after an insert, by demand 3: the latest accepted insert decides, and the rows are the longest runs."""
+    refuse_if(start > end, 1)
+    if start == end:
+        return rows
+    refuse_if(symbol >= names, 3)
+    own = [row[1:] for row in rows if row[0] == instrument]
+    own = [(instrument, *run) for run in runs(own + [(start, end, symbol)])]
+    rows = [row for row in rows if row[0] < instrument] + own + [row for row in rows if row[0] > instrument]
+    refuse_if(len(rows) > room, 2)
+    return rows
+
+
+def insert(table, used, names, instrument, start, end, symbol):
+    """The table's bytes and the number in use after an insert."""
+    check(table, used, names)
+    rows = inserted(rows_of(table, used), len(table) // 24, names, instrument, start, end, symbol)
+    return laid(table, used, rows), len(rows)
+
+
+def looked_up(rows, instrument, moment, hint):
+    """The symbol or None, and the new hint."""
+    own = [row for row in rows if row[0] == instrument]
+
+    def includes(i):
+        return i < len(own) and own[i][1] <= moment < own[i][2]
+
+    if includes(hint):
+        at = hint
+    elif includes(hint + 1):
+        at = hint + 1
+    else:
+        begun = [i for i, row in enumerate(own) if row[1] <= moment]
+        if not begun:
+            return None, hint
+        at = begun[-1]
+    return (own[at][3] if moment < own[at][2] else None), at
+
+
+def get_for_ts(table, used, instrument, moment, hint):
+    test_table(table, used)
+    return looked_up(rows_of(table, used), instrument, moment, hint)
+
+
+# The point-in-time table. An entry is (instrument, symbol).
+
+ENTRY = Struct("<II")
+
+
+def entries_of(table, used):
+    return list(ENTRY.iter_unpack(table[: 8 * used]))
+
+
+def laid_entries(table, entries):
+    written = b"".join(ENTRY.pack(*entry) for entry in entries)
+    return written + table[len(written) :]
+
+
+def check_point(table, used, names):
+    test_table(table, used, 8)
+    refuse_if(names > NAMES, 15)
+    entries = entries_of(table, used)
+    refuse_if(any(a[0] >= b[0] for a, b in zip(entries, entries[1:])), 14)
+    refuse_if(any(symbol >= names for _, symbol in entries), 14)
+
+
+def get_point(table, used, instrument):
+    test_table(table, used, 8)
+    return dict(entries_of(table, used)).get(instrument)
+
+
+def entry_set(entries, room, instrument, symbol):
+    entries = sorted((dict(entries) | {instrument: symbol}).items())
+    refuse_if(len(entries) > room, 2)
+    return entries
+
+
+# The framing, and the mapping call.
+
+FRAME = Struct("<HHIQ")
+
+
+def frame_at(stream, place):
+    """The record that stands at a place (length, kind, instrument, time), or the end; else 13 with its reason."""
+    left = len(stream) - place
+    if left == 0:
+        return None
+    refuse_if(left < HEAD, 13, 1)
+    length, kind, instrument, time = FRAME.unpack(stream[place : place + HEAD])
+    refuse_if(not HEAD <= length <= RECORD, 13, 2)
+    refuse_if(length > left, 13, 3)
+    return length, kind, instrument, time
+
+
+def mapping_record(record):
+    """Instrument, start, end and name of a mapping record; None for another kind. Stream and place are 0."""
+    try:
+        refuse_if(not record, 13, 1)
+        length, kind, instrument, _ = frame_at(record, 0)
+        refuse_if(length != len(record), 13, 3)
+        if kind != 2:
+            return None
+        refuse_if(length < HEAD + 16, 13, 4)
+    except Refused as refused:
+        raise Refused(13, 0, 0, refused.answer[1]) from None
+    start, end = (int.from_bytes(record[at : at + 8], "little") for at in (16, 24))
+    return instrument, 0 if start == TOP else start, end, record[32:]
+
+
+def on_record(table, used, names, record):
+    """Table, number in use and name list after a record on the map over time."""
+    test_table(table, used)
+    names.test_memory()
+    check(table, used, names.names)
+    names.test_form()
+    mapping = mapping_record(record)
+    if mapping is None:
+        return table, used, names
+    instrument, start, end, name = mapping
+    refuse_if(not is_name(name), 4)
+    refuse_if(start > end, 1)
+    if start == end:
+        return table, used, names
+    symbol, joined = number_for(names, name)
+    rows = inserted(rows_of(table, used), len(table) // 24, joined.names, instrument, start, end, symbol)
+    return laid(table, used, rows), len(rows), joined
+
+
+def on_record_point(table, used, names, record):
+    """Table, number in use and name list after a record on the point-in-time table."""
+    test_table(table, used, 8)
+    names.test_memory()
+    check_point(table, used, names.names)
+    names.test_form()
+    mapping = mapping_record(record)
+    if mapping is None:
+        return table, used, names
+    instrument, _, _, name = mapping
+    refuse_if(not is_name(name), 4)
+    symbol, joined = number_for(names, name)
+    entries = entry_set(entries_of(table, used), len(table) // 8, instrument, symbol)
+    return laid_entries(table, entries), len(entries), joined
+
+
+# Metadata. A mapping is (name, intervals), an interval (start date, end date, symbol).
+
+
+@dataclass
+class Metadata:
+    version: int
+    dataset: int
+    schema: int
+    start: int
+    end: int
+    limit: int
+    stype_in: int
+    stype_out: int
+    ts_out: int
+    symbol_cstr_len: int
+    symbols: list
+    partial: list
+    not_found: list
+    mappings: list
+
+    def intervals(self):
+        return [interval for _, intervals in self.mappings for interval in intervals]
+
+    def names(self):
+        heads = [name for name, _ in self.mappings]
+        symbols = [symbol for _, _, symbol in self.intervals()]
+        return [self.dataset] + self.symbols + self.partial + self.not_found + heads + symbols
+
+
+def without_repeats(given):
+    """Equal entries of a set once; of two mappings with one name the last, at the place of the first."""
+    sets = {field: list(dict.fromkeys(getattr(given, field))) for field in ("symbols", "partial", "not_found")}
+    return replace(given, **sets, mappings=list(dict(given.mappings).items()))
+
+
+def walk(left, right):
+    """The intervals of one name from two lists, by their heads."""
+    left, right, out = list(left), list(right), []
+    while left and right:
+        a, b = left[0], right[0]
+        if a[:2] == b[:2]:
+            refuse_if(a[2] != b[2], 7)
+            out.append(a)
+            left.pop(0), right.pop(0)
+        elif a[1] <= b[0]:
+            out.append(left.pop(0))
+        elif a[0] >= b[1]:
+            out.append(right.pop(0))
+        else:
+            refuse_if(a[2] != b[2], 7)
+            out.append((min(a[0], b[0]), max(a[1], b[1]), a[2]))
+            left.pop(0), right.pop(0)
+    return out + left + right
+
+
+COMPARED = ["version", "dataset", "stype_in", "stype_out", "ts_out", "symbol_cstr_len"]
+
+
+def merged(left, right, names):
+    """A metadata with one more merged in; whether it fits the room is judged elsewhere."""
+    left = without_repeats(left)
+    for place, field in enumerate(COMPARED, 1):
+        refuse_if(getattr(left, field) != getattr(right, field), 6, place)
+    intervals = left.intervals() + right.intervals()
+    refuse_if(any(start not in DAYS or end not in DAYS for start, end, _ in intervals), 11)
+    refuse_if(any(name >= names for name in left.names() + right.names()), 3)
+    refuse_if(any(start > end for start, end, _ in intervals), 1)
+    mappings = dict(left.mappings)
+    for name, added in right.mappings:
+        mappings[name] = walk(mappings[name], added) if name in mappings else added
+    return replace(
+        left,
+        schema=left.schema if left.schema == right.schema else NO_SCHEMA,
+        start=min(left.start, right.start),
+        end=max(left.end, right.end),
+        limit=0,
+        symbols=list(dict.fromkeys(left.symbols + right.symbols)),
+        partial=list(dict.fromkeys(left.partial + right.partial)),
+        not_found=list(dict.fromkeys(left.not_found + right.not_found)),
+        mappings=list(mappings.items()),
+    )
+
+
+@dataclass
+class Lent:
+    """A metadata in lent memory: ten numbers, four counts in use, five lists."""
+
+    head: list
+    counts: list
+    lists: list
+
+    def taken(self):
+        """The metadata that stands in the memory."""
+        limits = [ENTRIES, ENTRIES, ENTRIES, 2 * MAPPINGS, 3 * INTERVALS]
+        refuse_if(any(len(given) > limit for given, limit in zip(self.lists, limits)), 15)
+        refuse_if(len(self.lists[3]) % 2 or len(self.lists[4]) % 3, 15)
+        sizes = [*self.counts[:3], 2 * self.counts[3]]
+        refuse_if(any(size > len(given) for size, given in zip(sizes, self.lists)), 15)
+        words = self.lists[3][: sizes[3]]
+        refuse_if(3 * sum(words[1::2]) > len(self.lists[4]), 15)
+        triples = list(zip(*[iter(self.lists[4])] * 3))
+        mappings, at = [], 0
+        for name, count in zip(words[::2], words[1::2]):
+            mappings.append((name, triples[at : at + count]))
+            at += count
+        return Metadata(*self.head, *(given[:size] for given, size in zip(self.lists, sizes[:3])), mappings)
+
+    def holding(self, metadata):
+        """The memory with another metadata in it: what is freed holds 0, the rest keeps what it held."""
+        new = lists_of(metadata)
+        refuse_if(any(len(list_) > len(room) for list_, room in zip(new, self.lists)), 2)
+        old = lists_of(self.taken())
+        padded = [list_ + [0] * (len(before) - len(list_)) for list_, before in zip(new, old)]
+        lists = [list_ + room[len(list_) :] for list_, room in zip(padded, self.lists)]
+        return Lent(head_of(metadata), [len(list_) for list_ in new[:3]] + [len(metadata.mappings)], lists)
+
+
+HEADER = ["version", "dataset", "schema", "start", "end", "limit", "stype_in", "stype_out", "ts_out", "symbol_cstr_len"]
+
+
+def head_of(metadata):
+    return [getattr(metadata, field) for field in HEADER]
+
+
+def lists_of(metadata):
+    mappings = [word for name, intervals in metadata.mappings for word in (name, len(intervals))]
+    intervals = [word for interval in metadata.intervals() for word in interval]
+    return [list(metadata.symbols), list(metadata.partial), list(metadata.not_found), mappings, intervals]
+
+
+def open_metadata(lent):
+    return lent.holding(without_repeats(lent.taken()))
+
+
+def merge_metadata(left, right, names):
+    gathered, added = left.taken(), right.taken()
+    refuse_if(names > NAMES, 15)
+    return left.holding(merged(gathered, added, names))
+
+
+# Builds.
+
+
+def is_inverse(metadata):
+    if metadata.stype_out == INSTRUMENT_ID:
+        return False
+    refuse_if(metadata.stype_in != INSTRUMENT_ID, 9)
+    return True
+
+
+def name_of(names, n):
+    refuse_if(n >= len(names), 3)
+    return names[n]
+
+
+def built(metadata, names, room):
+    """The rows of a build over time from the names' bytes."""
+    inverse, rows = is_inverse(metadata), []
+    for head, intervals in metadata.mappings:
+        if inverse:
+            instrument = number_of(name_of(names, head))
+        for start, end, symbol in intervals:
+            text = name_of(names, symbol)
+            if not text:
+                continue
+            if not inverse:
+                instrument = number_of(text)
+            start, end = day_of(start) * DAY, day_of(end) * DAY
+            rows = inserted(rows, room, len(names), instrument, start, end, symbol if inverse else head)
+    return rows
+
+
+def counting(intervals, day):
+    """The symbol of the first interval that covers the day; dates are read up to it."""
+    for start, end, symbol in intervals:
+        start, end = day_of(start), day_of(end)
+        if start <= day < end:
+            return symbol
+    return None
+
+
+def built_for_day(metadata, names, room, date):
+    """The entries of a point-in-time build."""
+    day = day_of(date)
+    inverse = is_inverse(metadata)
+    refuse_if(day < metadata.start // DAY or (metadata.end != 0 and day * DAY >= metadata.end), 10)
+    entries = []
+    for head, intervals in metadata.mappings:
+        symbol = counting(intervals, day)
+        if symbol is None:
+            continue
+        text = name_of(names, symbol)
+        if not text:
+            continue
+        head_text = name_of(names, head)
+        instrument = number_of(head_text if inverse else text)
+        entries = entry_set(entries, room, instrument, symbol if inverse else head)
+    return entries
+
+
+def build(table, names, lent):
+    """The number in use and the table after a build over time; a refusal and the empty table."""
+    try:
+        test_table(table, 0)
+        metadata = lent.taken()
+        names.test_memory()
+        names.test_form()
+        rows = built(metadata, names.all(), len(table) // 24)
+        return (0, len(rows)), laid(bytes(len(table)), 0, rows)
+    except Refused as refused:
+        return refused.answer, bytes(len(table))
+
+
+def build_for_day(table, date, names, lent):
+    """The same for a point-in-time build."""
+    try:
+        test_table(table, 0, 8)
+        metadata = lent.taken()
+        names.test_memory()
+        names.test_form()
+        entries = built_for_day(metadata, names.all(), len(table) // 8, date)
+        return (0, len(entries)), laid_entries(bytes(len(table)), entries)
+    except Refused as refused:
+        return refused.answer, bytes(len(table))
+
+
+# Merging records.
+
+
+class RecordMerge:
+    """The merge of the streams that stand in one buffer, by document 01's words.
+
+    A head is the (time, stream) that stands for a stream: of its hint, or of the record that it stands at.
+    """
+
+    def __init__(self, buffer, cuts, hints):
+        count = len(cuts) - 1
+        refuse_if(not 1 <= count <= STREAMS, 12)
+        refuse_if(cuts[0] != 0 or cuts[-1] != len(buffer) or any(a > b for a, b in zip(cuts, cuts[1:])), 12)
+        refuse_if(hints and len(hints) != count, 12)
+        self.streams = [buffer[a:b] for a, b in zip(cuts, cuts[1:])]
+        self.places = [0] * count
+        self.records = [None] * count  # None while a hint stands for the stream
+        self.heads = {stream: hint for stream, hint in enumerate(hints or [0] * count)}
+        self.handed_out = None
+
+    def read(self, stream):
+        """Puts the record at the stream's place in its head; closes the stream at its end or its damage."""
+        self.heads.pop(stream)
+        place = self.places[stream]
+        try:
+            record = frame_at(self.streams[stream], place)
+        except Refused as refused:
+            raise Refused(13, stream, place, refused.answer[1]) from None
+        if record is not None:
+            self.records[stream] = record
+            self.heads[stream] = record[3]
+
+    def next(self):
+        """Stream, place, length, kind, instrument and time of the next record; None at the end."""
+        stream, self.handed_out = self.handed_out, None
+        if stream is not None:
+            self.places[stream] += self.records[stream][0]
+            self.read(stream)
+        while self.heads:
+            stream = min(self.heads, key=lambda stream: (self.heads[stream], stream))
+            if self.records[stream] is not None:
+                self.handed_out = stream
+                return (stream, self.places[stream], *self.records[stream])
+            self.read(stream)
+        return None
+
+
+# The replay program.
+
+
+def sections(bundle):
+    """The streams of a bundle; None where it can't be taken apart."""
+    streams, at = [], 0
+    while at < len(bundle):
+        length, kind = int.from_bytes(bundle[at : at + 4], "little"), int.from_bytes(bundle[at + 4 : at + 6], "little")
+        if len(bundle) - at < 6 or length < 6 or kind != 1 or length > len(bundle) - at:
+            return None
+        streams.append(bundle[at + 6 : at + length])
+        at += length
+    return streams if 1 <= len(streams) <= STREAMS and len(bundle) <= 60_000 else None
+
+
+def replay(bundle):
+    """All that the replay program prints."""
+    streams = sections(bundle)
+    if streams is None:
+        return "bad bundle\n"
+    cuts = [sum(map(len, streams[:n])) for n in range(len(streams) + 1)]
+    merge, lines = RecordMerge(b"".join(streams), cuts, []), []
+    while True:
+        try:
+            record = merge.next()
+        except Refused as refused:
+            _, stream, place, _ = refused.answer
+            lines.append(f"{stream} damaged {place}\n")
+            continue
+        if record is None:
+            return "".join(lines) + "end\n"
+        stream, _, _, _, instrument, time = record
+        lines.append(f"{stream} {time} {instrument}\n")

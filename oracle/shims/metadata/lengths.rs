@@ -1,0 +1,4 @@
+//! Lengths of an encoded metadata, which `metadata.rs` only hands on.
+
+#[allow(dead_code)]
+pub(crate) enum MetadataLengths {}

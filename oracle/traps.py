@@ -1,0 +1,345 @@
+#!/usr/bin/env python3
+"""The printed examples M1 to M12 of document 01 and the traps B1 to B45 of its reading, as cases with their answers.
+
+traps.py checks the model on them. traps.py cases, traps.py answers print them for another program.
+"""
+
+import sys
+
+import answer as answers
+import model
+from answer import words
+from model import DAY, NO_SCHEMA, TOP, Lent, NameList
+
+A, B, UNKNOWN = 0, 1, 9
+
+
+def table(room, *rows, rest=0):
+    """A table over time with these rows, and the rest of its room filled with one byte."""
+    written = model.laid(b"", 0, rows)
+    return written + bytes([rest]) * (24 * room - len(written))
+
+
+def points(room, *entries):
+    written = model.laid_entries(b"", entries)
+    return written + bytes(8 * room - len(written))
+
+
+def inserting(room, rows, row, number, *after, names=2):
+    """An insert on a table with these rows: its answer, and the rows after it, where they change."""
+    before = table(room, *rows)
+    after = list(after) if after else rows
+    return words("insert", before, len(rows), names, *row), words(number, len(after), table(room, *after))
+
+
+def finding(rows, instrument, moment, hint, symbol, new_hint, number=0, used=None):
+    used = len(rows) if used is None else used
+    found = (0, 0) if symbol is None else (1, symbol)
+    return words("get_for_ts", table(len(rows), *rows), used, instrument, moment, hint), words(number, *found, new_hint)
+
+
+def checking(rows, number, names=2):
+    return words("check", table(len(rows), *rows), len(rows), names), str(number)
+
+
+def listing(*names, places=None, room=None):
+    """A name list with these names."""
+    ends = [sum(map(len, names[: n + 1])) for n in range(len(names))]
+    text = b"".join(names)
+    places = len(names) if places is None else places
+    room = len(text) if room is None else room
+    return NameList(text + bytes(room - len(text)), ends + [0] * (places - len(names)), len(names), len(text))
+
+
+def naming(given, name, number, n=0, after=None):
+    return words("naming", given, name), words(number, n, after or given)
+
+
+def mapping(instrument, start, end, name, kind=2):
+    body = start.to_bytes(8, "little") + end.to_bytes(8, "little") + name
+    return model.FRAME.pack(16 + len(body), kind, instrument, 0) + body
+
+
+def recording(record, answer, given=(table(1), 0, listing(places=1, room=8)), after=None, call="on_record"):
+    """A mapping call: its answer, and table, number in use and list after it, where they change."""
+    lent, used, names = after or given
+    return words(call, *given, record), words(answer, used, lent, names)
+
+
+def metadata(*mappings, head=(), sets=((), (), ())):
+    """A lent metadata whose rooms are as large as what stands in it."""
+    fields = dict(version=3, dataset=0, schema=0, start=0, end=0, limit=0, stype_in=1, stype_out=0, ts_out=0)
+    fields |= dict(symbol_cstr_len=71) | dict(head)
+    given = model.Metadata(**fields, symbols=sets[0], partial=sets[1], not_found=sets[2], mappings=mappings)
+    counts = [len(list(s)) for s in sets] + [len(mappings)]
+    return Lent(model.head_of(given), counts, model.lists_of(given))
+
+
+def with_room(lent, intervals):
+    """The same with room for this many intervals."""
+    return Lent(lent.head, lent.counts, [*lent.lists[:4], lent.lists[4] + [0] * (3 * intervals - len(lent.lists[4]))])
+
+
+TEXTS = listing(b"", b"A", b"B", b"5", b"x", b"7", b"+7", b"007")
+EMPTY, NAME_A, NAME_B, FIVE, X, SEVEN, PLUS_SEVEN, LONG_SEVEN, NONE = 0, 1, 2, 3, 4, 5, 6, 7, 99
+D1, D2, D3, D4, BAD = 19700102, 19700103, 19700104, 19700105, 21000229
+FORWARD, INVERSE, NEITHER, BOTH = ({"stype_in": i, "stype_out": o} for i, o in [(1, 0), (0, 1), (1, 1), (0, 0)])
+
+
+def building(head, mappings, number, *rows, room=4, names=TEXTS):
+    """A build over time into a table that held 9s: its answer and rows; every other place is 0."""
+    asked = words("lent_build", bytes([9]) * 24 * room, names, metadata(*mappings, head=head))
+    return asked, words(number, len(rows), table(room, *rows))
+
+
+def building_day(head, mappings, number, *entries, day=D2, room=4, names=TEXTS):
+    asked = words("lent_build_day", bytes([9]) * 8 * room, day, names, metadata(*mappings, head=head))
+    return asked, words(number, len(entries), points(room, *entries))
+
+
+def merging(left, right, answer, after=None, names=9):
+    return words("merge_metadata", names, left, right), words(answer, after or left)
+
+
+def walking(left, right, answer, *after):
+    """A merge of two lists of one name, in a room that suffices."""
+    given, outcome = (with_room(metadata((NAME_A, intervals)), 4) for intervals in (left, after))
+    return merging(given, metadata((NAME_A, right)), answer, outcome if answer == 0 else None)
+
+
+def record(time, instrument=0, kind=0, length=16):
+    return model.FRAME.pack(length, kind, instrument, time) + bytes(max(0, length - 16))
+
+
+def streaming(streams, hints, *answers):
+    cuts = [sum(map(len, streams[:n])) for n in range(len(streams) + 1)]
+    return words("streams", b"".join(streams), cuts, list(hints)), " ; ".join(answers)
+
+
+def handed(stream, place, time, length=16):
+    return f"r {stream} {place} {length} 0 0 {time}"
+
+
+def examples():
+    yield "M1-M4", (
+        "map i 1 10 20 0 g 1 9 0 g 1 10 0 g 1 19 0 g 1 20 0 i 1 20 30 0 i 1 15 18 1 i 1 15 18 0",
+        "0 1 1 10 20 0 ; - 0 ; 0 0 ; 0 0 ; - 0 ; 0 1 1 10 30 0 ; 0 3 1 10 15 0 1 15 18 1 1 18 30 0 ; 0 1 1 10 30 0",
+    )
+    yield "M5", inserting(1, [(1, 10, 30, A)], (1, 15, 18, B), 2)
+    yield "M5", inserting(1, [(1, 10, 30, A)], (1, 0, 40, B), 0, (1, 0, 40, B))
+    yield "M6", inserting(1, [], (1, 5, 5, A), 0)
+    yield "M6", inserting(1, [], (1, 6, 5, A), 1)
+    for text, said in [(b"+7", "0 7"), (b"007", "0 7"), (b"+", "8"), (b"", "8"), (b"4294967296", "8")]:
+        yield "M7", (words("number", text), said)
+    for date, said in [(20000229, f"0 11016 {11016 * DAY}"), (21000229, "11"), (19691231, "11"), (25540722, "11")]:
+        yield "M8-M9", (f"day {date}", said)
+    dates = {n: 19700101 + n for n in range(20)}
+    yield "M10", walking(
+        [(dates[1], dates[10], NAME_A)],
+        [(dates[1], dates[5], NAME_A), (dates[5], dates[10], NAME_A)],
+        0,
+        (dates[1], dates[10], NAME_A),
+        (dates[5], dates[10], NAME_A),
+    )
+    yield "M11", walking([(dates[1], dates[5], NAME_A)], [(dates[1], dates[5], NAME_B)], 7)
+    yield "M12", ("records 0 2 0 2 5 5 0 2 5 4", "r 0 0 5 ; r 0 1 5 ; r 1 0 5 ; r 1 1 4 ; e ; e")
+
+
+def map_traps():
+    yield "B1", inserting(1, [], (1, 5, 5, UNKNOWN), 0)
+    yield "B1", inserting(1, [], (1, 6, 5, UNKNOWN), 1)
+    yield "B1", inserting(0, [], (1, 5, 6, UNKNOWN), 3)
+    yield "B1", inserting(0, [], (1, 5, 5, A), 0)
+    for start, end in [(6, 5), (5, 5)]:
+        yield "B2", inserting(2, [(1, 7, 6, A)], (1, start, end, A), 14)
+    joined = words(0, 1, table(2, (1, 10, 30, A)))
+    yield "B3", (inserting(2, [(1, 10, 15, A), (1, 18, 30, A)], (1, 15, 18, A), 0)[0], joined)
+    yield "B4", inserting(2, [(1, 20, 30, A)], (1, 10, 20, A), 0, (1, 10, 30, A))
+    both = [(1, 10, 20, A), (1, 20, 30, B)]
+    yield "B4", inserting(2, both, (1, 15, 20, B), 0, (1, 10, 15, A), (1, 15, 30, B))
+    yield "B5", inserting(1, [(1, 10, 30, A)], (1, 10, 30, B), 0, (1, 10, 30, B))
+    yield "B5", inserting(2, [(1, 10, 30, A)], (1, 15, 18, B), 2)
+    yield "B6", inserting(2, [(1, 10, 20, A)], (2, 20, 30, A), 0, (1, 10, 20, A), (2, 20, 30, A))
+    yield "B6", checking([(1, 10, 20, A), (2, 20, 30, A)], 0)
+    yield "B7", inserting(2, [(1, 10, 20, 0)], (1, 20, 30, 1), 0, (1, 10, 20, 0), (1, 20, 30, 1))
+    twins = listing(b"X", b"X", b"5")
+    yield "B7", building(FORWARD, [(1, [(D1, D2, 2)])], 0, (5, DAY, 2 * DAY, 1), names=twins)
+    yield "B7", recording(mapping(5, 1, 2, b"X"), 0, (table(1), 0, twins), (table(1, (5, 1, 2, 0)), 1, twins))
+    filled = model.laid(b"", 0, [(1, 10, 15, A), (1, 18, 30, A)]) + bytes([9]) * 24
+    after = table(2, (1, 10, 30, A)) + bytes([9]) * 24
+    yield "B8", (words("insert", filled, 2, 2, 1, 15, 18, A), words(0, 1, after))
+    yield "B8", building(FORWARD, [(NAME_A, [(D1, D2, FIVE)])], 0, (5, DAY, 2 * DAY, NAME_A), room=3)
+    yield "B9", finding([(1, 0, TOP, A)], 1, TOP, 5, None, 0)
+    yield "B10", finding([(1, 10, 20, A), (2, 20, 30, B)], 1, 25, 0, None, 0)
+    gap = [(1, 10, 20, A), (1, 30, 40, B)]
+    yield "B11", finding(gap, 1, 25, 1, None, 0)
+    yield "B11", finding(gap, 1, 5, 9, None, 9)
+    yield "B11", finding(gap, 2, 5, TOP, None, TOP)
+    yield "B12", finding([(1, 10, 20, UNKNOWN)], 1, 15, 0, UNKNOWN, 0)
+    yield "B12", finding(gap, 1, 15, 7, None, 7, number=15, used=3)
+
+
+def name_traps():
+    full = listing(b"A")
+    yield "B13", naming(full, b"A", 0)
+    yield "B13", naming(full, b"z" * 256, 4)
+    yield "B13", naming(full, b"", 5)
+    yield "B13", naming(listing(b"A", places=2), b"", 0, 1, listing(b"A", b""))
+    yield "B14", naming(listing(b"\xc3", b"\xa9"), b"A", 14)
+    garbage = NameList(b"A\xff\xff", [1, 0, 7], 1, 1)
+    yield "B14", naming(garbage, b"BC", 0, 1, NameList(b"ABC", [1, 3, 7], 2, 3))
+    for text in (b"\xc0\x80", b"\xed\xa0\x80", b"\xf4\x90\x80\x80", b"\xe0\x9f\xbf"):
+        yield "B14", (words("utf8", text), "4")
+        yield "B14", naming(listing(places=1, room=4), text, 4)
+    for text in (b"\x00", b"\xef\xbf\xbf"):
+        yield "B14", (words("utf8", text), "0")
+    for text, said in [(b"0" * 255, "0 0"), (b"0" * 300, "0 0"), (b"+4294967295", "0 4294967295")]:
+        yield "B15", (words("number", text), said)
+    for text in (b"++1", b"-0", b" 7", b"7\n", b"9999999999", b"04294967296"):
+        yield "B15", (words("number", text), "8")
+    sevens = [(NAME_A, [(D1, D2, SEVEN), (D2, D3, PLUS_SEVEN), (D3, D4, LONG_SEVEN)])]
+    yield "B15", building(FORWARD, sevens, 0, (7, DAY, 4 * DAY, NAME_A))
+    for date, day in [(19700101, 0), (20000229, 11_016), (25540721, 213_503), (24000229, model.DAYS[24000229])]:
+        yield "B16", (f"day {date}", words(0, day, day * DAY))
+    for date in (22000229, 19700001, 19701301, 19700100):
+        yield "B16", (f"day {date}", "11")
+
+
+def record_traps():
+    damaged = [(b"", 1), (record(0) + b"\0", 3), (record(0)[:15], 1), (record(0, length=15), 2)]
+    damaged += [(record(0, length=1025)[:16], 2), (record(0, kind=2, length=31), 4)]
+    for given, reason in damaged:
+        yield "B17", recording(given, (13, 0, 0, reason))
+    free = (table(1), 0, listing(places=1, room=8))
+    empty = (table(1, (5, 1, 2, 0)), 1, listing(b"", places=1, room=8))
+    yield "B17", recording(mapping(5, 1, 2, b""), 0, free, empty)
+    yield "B18", recording(mapping(5, 1, 2, b"\xff", kind=3), 0)
+    yield "B18", recording(mapping(5, 1, 2, b"A", kind=258), 0)
+    yield "B18", recording(mapping(5, 1, 2, b"A", kind=3) + b"\0", (13, 0, 0, 3))
+    no_room = (table(1), 0, listing())
+    yield "B19", recording(mapping(5, TOP, 0, b"A"), 0)
+    yield "B19", recording(mapping(5, 9, 5, b"\xff"), 4)
+    yield "B19", recording(mapping(5, 9, 5, b"A"), 1, no_room)
+    yield "B19", recording(mapping(5, 5, 5, b"\xff"), 4)
+    yield "B19", recording(mapping(5, 5, 5, b"A"), 0, no_room)
+    yield "B20", recording(mapping(5, 1, 2, b"A"), 5, (table(0), 0, listing()))
+    yield "B20", recording(mapping(5, 1, 2, b"A"), 2, (table(0), 0, listing(places=1, room=8)))
+    free = (points(1), 0, listing(places=1, room=8))
+    full = (points(1, (5, 0)), 1, listing(b"A", places=1, room=8))
+    yield "B21", recording(mapping(5, 9, 5, b"A"), 0, free, full, "on_record_point")
+    free = (points(1, (5, 0)), 1, listing(b"A", places=2, room=8))
+    replaced = (points(1, (5, 1)), 1, listing(b"A", b"B", room=8))
+    yield "B21", recording(mapping(5, 9, 5, b"B"), 0, free, replaced, "on_record_point")
+
+
+def build_traps():
+    for interval, number in [((D2, BAD, EMPTY), 0), ((D2, D1, EMPTY), 0), ((D1, BAD, X), 8), ((BAD, D1, NONE), 3)]:
+        yield "B22", building(FORWARD, [(NAME_A, [interval])], number)
+    yield "B23", building(FORWARD, [(NONE, [])], 0)
+    for start, end, number in [(D1, D1, 0), (D2, D1, 1), (D1, D2, 3), (BAD, D1, 11)]:
+        yield "B23", building(FORWARD, [(NONE, [(start, end, FIVE)])], number)
+    for name, number in [(X, 8), (NONE, 3), (EMPTY, 8)]:
+        yield "B24", building(INVERSE, [(name, [])], number)
+    yield "B24", building_day(INVERSE, [(X, [(D1, D2, NAME_A)])], 0)
+    yield "B25", building(BOTH, [(NAME_A, [(D1, D2, FIVE)])], 0, (5, DAY, 2 * DAY, NAME_A))
+    bad_list = NameList(b"\xff", [1], 1, 1)
+    yield "B25", building(NEITHER, [], 14, names=bad_list)
+    yield "B25", building(NEITHER, [], 9)
+    yield "B25", building_day(NEITHER, [], 11, day=BAD)
+    narrow = [(NAME_A, [(D1, D2, FIVE)]), (NAME_B, [(D2, D3, FIVE)]), (NAME_A, [(D1, D3, FIVE)])]
+    yield "B26", building(FORWARD, narrow, 2, room=1)
+    yield "B26", building(FORWARD, [(NAME_A, [(D1, D2, EMPTY), (D1, D1, FIVE)])], 0, room=0)
+    for call, length, day in [("lent_build", 25, ()), ("lent_build_day", 9, (D1,))]:
+        yield "B27", (words(call, bytes([9]) * length, *day, TEXTS, metadata()), words(15, 0, bytes(length)))
+    yield "B28", building_day(FORWARD, [(NAME_A, [(D1, D3, EMPTY), (D1, D3, FIVE)])], 0)
+    yield "B28", building_day(FORWARD, [(NAME_A, [(D3, BAD, FIVE), (D1, D3, FIVE)])], 11)
+    yield "B28", building_day(FORWARD, [(NAME_A, [(D1, D3, FIVE), (BAD, BAD, FIVE)])], 0, (5, NAME_A))
+    two = [(NAME_A, [(D1, D3, FIVE)]), (NAME_B, [(D1, D3, FIVE)])]
+    yield "B29", building_day(FORWARD, two, 0, (5, NAME_B), room=1)
+    yield "B29", building_day(FORWARD, [(NAME_A, [(D3, D1, FIVE)])], 0)
+    for start, number in [(2 * DAY + DAY // 2, 0), (3 * DAY, 10)]:
+        yield "B30", building_day(FORWARD | {"start": start}, [], number)
+    for end, number in [(2 * DAY, 10), (2 * DAY + 1, 0), (0, 0)]:
+        yield "B30", building_day(FORWARD | {"end": end}, [], number)
+
+
+def metadata_traps():
+    x, y, z = [(D1, D2, NAME_A)], [(D2, D3, NAME_A)], [(D3, D4, NAME_A)]
+    repeated = metadata((NAME_A, x), (NAME_B, y), (NAME_A, z))
+    after = metadata((NAME_A, z), (NAME_B, y))
+    freed = Lent(after.head, after.counts, [*after.lists[:3], after.lists[3] + [0, 0], after.lists[4] + [0, 0, 0]])
+    yield "B31", (words("open_metadata", repeated), words(0, freed))
+    empty = Lent(metadata().head, [0, 0, 0, 0], [[], [], [], [0] * 2, [0] * 6])
+    yield "B31", merging(empty, metadata((NAME_A, x), (NAME_A, z)), 0, metadata((NAME_A, x + z)))
+    yield "B32", walking([(D1, D2, NAME_A)], [(D2, D3, NAME_A)], 0, (D1, D2, NAME_A), (D2, D3, NAME_A))
+    yield "B32", walking([(D2, D2, NAME_A)], [(D2, D2, NAME_B)], 7)
+    yield "B32", walking([(D2, D2, NAME_A)], [(D2, D4, NAME_B)], 0, (D2, D2, NAME_A), (D2, D4, NAME_B))
+    yield "B32", walking([(D3, D3, NAME_A)], [(D2, D4, NAME_B)], 7)
+    bad = (NAME_A, [(D1, BAD, NAME_A)])
+    yield "B33", merging(metadata(bad), metadata(head={"version": 2}), (6, 1))
+    yield "B33", merging(metadata(), metadata(sets=([], [], [NONE])), 3)
+    yield "B33", merging(metadata(head={"dataset": NONE}), metadata(head={"dataset": NONE}), 3)
+    yield "B34", merging(metadata((NONE, x)), metadata(bad), 11)
+    yield "B34", merging(metadata((NAME_A, [(D2, D1, NAME_A)])), metadata(), 1)
+    limited = metadata(head={"limit": 7})
+    yield "B35", (words("open_metadata", limited), words(0, limited))
+    yield "B35", merging(limited, metadata(), 0, metadata())
+    yield "B35", merging(metadata(), metadata(head={"end": 5}), 0, metadata(head={"end": 5}))
+    mixed = metadata(head={"schema": NO_SCHEMA})
+    yield "B35", merging(metadata(), metadata(head={"schema": 1}), 0, mixed)
+    yield "B35", merging(mixed, metadata(), 0, mixed)
+    yield "B36", (words("open_metadata", metadata(bad)), words(0, metadata(bad)))
+    tight = metadata((NAME_A, [(D1, D2, NAME_A)]))
+    yield "B45", merging(tight, metadata((NAME_A, [(D3, D4, NAME_A)]), (NAME_A, [(D3, D4, NAME_B)])), 7)
+
+
+def merge_traps():
+    stray = b"\0" * 3
+    yield "B37", streaming([record(0), stray], [], handed(0, 0, 0), "d 1 0 1", "e", "e")
+    yield "B37", streaming([record(5), stray], [], "d 1 0 1", handed(0, 0, 5), "e", "e")
+    yield "B38", streaming([record(5), record(1)], [0, 10], handed(0, 0, 5), handed(1, 0, 1), "e", "e")
+    yield "B38", streaming([record(5), stray], [0, 5], handed(0, 0, 5), "d 1 0 1", "e", "e")
+    yield "B38", streaming([stray, record(5)], [5, 0], "d 0 0 1", handed(1, 0, 5), "e", "e")
+    three = [record(1) + record(9), b"\0", record(4)]
+    yield "B39", streaming(three, [0, 3, 4], handed(0, 0, 1), "d 1 0 1", handed(2, 0, 4), handed(0, 16, 9), "e", "e")
+    yield "B40", streaming([record(TOP)], [], handed(0, 0, TOP), "e", "e")
+    yield "B40", streaming([record(n) for n in range(256)], [], *(handed(n, 0, n) for n in range(256)), "e", "e")
+    yield "B40", streaming([b""] * 257, [], "12")
+    yield "B40", streaming([record(3, length=1024)], [], handed(0, 0, 3, 1024), "e", "e")
+    yield "B41", ("streams - 2 0 0 0", "e ; e")
+    for cuts in ("0", "1 0"):
+        yield "B41", (f"streams - {cuts} 0", "12")
+    yield "B41", ("streams - 3 0 0 0 0", "e ; e")
+    yield "B41", ("streams - 3 0 0 0 1 0", "12")
+    yield "B42", streaming([record(0, length=17)[:16]], [], "d 0 0 3", "e", "e")
+    yield "B42", streaming([bytes(15)], [], "d 0 0 1", "e", "e")
+    section = b"\x06\0\0\0\x01\0"
+    printed = [(b"", "bad bundle\n"), (section, "end\n"), (section + b"\0", "bad bundle\n")]
+    for length, text in [(60_000, "0 damaged 0\nend\n"), (60_001, "bad bundle\n")]:
+        printed += [(length.to_bytes(4, "little") + b"\x01\0" + bytes(length - 6), text)]
+    first = record(5, 7) + stray
+    example = (6 + len(first)).to_bytes(4, "little") + b"\x01\0" + first + b"\x16\0\0\0\x01\0" + record(6, 7)
+    printed += [(example, "0 5 7\n0 damaged 16\n1 6 7\nend\n")]
+    for bundle, text in printed:
+        yield "B43", (words("replay", bundle), words(text.encode()))
+
+
+def traps():
+    for part in (examples, map_traps, name_traps, record_traps, build_traps, metadata_traps, merge_traps):
+        yield from part()
+
+
+if __name__ == "__main__":
+    if sys.argv[1:] == ["cases"]:
+        print("\n".join(case for _, (case, _) in traps()))
+    elif sys.argv[1:] == ["answers"]:
+        print("\n".join(said for _, (_, said) in traps()))
+    else:
+        wrong = 0
+        for name, (case, said) in traps():
+            if answers.answer(case) != said:
+                wrong += 1
+                print(f"{name}: {case}\n  asked {said}\n  model {answers.answer(case)}")
+        print(f"traps: {len(list(traps()))} cases, {wrong} wrong")
+        sys.exit(1 if wrong else 0)
+
