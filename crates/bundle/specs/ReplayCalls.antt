@@ -64,12 +64,6 @@ module _ (text : List ℕ) (at r : ℕ) (text′ : List ℕ) (short : r ≤ at +
       record { lays = rw (e₁, e₂) at l; short = short; ends = refl }
   line-damage end stream place reason e l = let z : _≡_ {A = ℕ} 0 13 = cc in absurd (omega arith)
 
--- the machine's answers are done, or 13
-pub no-other : (x : Answer) (k : ℕ) (vs : List ℕ) → k ≢ 0 → k ≢ 13 → theory.answer k vs ≡ answerOf x → ⊥
-no-other (says p (record-at a c)) k vs d f e = d (cc)
-no-other (says p (damage-at a j)) k vs d f e = f (cc)
-no-other end k vs d f e = d (cc)
-
 -- ---- a call
 
 -- the arrays have their 256 places
