@@ -15,9 +15,9 @@ use Rattle.machine.specs.Machine.{Answer, says, end, record-at, damage-at}
 use Rattle.machine.specs.State.{answerOf}
 use Rattle.records.specs.Merge.{turnOf}
 use Rattle.bundle.specs.Lines.{endLine}
-use Rattle.bundle.specs.ReplayCalls.{line-record, line-end, line-damage}
-use Rattle.bundle.proofs.replay.line.Statement.{statement}
-use Rattle.bundle.proofs.replay.line.Tie as tie
+use Rattle.bundle.specs.Telling.{line-record, line-end, line-damage}
+use Rattle.bundle.proofs.telling.line.Statement.{statement}
+use Rattle.bundle.proofs.telling.line.Tie as tie
 
 enum-known-answer : tie.Need-enum-known-answer
 enum-known-answer c = search needs

@@ -2,10 +2,10 @@
 use mathlib.Core.Path.{sym, ap, _∙_}
 use Rattle.leaves.specs.FrameLaws.{refused-not-done}
 use Rattle.records.specs.Opening.{openingOf}
-use Rattle.bundle.specs.ReplayCalls.{opening-right, opening-held, opening-done, opened-starts, opened-ready}
+use Rattle.bundle.specs.Telling.{opening-right, opening-held, opening-done, opened-starts, opened-ready}
 use borrow.Author.Needs.{needs}
-use Rattle.bundle.proofs.replay.merged.Statement.{statement}
-use Rattle.bundle.proofs.replay.merged.Tie as tie
+use Rattle.bundle.proofs.telling.merged.Statement.{statement}
+use Rattle.bundle.proofs.telling.merged.Tie as tie
 
 array-share-prefix-no-hint : tie.Need-array-share-prefix-no-hint
 array-share-prefix-no-hint c = search needs
