@@ -4,5 +4,6 @@ pub mod Lines
 pub mod LinesLaws
 pub mod Replay
 pub mod ReplayLaws
+pub mod Telling
 pub mod ReplayCalls
 pub mod Examples

@@ -1,15 +1,13 @@
 -- Laws on lines: words laid one behind the other, and the digits that `io::decimal` answers.
 -- Assumes nothing.
-use mathlib.Core.Path.{_≡_, refl, sym, ap, _∙_}
+use mathlib.Core.Path.{_≡_, sym, ap, _∙_}
 use Prim.Native.Nat.{ℕ, zero, suc, _+_, _-_, _*_, _/_, _%_, _^_, _≤_, _<_}
-use native.Mathlib.Nat.{pow-succ', mul-comm, div-lt-iff-lt-mul}
+use native.Mathlib.Nat.{pow-succ'}
 use native.Mathlib.Omega.{arith}
-use mathlib.Core.Bool.{Bool, true, false, cond}
 use mathlib.Core.List.{List, [], _∷_, _++_, append-assoc}
-use lib.ListN.{length, take, drop, length-append, length-drop}
-use lib.Seq.{paste, take-all, take-at, drop-at, drop-drop, length-take-le, drop-append-add}
-use lib.Dec.{ltb}
-use borrow.Author.Tests.{lt-ltb, le-ltb, ltb-true, ltb-false}
+use lib.ListN.{length, take, drop, length-append}
+use lib.Seq.{paste, take-all, take-at, drop-drop, length-take-le, drop-append-add}
+use borrow.Author.Tests.{lt-ltb, le-ltb}
 use Rattle.io.specs.Digits.{digits, glyph, Fewest}
 use Rattle.bundle.specs.Lines.{decimalF, decimal, laid, Lays}
 

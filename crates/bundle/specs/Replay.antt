@@ -8,7 +8,7 @@ use lib.ListN.{length, getD, replicate}
 use lib.Dec.{ltb}
 use Rattle.theory.specs.Answer as theory
 use Rattle.leaves.specs.Refusal.{refused}
-use Rattle.machine.specs.Machine.{Rec, Stream, record-at, damage-at, Answer, says, end}
+use Rattle.machine.specs.Machine.{Stream, record-at, damage-at, Answer, says, end}
 use Rattle.machine.specs.Bytes.{bytesOf}
 use Rattle.machine.specs.Literal.{told}
 use Rattle.bundle.specs.declared.replay.Replayed.{Replayed}

@@ -12,8 +12,8 @@ use lib.Dec.{T, eqb, ltb}
 use mir.Facts.{ltb-no}
 use Rattle.theory.specs.Fields.{field}
 use Rattle.leaves.specs.Frame.{Read, whole, ended, damaged, judged, recordAt, frameAt}
-use Rattle.machine.specs.Machine.{rec, Fits, Stream, Said, record-at, damage-at, ownOn, ownF, own}
-use Rattle.machine.specs.Machine.{Status, waiting, Answer, says, end, Turn, turn, next, answer, rest, upTo, runF, start}
+use Rattle.machine.specs.Machine.{Fits, Stream, Said, ownOn, ownF, own}
+use Rattle.machine.specs.Machine.{Status, Answer, says, end, Turn, turn, next, answer, rest, upTo, runF, start}
 use Rattle.machine.specs.Bytes.{bytesOf, frame-fits, streamsOf}
 use Rattle.machine.specs.Literal.{told, told-run}
 use Rattle.machine.specs.Least.{cond-case}

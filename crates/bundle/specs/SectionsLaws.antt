@@ -4,15 +4,15 @@ use mathlib.Core.Path.{_≡_, refl, sym, ap, ap₂, _∙_}
 use Prim.Native.Nat.{ℕ, zero, suc, _+_, _-_, _*_, _≤_, _<_, zero-le}
 use native.Mathlib.Nat.{sub-zero, add-zero}
 use native.Mathlib.Numerals.{add-one}
-use native.Mathlib.Decide.{ℕ-discrete, decLt}
+use native.Mathlib.Decide.{ℕ-discrete}
 use native.Mathlib.Omega.{arith}
 use mathlib.Core.Bool.{Bool, true, false, _&&_, cond}
 use mathlib.Core.Option.{Option, none, some}
 use mathlib.Core.List.{List, [], _∷_, _++_, append-assoc, append-nil}
-use lib.ListN.{length, getD, set, take, drop, length-append, length-drop, drop-of-length-le, List·getD-append}
+use lib.ListN.{length, getD, set, take, drop, length-append, length-drop, List·getD-append}
 use lib.Seq.{slice, paste, take-nil, drop-drop, drop-at, take-paste, take-append-le, length-take-le, take-take, getD-set-same, getD-set-other, getD-append-seam}
 use lib.Dec.{leb, eqb}
-use borrow.Author.Tests.{leb-true, leb-false, eqb-true, eqb-false, le-leb, lt-leb, eq-eqb, ne-eqb}
+use borrow.Author.Tests.{leb-true, eqb-true, le-leb, lt-leb, eq-eqb, ne-eqb}
 use Rattle.theory.specs.Fields.{field, field-drop}
 use Rattle.bundle.specs.Sections.{sizeOf, kindOf, whole, streamOf, sectionSize, ahead, sectionsF, sections, few, streamsIn, streamAt, cutOut, Cuts, Apart}
 

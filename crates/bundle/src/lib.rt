@@ -3,3 +3,4 @@ mod copy;
 mod lines;
 pub mod replay;
 mod sections;
+mod telling;

@@ -1,6 +1,6 @@
 -- The digits that `io::decimal` answers are the number's, at most 20. Assumes nothing.
 use native.Mathlib.Omega.{arith}
-use mathlib.Core.Path.{_≡_, _∙_}
+use mathlib.Core.Path.{_∙_}
 use Prim.Native.Nat.{_≤_}
 use Rattle.bundle.specs.LinesLaws.{decimal-fewest, twenty-digits, lays-same}
 use borrow.Author.Needs.{needs}

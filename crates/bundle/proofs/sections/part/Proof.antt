@@ -1,11 +1,10 @@
 -- Loop: what is taken apart so far, and the sections that are left (`Taking`). Assumes nothing.
-use borrow.Author.Needs.{needs}
 use native.Mathlib.Omega.{arith}
-use mathlib.Core.Path.{_≡_, refl, sym, ap, _∙_}
-use Prim.Native.Nat.{ℕ, _+_, _-_, _≤_, _<_}
-use lib.ListN.{length, getD, drop, length-set}
+use mathlib.Core.Path.{_≡_, refl, sym, _∙_}
+use Prim.Native.Nat.{_-_}
+use lib.ListN.{length, length-set}
 use denote.Ref.{now}
-use Rattle.bundle.specs.SectionsLaws.{Taking, taking-start, taking-turn, Sized, size-some, bad-long, bad-many, bad-section, bad-none, apart, Turned, turned}
+use Rattle.bundle.specs.SectionsLaws.{Taking, taking-start, taking-turn, bad-long, bad-many, bad-section, bad-none, apart, Turned, turned}
 use Rattle.bundle.proofs.sections.part.Statement.{statement}
 use Rattle.bundle.proofs.sections.part.Tie as tie
 
@@ -17,7 +16,7 @@ abbrev μ-loop : tie.MeasureT-loop
 μ-loop bundle buffer₀ cuts₀ at₀ bytes₀ count₀ buffer cuts at bytes count = length bundle - at
 
 returns : tie.Need-returns Inv-loop μ-loop
-returns c = bad-long _ (c .if1 .taken)
+returns c = bad-long _ (omega arith)
 
 loop-holds : tie.Need-loop-holds Inv-loop μ-loop
 loop-holds c = (refl, refl, taking-start _ _ _ (c .before .before .before .before .pre .2))

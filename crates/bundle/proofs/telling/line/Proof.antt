@@ -1,17 +1,23 @@
 -- Each answer of the code that is the machine's has that answer's line; no refusal but damage is one. Assumes nothing.
 use native.Mathlib.Omega.{arith}
-use mathlib.Core.Path.{sym, ap, _∙_}
+use mathlib.Core.Path.{_≡_, sym, ap, _∙_}
 use mathlib.Core.List.{List, [], _∷_}
 use Prim.Native.Nat.{ℕ}
-use types.Run.{miss}
-use Rattle.leaves.specs.Refusal.{numberOf, valuesOf, refused}
+use borrow.Author.Needs.{needs}
+use types.Run.{OneOf, miss}
+use denote.Enum.Declared.{tagOf}
+use Rattle.leaves.specs.Refusal.{refused}
+use Rattle.leaves.specs.FrameLaws.{refused-not-done, refused-one}
+use Rattle.leaves.specs.declared.refusal.Refusal.{Refusal}
+use Rattle.leaves.specs.declared.refusal.Refusal.the-variants.{Damaged}
+use Rattle.leaves.proofs.refusal.Refusal.{the-type}
+use Rattle.machine.specs.Machine.{Answer, says, end, record-at, damage-at}
+use Rattle.machine.specs.State.{answerOf}
 use Rattle.records.specs.Merge.{turnOf}
 use Rattle.bundle.specs.Lines.{endLine}
-use Rattle.bundle.specs.ReplayCalls.{line-record, line-end, line-damage, no-other}
-use borrow.Author.Needs.{needs}
-use Rattle.bundle.proofs.Refusals.{shown}
-use Rattle.bundle.proofs.replay.line.Statement.{statement}
-use Rattle.bundle.proofs.replay.line.Tie as tie
+use Rattle.bundle.specs.Telling.{line-record, line-end, line-damage}
+use Rattle.bundle.proofs.telling.line.Statement.{statement}
+use Rattle.bundle.proofs.telling.line.Tie as tie
 
 enum-known-answer : tie.Need-enum-known-answer
 enum-known-answer c = search needs
@@ -66,11 +72,16 @@ returns-3 c = λ x e.
 abbrev others : List ℕ
 others = 0 ∷ 1 ∷ 2 ∷ 3 ∷ 4 ∷ 5 ∷ 6 ∷ 7 ∷ 8 ∷ 9 ∷ 10 ∷ 11 ∷ 13 ∷ 14 ∷ []
 
+-- no refusal but damage is an answer of the machine
+never : (x : Answer) (r : Refusal) → OneOf others (tagOf the-type r) → refused r ≡ answerOf x → ⊥
+never (says p (record-at a c)) r o e = refused-not-done r (cc)
+never (says p (damage-at a k)) r o e = miss others 12 tt (rw (refused-one r (Damaged p a k) e) at o)
+never end r o e = refused-not-done r (cc)
+
 returns-4 : tie.Need-returns-4
 returns-4 c = λ x e.
     let a = c .before .before .answer2 .given in
-    let r = a .0 .0 in
-    absurd (no-other x (numberOf r) (valuesOf r) (shown r .0) (λ z. miss others 12 tt (rw (shown r .1 z) at (c .match2 .keys2))) (ap turnOf (sym (a .1)) ∙ e))
+    absurd (never x (a .0 .0) (c .match2 .keys2) (ap turnOf (sym (a .1)) ∙ e))
 
 pub line-spec : {M : Type 1} → statement M
 line-spec =

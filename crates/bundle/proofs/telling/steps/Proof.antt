@@ -1,17 +1,16 @@
 -- Loop: the state is sound, and what is written is the whole without the lines to come (`Stepping`); the answers to come fall.
 -- Assumes nothing.
-use borrow.Author.Needs.{needs}
 use native.Mathlib.Omega.{arith}
-use mathlib.Core.Path.{_≡_, sym, _∙_}
+use mathlib.Core.Path.{sym, _∙_}
 use Prim.Native.Nat.{_-_}
 use lib.ListN.{length}
 use Rattle.machine.specs.Bytes.{streamsOf}
 use Rattle.machine.specs.Kept.{total}
 use Rattle.machine.specs.View.{statusesOf}
 use Rattle.bundle.specs.ReplayLaws.{linesLeft}
-use Rattle.bundle.specs.ReplayCalls.{Places, Told, Stepping, stepping-start, stepping-more, stepping-last}
-use Rattle.bundle.proofs.replay.steps.Statement.{statement}
-use Rattle.bundle.proofs.replay.steps.Tie as tie
+use Rattle.bundle.specs.Telling.{Stepping, stepping-start, stepping-more, stepping-last}
+use Rattle.bundle.proofs.telling.steps.Statement.{statement}
+use Rattle.bundle.proofs.telling.steps.Tie as tie
 
 abbrev Inv-loop : tie.InvT-loop
 Inv-loop buffer cuts held marks₀ times₀ places₀ heads₀ heap₀ text₀ at₀ size₀ marks times places heads heap text at size =

@@ -1,11 +1,11 @@
 -- The cuts are right, so the opening is done, and the loop starts from the machine's start. Assumes nothing.
 use mathlib.Core.Path.{sym, ap, _∙_}
-use Rattle.records.specs.Merge.{openingOf}
-use Rattle.bundle.specs.ReplayCalls.{opening-right, opening-held, opening-done, opened-starts, opened-ready}
-use Rattle.bundle.proofs.Refusals.{shown}
+use Rattle.leaves.specs.FrameLaws.{refused-not-done}
+use Rattle.records.specs.Opening.{openingOf}
+use Rattle.bundle.specs.Telling.{opening-right, opening-held, opening-done, opened-starts, opened-ready}
 use borrow.Author.Needs.{needs}
-use Rattle.bundle.proofs.replay.merged.Statement.{statement}
-use Rattle.bundle.proofs.replay.merged.Tie as tie
+use Rattle.bundle.proofs.telling.merged.Statement.{statement}
+use Rattle.bundle.proofs.telling.merged.Tie as tie
 
 array-share-prefix-no-hint : tie.Need-array-share-prefix-no-hint
 array-share-prefix-no-hint c = search needs
@@ -70,7 +70,7 @@ same-length-11 c = search needs
 returns-2 : tie.Need-returns-2
 returns-2 c =
     let m = c .before .before .before .before .before .before .before .before .before .before .before .before .before .before .before .before .before .before .before .before .before .before .before .before .before .before .before .pre in
-    absurd (shown (c .enum-told .given .0 .0) .0 (opening-done m (ap openingOf (sym (c .enum-told .given .1)) ∙ c .before .before .before .before .before .before .before .before .before .before .before .before .«open» .ensures .0)))
+    absurd (refused-not-done (c .enum-told .given .0 .0) (opening-done m (ap openingOf (sym (c .enum-told .given .1)) ∙ c .before .before .before .before .before .before .before .before .before .before .before .before .«open» .ensures .0)))
 
 pub merged-spec : {M : Type 1} → statement M
 merged-spec =

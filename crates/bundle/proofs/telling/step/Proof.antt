@@ -1,8 +1,8 @@
 -- The answer is the machine's, so its line is that answer's. Assumes nothing.
-use Rattle.bundle.specs.ReplayCalls.{places-right}
+use Rattle.bundle.specs.Telling.{places-right}
 use borrow.Author.Needs.{needs}
-use Rattle.bundle.proofs.replay.step.Statement.{statement}
-use Rattle.bundle.proofs.replay.step.Tie as tie
+use Rattle.bundle.proofs.telling.step.Statement.{statement}
+use Rattle.bundle.proofs.telling.step.Tie as tie
 
 next-requires : tie.Need-next-requires
 next-requires c κs = search needs

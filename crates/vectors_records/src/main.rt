@@ -1,0 +1,55 @@
+// Runs the cases that stand on standard input, one to a line, over `bundle` and `records`, and prints what they answer.
+// `= NAME` names what follows, and is printed. `b LENGTH HEX` is a bundle of so many bytes, those of HEX and then zeros: its replay.
+// `m COUNT hint.. COUNT cut.. HEX` are streams in one buffer with their hints: the answers of the merge to its end, and one more.
+mod bundles;
+mod merges;
+
+ghost use mathlib.Core.Path.{_≡_};
+ghost use lib.ListN.{length};
+
+// Room for the whole data.
+fn room() -> [u8; 131072]
+    ensures { λ r. ⌜ 131072 ≡ length r ⌝ }
+{
+    [0; 131072]
+}
+
+// Prints the rest of the line that a place stands in.
+fn print_line(text: &[u8], at: usize) {
+    let from = cases::past_blanks(text, at);
+    let to = cases::line_end(text, from);
+    if to <= text.len() {
+        io::write_all(1, &text[from..to]);
+        io::write_all(1, b"\n");
+    }
+}
+
+// Runs the case that a line holds.
+fn run_line(text: &[u8], at: usize) {
+    let kind = cases::byte_at(text, at);
+    let rest = cases::past(text, at);
+    if kind == b'=' {
+        print_line(text, rest);
+    }
+    if kind == b'b' {
+        bundles::run(text, rest);
+    }
+    if kind == b'm' {
+        merges::run(text, rest);
+    }
+}
+
+// Runs the lines of the text.
+fn run(text: &[u8]) {
+    let mut at = 0;
+    while at < text.len() {
+        run_line(text, at);
+        at = cases::next_line(text, at);
+    }
+}
+
+fn main() {
+    let mut data = room();
+    let n = io::read_full(0, &mut data);
+    run(&data[..n]);
+}
