@@ -1,0 +1,3 @@
+pub mod Arrivals
+pub mod Picks
+pub mod Sides

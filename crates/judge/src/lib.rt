@@ -1,0 +1,130 @@
+// The tests of a metadata merge over both sides whole (01, Merging metadata): 11 for any date, 3 for any name number, 1 for any
+// interval. Each answers whether all pass. Helpers: each asks for the words that it reads.
+use leaves::days::Day;
+use leaves::days::day_of;
+use merging::Interval;
+use walk::words::interval_at;
+use walk::words::name_at;
+use walk::words::wide;
+ghost use mathlib.Core.Path.{_≡_};
+ghost use Prim.Native.Nat.{_+_, _*_, _<_, _≤_};
+ghost use lib.ListN.{length, take};
+ghost use lib.Dec.{ltb, leb};
+ghost use Rattle.merging.specs.Metadata.{every};
+ghost use Rattle.merging.specs.Words.{namesFrom};
+ghost use Rattle.walk.specs.Words.{rest};
+ghost use Rattle.judge.specs.Judge.{knownDate, dated, known, forward, below, namesTo};
+
+// Whether a number is a date within the range.
+fn is_date(date: u32) -> bool
+    ensures { λ r. ⌜ r ≡ knownDate date ⌝ }
+{
+    let d = day_of(date);
+    match d {
+        Day::Number(_) => true,
+        Day::Refused(_) => false,
+    }
+}
+
+// Whether start and end are dates.
+fn is_dated(x: Interval) -> bool
+    ensures { λ r. ⌜ r ≡ dated x ⌝ }
+{
+    if is_date(x.start) {
+        return is_date(x.end);
+    }
+    false
+}
+
+// 11: whether start and end of each of the first n intervals are dates.
+pub fn dates_known(v: &[u32], n: usize) -> bool
+    requires { ⌜ 3 * n ≤ length (now v) ⌝ }
+    ensures { λ r. ⌜ r ≡ every dated (rest (now (v .entry)) 0 n) ⌝ }
+{
+    let mut i = 0;
+    while i < n {
+        let x = interval_at(v, i);
+        if !is_dated(x) {
+            return false;
+        }
+        i += 1;
+    }
+    true
+}
+
+// Whether a number was handed out: it is below the number of names.
+fn is_known(x: u32, names: usize) -> bool
+    ensures { λ r. ⌜ r ≡ below names x ⌝ }
+{
+    wide(x) < names
+}
+
+// 3: whether the symbol of each of the first n intervals was handed out.
+pub fn symbols_known(v: &[u32], n: usize, names: usize) -> bool
+    requires { ⌜ 3 * n ≤ length (now v) ⌝ }
+    ensures { λ r. ⌜ r ≡ every (known names) (rest (now (v .entry)) 0 n) ⌝ }
+{
+    let mut i = 0;
+    while i < n {
+        let x = interval_at(v, i);
+        if !is_known(x.symbol, names) {
+            return false;
+        }
+        i += 1;
+    }
+    true
+}
+
+// 3: whether the name of each of the first n mappings was handed out.
+pub fn names_known(m: &[u32], n: usize, names: usize) -> bool
+    requires { ⌜ 2 * n ≤ length (now m) ⌝ }
+    ensures { λ r. ⌜ r ≡ every (below names) (namesTo (now (m .entry)) 0 n) ⌝ }
+{
+    let mut i = 0;
+    while i < n {
+        let x = name_at(m, i);
+        if !is_known(x, names) {
+            return false;
+        }
+        i += 1;
+    }
+    true
+}
+
+// 3: whether each of the first n entries of a set was handed out.
+pub fn entries_known(xs: &[u32], n: usize, names: usize) -> bool
+    requires { ⌜ n ≤ length (now xs) ⌝ }
+    ensures { λ r. ⌜ r ≡ every (below names) (take n (now (xs .entry))) ⌝ }
+{
+    let mut i = 0;
+    while i < n {
+        if !is_known(xs[i], names) {
+            return false;
+        }
+        i += 1;
+    }
+    true
+}
+
+// Whether start comes not after end.
+fn is_forward(x: Interval) -> bool
+    ensures { λ r. ⌜ r ≡ forward x ⌝ }
+{
+    x.start <= x.end
+}
+
+// 1: whether the start of each of the first n intervals comes not after its end.
+pub fn forwards(v: &[u32], n: usize) -> bool
+    requires { ⌜ 3 * n ≤ length (now v) ⌝ }
+    ensures { λ r. ⌜ r ≡ every forward (rest (now (v .entry)) 0 n) ⌝ }
+{
+    let mut i = 0;
+    while i < n {
+        let x = interval_at(v, i);
+        if !is_forward(x) {
+            return false;
+        }
+        i += 1;
+    }
+    true
+}

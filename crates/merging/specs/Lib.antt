@@ -1,0 +1,9 @@
+pub mod Cases
+pub mod Walk
+pub mod WalkLaws
+pub mod Metadata
+pub mod Names
+pub mod Fold
+pub mod Cover
+pub mod Words
+pub mod Examples

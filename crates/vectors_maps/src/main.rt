@@ -1,0 +1,61 @@
+// Runs the cases that stand on standard input over the maps, and prints a line for each kind of them. The data itself says
+// what a line means; a case that is answered otherwise than expected is printed.
+mod tables;
+
+ghost use mathlib.Core.Path.{_≡_};
+ghost use lib.ListN.{length};
+
+// Room for the whole data.
+fn room() -> [u8; 262144]
+    ensures { λ r. ⌜ 262144 ≡ length r ⌝ }
+{
+    [0; 262144]
+}
+
+// The kinds of cases.
+const CHECK: u8 = 0;
+
+const INSERT: u8 = 1;
+
+const GET_FOR_TS: u8 = 2;
+
+// Whether the case that a line holds, from a place behind its kind on, is answered as expected.
+fn is_right(text: &[u8], at: usize, kind: u8) -> bool {
+    if kind == CHECK {
+        return tables::check(text, at);
+    }
+    if kind == INSERT {
+        return tables::insert(text, at);
+    }
+    if kind == GET_FOR_TS {
+        return tables::get_for_ts(text, at);
+    }
+    false
+}
+
+// Runs the lines of one kind and prints the group's line.
+fn run(text: &[u8], name: &[u8], kind: u8) {
+    let mut cases = 0u64;
+    let mut wrong = 0u64;
+    let mut at = 0;
+    while at < text.len() {
+        if cases::is_word(text, at, name) {
+            cases = cases::one_more(cases);
+            if !is_right(text, cases::word_end(text, at), kind) {
+                wrong = cases::one_more(wrong);
+                cases::print_wrong(text, at);
+            }
+        }
+        at = cases::next_line(text, at);
+    }
+    cases::print_group(name, cases, wrong);
+}
+
+fn main() {
+    let mut data = room();
+    let n = io::read_full(0, &mut data);
+    let text = &data[..n];
+    run(text, b"check", CHECK);
+    run(text, b"insert", INSERT);
+    run(text, b"get_for_ts", GET_FOR_TS);
+}

@@ -1,0 +1,161 @@
+// Cases of the table over time: check, insert, get_for_ts.
+use maps::insert::Inserted;
+use maps::interval::Interval;
+use maps::lookup::Found;
+use maps::table::Checked;
+ghost use mathlib.Core.Path.{_≡_};
+ghost use lib.ListN.{length};
+
+// Room for the lent bytes of one case.
+fn room() -> [u8; 2048]
+    ensures { λ r. ⌜ 2048 ≡ length r ⌝ }
+{
+    [0; 2048]
+}
+
+// A line `TABLE USED NAMES = NUMBER`.
+pub fn check(text: &[u8], at: usize) -> bool {
+    let mut table = room();
+    let given = cases::bytes_at(text, at, &mut table);
+    let n = given.count;
+    let used = cases::number_at(text, given.next);
+    let names = cases::number_at(text, used.next);
+    let number = cases::number_at(text, cases::past_equals(text, names.next));
+    match maps::table::check(&table[..n], used.value as usize, names.value as usize) {
+        Checked::WellFormed => number.value == 0,
+        Checked::Refused(r) => number.value == leaves::refusal::number(r) as u64,
+    }
+}
+
+// An insert, and what it is expected to answer.
+struct Asked {
+    used: usize,
+    names: usize,
+    interval: Interval,
+    number: u64,
+    used_after: usize,
+    next: usize,
+}
+
+fn narrow(n: u64) -> u32 {
+    if n <= 4294967295 {
+        n as u32
+    } else {
+        4294967295
+    }
+}
+
+fn interval_at(text: &[u8], at: usize) -> Interval {
+    let instrument = cases::number_at(text, at);
+    let start = cases::number_at(text, instrument.next);
+    let end = cases::number_at(text, start.next);
+    let symbol = cases::number_at(text, end.next);
+    Interval {
+        instrument: narrow(instrument.value),
+        symbol: narrow(symbol.value),
+        start: start.value,
+        end: end.value,
+    }
+}
+
+fn asked_at(text: &[u8], at: usize) -> Asked {
+    let used = cases::number_at(text, at);
+    let names = cases::number_at(text, used.next);
+    let interval = interval_at(text, names.next);
+    let number = cases::number_at(text, cases::past_equals(text, names.next));
+    let used_after = cases::number_at(text, number.next);
+    Asked {
+        used: used.value as usize,
+        names: names.value as usize,
+        interval,
+        number: number.value,
+        used_after: used_after.value as usize,
+        next: used_after.next,
+    }
+}
+
+// Whether the insert answers as expected, and leaves the lent bytes as expected.
+fn inserts(table: &mut [u8], asked: Asked, after: &[u8]) -> bool {
+    let interval = asked.interval;
+    match maps::insert::insert(table, asked.used, asked.names, interval) {
+        Inserted::Done(used) => asked.number == 0
+            && used == asked.used_after
+            && check::same(table, after),
+        Inserted::Refused(r) => {
+            asked.number == leaves::refusal::number(r) as u64 && check::same(table, after)
+        }
+    }
+}
+
+// A line `TABLE USED NAMES INSTRUMENT START END SYMBOL = NUMBER USED TABLE`.
+pub fn insert(text: &[u8], at: usize) -> bool {
+    let mut before = room();
+    let mut after = room();
+    let given = cases::bytes_at(text, at, &mut before);
+    let n = given.count;
+    let asked = asked_at(text, given.next);
+    let expected = cases::bytes_at(text, asked.next, &mut after);
+    let m = expected.count;
+    inserts(&mut before[..n], asked, &after[..m])
+}
+
+// A lookup, and what it is expected to answer.
+struct Lookup {
+    used: usize,
+    instrument: u32,
+    moment: u64,
+    hint: u64,
+    number: u64,
+    found: u64,
+    symbol: u64,
+    hint_after: u64,
+}
+
+fn lookup_at(text: &[u8], at: usize) -> Lookup {
+    let used = cases::number_at(text, at);
+    let instrument = cases::number_at(text, used.next);
+    let moment = cases::number_at(text, instrument.next);
+    let hint = cases::number_at(text, moment.next);
+    let number = cases::number_at(text, cases::past_equals(text, hint.next));
+    let found = cases::number_at(text, number.next);
+    let symbol = cases::number_at(text, found.next);
+    let after = cases::number_at(text, symbol.next);
+    Lookup {
+        used: used.value as usize,
+        instrument: narrow(instrument.value),
+        moment: moment.value,
+        hint: hint.value,
+        number: number.value,
+        found: found.value,
+        symbol: symbol.value,
+        hint_after: after.value,
+    }
+}
+
+// Whether the lookup answers as expected.
+fn looks(table: &[u8], asked: Lookup) -> bool {
+    let looked = maps::lookup::get_for_ts(
+        table,
+        asked.used,
+        asked.instrument,
+        asked.moment,
+        asked.hint,
+    );
+    if looked.hint != asked.hint_after {
+        return false;
+    }
+    let found = looked.found;
+    match found {
+        Found::Symbol(s) => asked.number == 0 && asked.found == 1 && asked.symbol == s as u64,
+        Found::Nothing => asked.number == 0 && asked.found == 0,
+        Found::Refused(r) => asked.number == leaves::refusal::number(r) as u64,
+    }
+}
+
+// A line `TABLE USED INSTRUMENT MOMENT HINT = NUMBER FOUND SYMBOL HINT`.
+pub fn get_for_ts(text: &[u8], at: usize) -> bool {
+    let mut table = room();
+    let given = cases::bytes_at(text, at, &mut table);
+    let n = given.count;
+    looks(&table[..n], lookup_at(text, given.next))
+}
