@@ -10,4 +10,5 @@ pub mod MappingLaws
 pub mod MappingInterval
 pub mod Table
 pub mod MappingHistory
+pub mod MappingExamples
 pub mod Lookup

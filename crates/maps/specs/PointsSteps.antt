@@ -295,21 +295,25 @@ module _ (t : List ℕ) (used : ℕ) {b : Bool} (e : b ≡ pointsFit (length t) 
   unfolding pointFound
   get-memory i f = rw (unfit f) refl
 
-  pub get-fits : {a : Answer} → not b ≡ false → pointsFit (length t) used ≡ false → a ≡ refused BadMemory
-  get-fits f g = let z : _≡_ {A = ℕ} 0 1 = cc (fits f) in absurd (omega arith)
+  -- 15 is given for no table that fits
+  pub get-unfit : {n : ℕ} → not b ≡ true → pointsFit (length t) used ≡ true → n ≡ 0
+  get-unfit f g = let z : _≡_ {A = ℕ} 0 1 = cc (unfit f) in absurd (omega arith)
 
-  pub get-nothing : (i : ℕ) {place : ℕ} {h : Bool} → not b ≡ false → Placed t used i place → h ≡ holdsAt t used place i → not h ≡ true → T (rising (entries t used))
-      → answer 0 [] ≡ pointFound t used i
+  sorted : not b ≡ false → T (not (pointsFit (length t) used) || rising (entries t used)) → T (rising (entries t used))
+  sorted f s = rw (fits f) at s
+
+  pub get-nothing : (i : ℕ) {place : ℕ} {h : Bool} → not b ≡ false → Placed t used i place → h ≡ holdsAt t used place i → not h ≡ true
+      → T (not (pointsFit (length t) used) || rising (entries t used)) → answer 0 [] ≡ pointFound t used i
   unfolding pointFound
   get-nothing i {place} {h} f p g n s =
-      let o : symbolFor i (entries t used) ≡ none = symbol-not-held t used i place p s (not-held t used place i (sym g ∙ not-true h n)) in
+      let o : symbolFor i (entries t used) ≡ none = symbol-not-held t used i place p (sorted f s) (not-held t used place i (sym g ∙ not-true h n)) in
       rw (fits f, o) refl
 
   pub get-symbol : (i : ℕ) {place : ℕ} {h : Bool} {x : Entry} → not b ≡ false → Placed t used i place → h ≡ holdsAt t used place i → not h ≡ false → x ≡ entryAt t place
-      → T (rising (entries t used)) → answer 0 (x .symbol ∷ []) ≡ pointFound t used i
+      → T (not (pointsFit (length t) used) || rising (entries t used)) → answer 0 (x .symbol ∷ []) ≡ pointFound t used i
   unfolding pointFound
   get-symbol i {place} {h} {x} f p g n q s =
-      let o : symbolFor i (entries t used) ≡ some (entryAt t place .symbol) = symbol-held t used i place p s (held t used place i (sym g ∙ not-false h n)) in
+      let o : symbolFor i (entries t used) ≡ some (entryAt t place .symbol) = symbol-held t used i place p (sorted f s) (held t used place i (sym g ∙ not-false h n)) in
       rw (fits f, o, ← q) refl
 
   pub get-within : (i place : ℕ) {h : Bool} → not b ≡ false → h ≡ holdsAt t used place i → not h ≡ false → place * 8 + 8 ≤ length t

@@ -11,11 +11,11 @@ use crate::table::NAME_LIMIT;
 use crate::table::ROOM_LIMIT;
 use leaves::refusal::Refusal;
 ghost use mathlib.Core.Path.{_≡_};
-ghost use mathlib.Core.Bool.{false};
+ghost use mathlib.Core.Bool.{true, not, _||_};
 ghost use Prim.Native.Nat.{_*_, _≤_, _<_};
 ghost use lib.ListN.{length};
 ghost use lib.Dec.{T};
-ghost use Rattle.leaves.specs.Refusal.{refused};
+ghost use Rattle.tables.specs.Looks.{numberIn};
 ghost use Rattle.maps.specs.Table.{checkedOf};
 ghost use Rattle.maps.specs.Entries.{entries};
 ghost use Rattle.maps.specs.Points.{rising, wellFormed, pointsFit, setEntry, pointsChecked, pointFound, foundOf, storedAnswer, storedBytes, usedThen, entriesThen, storedOf};
@@ -118,10 +118,10 @@ fn holds(table: &[u8], used: usize, place: usize, instrument: u32) -> bool
     x.instrument == instrument
 }
 
-// The symbol of an instrument. On a table that is not sorted it ends and answers something: no more is promised there.
+// The symbol of an instrument: 15 only. On a table that is not sorted the answer may be any symbol or nothing.
 pub fn get(table: &[u8], used: usize, instrument: u32) -> Found
-    ensures memory { λ r. ⌜ (pointsFit (length (now (table .entry))) used ≡ false → foundOf r ≡ refused Refusal.BadMemory) ⌝ }
-    ensures sorted { λ r. ⌜ (T (rising (entries (now (table .entry)) used)) → foundOf r ≡ pointFound (now (table .entry)) used instrument) ⌝ }
+    ensures right { λ r. ⌜ (T (not (pointsFit (length (now (table .entry))) used) || rising (entries (now (table .entry)) used)) → foundOf r ≡ pointFound (now (table .entry)) used instrument) ⌝ }
+    ensures accepted { λ r. ⌜ (pointsFit (length (now (table .entry))) used ≡ true → numberIn (foundOf r) ≡ 0) ⌝ }
 {
     if !points_fit(table.len(), used) {
         return Found::Refused(Refusal::BadMemory);

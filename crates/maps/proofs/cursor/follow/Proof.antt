@@ -122,19 +122,19 @@ module _ {M : Type 1} (𝓤 : URA M) (H : Heap 𝓤) (A : Atoms 𝓤) (W : Given
       -- [what the callee's parameters own; what the table owns; the token]
       move ! (2 ∷ 0 ∷ []) $ use2 W (raw (GetForTs 𝓤 H A at-mem run .pre to)) (qed W ((‵ (flft κ′ q′) ⊛ ‵ ftrue) ∷ ‵ (owns (ShrSlice (named 0) κ′ u8 ∷ usize ∷ u32 ∷ u64 ∷ u64 ∷ []) a′ at′) ∷ []) ∵ join ! $ frame ! $ done !) $ frame ! $ done !
 
-  -- of the callee's `ensured`, its first clause alone: it has no `&mut`
-  said : (r : Looked) → ent 𝓤 (ensured 𝓤 H A lookup.ended (lookup.clauses 𝓤 H A at-mem run) (κ′, tt) a′ tt r) (fact 𝓤 (Says r))
-  said r = exE 𝓤 _ (λ ws. via 𝓤 _ (snd∗ 𝓤 (sem 𝓤 H A (lasts lookup.ended (κ′, tt) a′ ws)) _) (fst∗ 𝓤 (fact 𝓤 (Says r)) (fact 𝓤 (Number r))))
+  -- of the callee's `ensured`, its two clauses alone: it has no `&mut`
+  said : (r : Looked) → ent 𝓤 (ensured 𝓤 H A lookup.ended (lookup.clauses 𝓤 H A at-mem run) (κ′, tt) a′ tt r) (sep 𝓤 (fact 𝓤 (Says r)) (fact 𝓤 (Number r)))
+  said r = exE 𝓤 _ (λ ws. snd∗ 𝓤 (sem 𝓤 H A (lasts lookup.ended (κ′, tt) a′ ws)) (sep 𝓤 (fact 𝓤 (Says r)) (fact 𝓤 (Number r))))
 
   -- the machine value of what is found
   abbrev w : Looked → Val
   w r = EL.val S.the-type S′.the-laws (r .found)
 
-  exits : (r : Looked) → Says r → Is S.the-row (r .found) (w r ∷ []) → ent 𝓤 (⋆ 𝓤 H A (‵ (fobs γ (Cur.the-row .coded .code (h′ r))) ∷ ‵ (fbor κ (Body (mem Cur.the-row) b o γ)) ∷ ‵ (flft κ q) ∷ (‵ (flft κ′ q′) ⊛ ‵ ftrue) ∷ ‵ Own ∷ [])) (Post (w r))
-  exits r e is =
+  exits : (r : Looked) → Says r → Number r → Is S.the-row (r .found) (w r ∷ []) → ent 𝓤 (⋆ 𝓤 H A (‵ (fobs γ (Cur.the-row .coded .code (h′ r))) ∷ ‵ (fbor κ (Body (mem Cur.the-row) b o γ)) ∷ ‵ (flft κ q) ∷ (‵ (flft κ′ q′) ⊛ ‵ ftrue) ∷ ‵ Own ∷ [])) (Post (w r))
+  exits r e k is =
       qed W (‵ (fobs γ (Cur.the-row .coded .code (h′ r))) ∷ ‵ (fbor κ (Body (mem Cur.the-row) b o γ)) ∷ ‵ (flft κ q) ∷ (‵ (flft κ′ q′) ⊛ ‵ ftrue) ∷ ‵ Own ∷ []) ∵
       suffices ! _ (ends-at 𝓤 H A f.ended stayed (f.clauses 𝓤 H A at-mem run) W (((κ, (κ′, tt)), (q, (q′, tt)), tt, x, at), tt) (w r) (r .found) (h′ r, (tt, (tt, (tt, (tt, tt))))) (tt, (tt, (tt, (tt, (tt, tt)))))) $
-      says ! e $ move ! (2 ∷ 3 ∷ []) $ join ! $ frame ! $
+      says ! (e, k) $ move ! (2 ∷ 3 ∷ []) $ join ! $ frame ! $
       -- [obs; the borrow; what the table owns]
       feqI ! (List Val) (vptr b o ∷ []) (vptr b o ∷ []) refl $ fjoin3 ! $
       nothing ! $ owned ! u64 (Is u64) (uint-makes 𝓤 H A W w64) m _ (refl, m-fits) $ fjoin ! $ owned ! u32 (Is u32) (uint-makes 𝓤 H A W w32) i _ (refl, i-fits) $ fjoin ! $ owned ! usize (Is usize) (uint-makes 𝓤 H A W w64) n _ (refl, n-fits) $ fjoin ! $
@@ -156,7 +156,7 @@ module _ {M : Type 1} (𝓤 : URA M) (H : Heap 𝓤) (A : Atoms 𝓤) (W : Given
         move ! (5 ∷ 6 ∷ []) $ use2 W (raw (GetForTs 𝓤 H A at-mem run .pre to) ⊛ ‵ Own) (apart (LL.owed Cur.the-type Cur′.the-laws h _ was .0 .1)) $ split ! $
         calls-at ! fm (GetForTs 𝓤 H A at-mem run) known to (and-then ! (load ! (from ! (stop !)) (look ! 17 refl)) (and-then ! (load ! (from ! (stop !)) (look ! 15 refl)) (and-then ! (load ! (from ! (stop !)) (look ! 13 refl)) (and-then ! (load ! (from ! (stop !)) (look ! 11 refl)) (and-then ! (load ! (from ! (stop !)) (look ! 7 refl)) (no-more !)))))) (λ u.
         use1 W (later (some (λ (r : Looked). ((‵ (flft κ′ q′) ⊛ ‵ ftrue) ⊛ ‵ (L.the-row .own r (u ∷ []))) ⊛ raw (ensured 𝓤 H A lookup.ended (lookup.clauses 𝓤 H A at-mem run) (κ′, tt) a′ tt r)))) (id⊢ 𝓤 _) $ await ! tt $ pick ! (λ r.
-        split ! $ move ! (1 ∷ []) $ use1 W (raw (fact 𝓤 (Says r))) (said r) $ heard ! (Says r) (λ e. split ! $ move ! (1 ∷ []) $
+        split ! $ move ! (1 ∷ []) $ use1 W (raw (fact 𝓤 (Says r)) ⊛ raw (fact 𝓤 (Number r))) (said r) $ split ! $ heard ! (Says r) (λ e. heard ! (Number r) (λ k. split ! $ move ! (1 ∷ []) $
         -- [what the Looked owns; the table's token; what the table owns; the struct's cell; what a Cursor owns; the open borrow; obs; auth; _7; …; room for _6; …; _5; …; _4; …; _3; …; _2; …; _1; …; room for _0; …]
         peeks ! L.the-row (Is L.the-row) (shows 𝓤 H A L.the-row) r (u ∷ []) (λ is.
         land ! (from ! (stop !)) (init ! 10 refl (LL.lawful L.the-type L′.the-laws 𝓤 H A W .typed r _ is .0)) $ rewrite ! 10 (λ (z : Val). ‵ (fat fullShare L′.mir l₆ 0 z)) (ap only (LL.tells L.the-type L′.the-laws r _ is)) refl $
@@ -168,7 +168,7 @@ module _ {M : Type 1} (𝓤 : URA M) (H : Heap 𝓤) (A : Atoms 𝓤) (W : Given
         -- [obs; the borrow; its token; the table's token; what the table owns; _7; …; _6; …; _5; …; _4; …; _3; …; _2; …; _1; …; _0; …]
         returns ! (look ! 19 refl) $ forget ! 5 refl $ forget ! 7 refl $ forget ! 9 refl $ forget ! 11 refl $ forget ! 13 refl $ forget ! 15 refl $ forget ! 17 refl $ forget ! 19 refl $
         move ! (19 ∷ 20 ∷ []) $ free1 ! $ move ! (17 ∷ 18 ∷ []) $ free1 ! $ move ! (15 ∷ 16 ∷ []) $ free1 ! $ move ! (13 ∷ 14 ∷ []) $ free1 ! $ move ! (11 ∷ 12 ∷ []) $ free1 ! $ move ! (9 ∷ 10 ∷ []) $ free1 ! $ move ! (7 ∷ 8 ∷ []) $ free1 ! $ move ! (5 ∷ 6 ∷ []) $ free1 ! $ free0 ! $
-        by ! (exits r e (LL.owed L.the-type L′.the-laws r _ is .0))))))))))))))))
+        by ! (exits r e k (LL.owed L.the-type L′.the-laws r _ is .0)))))))))))))))))
 
 module _ {M : Type 1} (𝓤 : URA M) (H : Heap 𝓤) (A : Atoms 𝓤) (W : Given 𝓤 H A) (at-mem : Memory → SProp 𝓤) (run : Routine → Fun 𝓤) where
   follow-walks : (C : Calls 𝓤 H) (Λ : Loops 𝓤 H) → FmC 𝓤 H (W .laws) C → Triple 𝓤 (C #maps·get-for-ts) (GetForTs 𝓤 H A at-mem run) → Walks 𝓤 H A f.ended stayed (WpFn 𝓤 H C Λ code.function) (f.clauses 𝓤 H A at-mem run)
