@@ -1,11 +1,11 @@
 // A case that is a merge of streams with hints.
 use leaves::refusal::Refusal;
+use records::merge::Opening;
 use records::merge::Turn;
+use records::merge::empty_bytes;
+use records::merge::empty_numbers;
 use records::merge::next;
-use records::opening::Opening;
-use records::opening::open;
-use records::state::empty_bytes;
-use records::state::empty_numbers;
+use records::merge::open;
 ghost use mathlib.Core.Path.{_≡_};
 ghost use Prim.Native.Nat.{_≤_};
 ghost use lib.ListN.{length};

@@ -1,7 +1,7 @@
 -- The cuts are right, so the opening is done, and the loop starts from the machine's start. Assumes nothing.
 use mathlib.Core.Path.{sym, ap, _∙_}
 use Rattle.leaves.specs.FrameLaws.{refused-not-done}
-use Rattle.records.specs.Opening.{openingOf}
+use Rattle.records.specs.Merge.{openingOf}
 use Rattle.bundle.specs.Telling.{opening-right, opening-held, opening-done, opened-starts, opened-ready}
 use borrow.Author.Needs.{needs}
 use Rattle.bundle.proofs.telling.merged.Statement.{statement}
