@@ -1,0 +1,97 @@
+// The table over time at the C door (01, The map over time): bytes, 24 an interval.
+use leaves::refusal::Refusal;
+use leaves::refusal::number;
+use maps::check::Checked;
+use maps::insert::Inserted;
+use maps::interval::Interval;
+use maps::lookup::Found;
+ghost use mathlib.Core.Path.{_≡_};
+ghost use mathlib.Core.Bool.{_||_};
+ghost use lib.ListN.{length};
+ghost use lib.Dec.{T};
+ghost use Rattle.tables.specs.Table.{ordered};
+ghost use Rattle.tables.specs.Memory.{sameValue, rows, badTable, checkAnswer, insertOutcome, outcomeAnswer, memoryAfter};
+ghost use Rattle.tables.specs.Looks.{lookupAnswer};
+ghost use Rattle.door.specs.Answers.{numberIn, valueIn, givenIn, row};
+
+// The number of a call that is done.
+const DONE: u32 = 0;
+
+// Whether the table is well-formed: 0, 14 or 15.
+#[no_mangle]
+pub extern "C" fn desk_check(table: &[u8], used: usize, names: usize) -> u32
+    ensures { λ r. ⌜ r ≡ numberIn (checkAnswer (now (table .entry)) used names) ⌝ }
+{
+    let checked = maps::check::check(table, used, names);
+    match checked {
+        Checked::WellFormed => DONE,
+        Checked::Refused(refusal) => number(refusal),
+    }
+}
+
+// Inserts a symbol for an instrument from start to before end: 0, 15, 14, 1, 3 or 2; `used` becomes the new number in use.
+#[no_mangle]
+pub extern "C" fn desk_insert(
+    table: &mut [u8],
+    used: &mut usize,
+    names: usize,
+    instrument: u32,
+    start: u64,
+    end: u64,
+    symbol: u32,
+) -> u32
+    ensures { λ r. ⌜ r ≡ numberIn (outcomeAnswer (insertOutcome (now (table .entry)) (now (used .entry)) names (row instrument start end symbol))) ⌝ }
+    ensures { λ _. ⌜ now (used .exit) ≡ valueIn (now (used .entry)) 0 (outcomeAnswer (insertOutcome (now (table .entry)) (now (used .entry)) names (row instrument start end symbol))) ⌝ }
+    ensures { λ _. ⌜ now (table .exit) ≡ memoryAfter (now (table .entry)) (now (used .entry)) (insertOutcome (now (table .entry)) (now (used .entry)) names (row instrument start end symbol)) ⌝ }
+{
+    let interval = Interval {
+        instrument,
+        symbol,
+        start,
+        end,
+    };
+    let inserted = maps::insert::insert(table, *used, names, interval);
+    match inserted {
+        Inserted::Done(length) => {
+            *used = length;
+            DONE
+        }
+        Inserted::Refused(refusal) => number(refusal),
+    }
+}
+
+// The symbol of an instrument at a moment, with any hint: 0 or 15; `hint` becomes the new hint, `found` 1 and `symbol` the symbol, or both 0.
+#[no_mangle]
+pub extern "C" fn desk_get_for_ts(
+    table: &[u8],
+    used: usize,
+    instrument: u32,
+    moment: u64,
+    hint: &mut u64,
+    found: &mut u32,
+    symbol: &mut u32,
+) -> u32
+    ensures { λ r. ⌜ (T (badTable (length (now (table .entry))) used || ordered sameValue (rows (now (table .entry)) used))
+        → (r ≡ numberIn (lookupAnswer (now (table .entry)) used instrument moment (now (hint .entry))))
+        × (now (hint .exit) ≡ valueIn (now (hint .entry)) 0 (lookupAnswer (now (table .entry)) used instrument moment (now (hint .entry))))
+        × (now (found .exit) ≡ givenIn (now (found .entry)) 1 (lookupAnswer (now (table .entry)) used instrument moment (now (hint .entry))))
+        × (now (symbol .exit) ≡ valueIn (now (symbol .entry)) 1 (lookupAnswer (now (table .entry)) used instrument moment (now (hint .entry))))) ⌝ }
+{
+    let looked = maps::lookup::get_for_ts(table, used, instrument, moment, *hint);
+    let answer = looked.found;
+    match answer {
+        Found::Symbol(number) => {
+            *hint = looked.hint;
+            *found = 1;
+            *symbol = number;
+            DONE
+        }
+        Found::Nothing => {
+            *hint = looked.hint;
+            *found = 0;
+            *symbol = 0;
+            DONE
+        }
+        Found::Refused(refusal) => number(refusal),
+    }
+}
