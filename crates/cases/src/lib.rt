@@ -62,7 +62,7 @@ fn wide(b: u8) -> u64
     b as u64
 }
 
-// What a digit stands for, decimal or hexadecimal in capitals; 16 where the byte is none.
+// What a digit stands for, decimal or hexadecimal; 16 where the byte is none.
 fn digit(b: u8) -> u64
     ensures { λ r. ⌜ r < 17 ⌝ }
 {
@@ -76,7 +76,42 @@ fn digit(b: u8) -> u64
     if n < 17 {
         return 16;
     }
-    if n < 23 { n - 7 } else { 16 }
+    if n < 23 {
+        return n - 7;
+    }
+    if n < 49 {
+        return 16;
+    }
+    if n < 55 { n - 39 } else { 16 }
+}
+
+// Where the word that a place stands in ends: at a blank, or at the line's end.
+pub fn word_end(text: &[u8], at: usize) -> usize {
+    let mut i = at;
+    while i < text.len() {
+        if text[i] == b' ' {
+            return i;
+        }
+        if text[i] == b'\n' {
+            return i;
+        }
+        i += 1;
+    }
+    i
+}
+
+// Whether the word at a place is this one.
+pub fn is_word(text: &[u8], at: usize, word: &[u8]) -> bool {
+    let mut place = at;
+    let mut i = 0;
+    while i < word.len() {
+        if byte_at(text, place) != word[i] {
+            return false;
+        }
+        place = past(text, place);
+        i += 1;
+    }
+    place == word_end(text, place)
 }
 
 // The decimal number at a place, blanks before it passed over; 0 where no digit stands there.
@@ -159,6 +194,18 @@ fn past_dash(text: &[u8], at: usize) -> usize {
     } else {
         at
     }
+}
+
+// The place after the next `=`, or the text's end.
+pub fn past_equals(text: &[u8], at: usize) -> usize {
+    let mut i = at;
+    while i < text.len() {
+        if text[i] == b'=' {
+            return i + 1;
+        }
+        i += 1;
+    }
+    i
 }
 
 // One case more.

@@ -1,20 +1,26 @@
 -- What stands at a place and what a record's bytes ask for, one law for each case; and the smallest inputs at each border, computed.
 -- Assumes nothing.
-use mathlib.Core.Path.{_≡_, refl, sym, ap, _∙_}
+use mathlib.Core.Path.{_≡_, refl, sym, ap, ap₂, _∙_}
 use mathlib.Core.Logic.{_≢_}
 use Prim.Native.Nat.{ℕ, _+_, _-_, _/_, _%_, _≤_, _<_, min}
 use native.Mathlib.Omega.{arith}
 use mathlib.Core.List.{List, [], _∷_, _++_}
-use lib.ListN.{length, take, replicate, length-take, length-drop}
+use lib.ListN.{length, getD, take, replicate, length-take, length-drop}
 use lib.Seq.{slice, take-length}
 use borrow.Author.Tests.{lt-ltb, le-ltb, eq-eqb, ne-eqb}
 use Rattle.theory.specs.Answer.{answer}
 use Rattle.theory.specs.Fields.{field, field-slice}
-use Rattle.leaves.specs.Refusal.{numberOf, refused}
+use Rattle.leaves.specs.Refusal.{numberOf, valuesOf, refused}
 use Rattle.leaves.specs.declared.refusal.Refusal.{Refusal}
 use Rattle.leaves.specs.declared.refusal.Refusal.the-variants.{Reversed, NoRoom, UnknownSymbol, BadName, NoNameRoom, Differ, Conflict, NotNumber, NoInstrumentId, OutsideQuery, NoDate, BadStreams, Damaged, IllFormed, BadMemory}
 use Rattle.leaves.specs.Frame.{Read, whole, ended, damaged, judged, recordAt, frameAt, foundOf}
-use Rattle.leaves.specs.Frame.{Mapped, other, symbol, notOne, startOf, ofKind, oneRecord, mappedIn, mappedOf}
+use Rattle.leaves.specs.Frame.{Mapped, other, symbol, notOne, startOf, ofKind, oneRecord, mappedIn, mappedOf, frameOf, mappingOf}
+use Rattle.leaves.specs.declared.frame.Frame.{Frame}
+use Rattle.leaves.specs.declared.frame.Frame.the-variants.{Record, End, Damaged as Spoilt}
+use Rattle.leaves.specs.declared.frame.Mapping.{Mapping}
+use Rattle.leaves.specs.declared.frame.Mapping.the-variants.{Other, Symbol, Refused}
+use mathlib.Core.Bool.{cond}
+use lib.Dec.{eqb}
 
 -- the tests of a frame, by their facts
 module _ (left size : ℕ) (r : Read) where
@@ -187,6 +193,62 @@ pub mapped-refused : (n : ℕ) (m : Mapped) (r : Refusal) → refused r ≡ mapp
 mapped-refused n other r e = let z : numberOf r ≡ 0 = cc in absurd (refused-not-done r z)
 mapped-refused n (symbol i s t) r e = let z : numberOf r ≡ 0 = cc in absurd (refused-not-done r z)
 mapped-refused n (notOne reason) r e = (reason, refl)
+
+-- ---- only one answer fits: an answer in document 01's numbers comes from one value alone
+
+-- the refusal with a number and values
+refusalOf : ℕ → List ℕ → Refusal
+refusalOf n vs =
+    cond (eqb n 1) Reversed (cond (eqb n 2) NoRoom (cond (eqb n 3) UnknownSymbol (cond (eqb n 4) BadName (cond (eqb n 5) NoNameRoom
+    (cond (eqb n 6) (Differ (getD vs 0 0)) (cond (eqb n 7) Conflict (cond (eqb n 8) NotNumber (cond (eqb n 9) NoInstrumentId
+    (cond (eqb n 10) OutsideQuery (cond (eqb n 11) NoDate (cond (eqb n 12) BadStreams
+    (cond (eqb n 13) (Damaged (getD vs 0 0) (getD vs 1 0) (getD vs 2 0)) (cond (eqb n 14) IllFormed BadMemory)))))))))))))
+
+refusal-back : (r : Refusal) → refusalOf (numberOf r) (valuesOf r) ≡ r
+unfolding refusalOf
+refusal-back Reversed = refl
+refusal-back NoRoom = refl
+refusal-back UnknownSymbol = refl
+refusal-back BadName = refl
+refusal-back NoNameRoom = refl
+refusal-back (Differ field) = refl
+refusal-back Conflict = refl
+refusal-back NotNumber = refl
+refusal-back NoInstrumentId = refl
+refusal-back OutsideQuery = refl
+refusal-back NoDate = refl
+refusal-back BadStreams = refl
+refusal-back (Damaged stream place reason) = refl
+refusal-back IllFormed = refl
+refusal-back BadMemory = refl
+
+pub refused-one : (r q : Refusal) → refused r ≡ refused q → r ≡ q
+refused-one r q e =
+    let n : numberOf r ≡ numberOf q = cc in
+    let v : valuesOf r ≡ valuesOf q = cc in
+    sym (refusal-back r) ∙ ap₂ refusalOf n v ∙ refusal-back q
+
+pub frame-one : (x y : Frame) → frameOf x ≡ frameOf y → x ≡ y
+frame-one (Record a b c d) (Record e f g h) z = cc
+frame-one (Record a b c d) End z = let n : _≡_ {A = ℕ} 0 1 = cc in absurd (omega arith)
+frame-one (Record a b c d) (Spoilt r) z = let n : _≡_ {A = ℕ} 0 13 = cc in absurd (omega arith)
+frame-one End (Record e f g h) z = let n : _≡_ {A = ℕ} 0 1 = cc in absurd (omega arith)
+frame-one End End z = refl
+frame-one End (Spoilt r) z = let n : _≡_ {A = ℕ} 0 13 = cc in absurd (omega arith)
+frame-one (Spoilt r) (Record e f g h) z = let n : _≡_ {A = ℕ} 0 13 = cc in absurd (omega arith)
+frame-one (Spoilt r) End z = let n : _≡_ {A = ℕ} 0 13 = cc in absurd (omega arith)
+frame-one (Spoilt r) (Spoilt q) z = cc
+
+pub mapping-one : (x y : Mapping) → mappingOf x ≡ mappingOf y → x ≡ y
+mapping-one Other Other z = refl
+mapping-one Other (Symbol a b c d e) z = let n : _≡_ {A = ℕ} 0 1 = cc in absurd (omega arith)
+mapping-one Other (Refused q) z = let n : numberOf q ≡ 0 = cc in absurd (refused-not-done q n)
+mapping-one (Symbol a b c d e) Other z = let n : _≡_ {A = ℕ} 0 1 = cc in absurd (omega arith)
+mapping-one (Symbol a b c d e) (Symbol f g h i j) z = cc
+mapping-one (Symbol a b c d e) (Refused q) z = let n : numberOf q ≡ 0 = cc in absurd (refused-not-done q n)
+mapping-one (Refused r) Other z = let n : numberOf r ≡ 0 = cc in absurd (refused-not-done r n)
+mapping-one (Refused r) (Symbol f g h i j) z = let n : numberOf r ≡ 0 = cc in absurd (refused-not-done r n)
+mapping-one (Refused r) (Refused q) z = ap Refused (refused-one r q z)
 
 -- ---- computed: the borders of each rule
 

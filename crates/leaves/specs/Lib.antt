@@ -8,7 +8,10 @@ pub mod CalendarDates
 pub mod DaysLaws
 pub mod Utf8
 pub mod Utf8Laws
+pub mod Utf8Grammar
 pub mod NumberText
 pub mod NumberTextLaws
+pub mod NumberTextMeaning
 pub mod Names
 pub mod NamesLaws
+pub mod NamesList

@@ -1,9 +1,9 @@
 -- The laws of name lists: what well-formed gives place by place, and how the code's walks go.
 -- Assumes nothing.
 use Prim.Native.Nat.{ℕ, zero, suc, _+_, _-_, _≤_, _<_}
-use mathlib.Core.List.{List, [], _∷_, _++_}
+use mathlib.Core.List.{List, [], _∷_}
 use mathlib.Core.Bool.{Bool, true, false, cond, _&&_, not, false≢true}
-use mathlib.Core.Path.{_≡_, refl, ap, _∙_, sym, subst}
+use mathlib.Core.Path.{_≡_, refl, ap, _∙_, sym}
 use native.Mathlib.Omega.{arith}
 use native.Mathlib.Numerals.{add-one}
 use borrow.Author.Tests.{lt-ltb, le-ltb, le-leb, lt-leb, eq-eqb, ne-eqb, leb-true, leb-false, eqb-true, ltb-true, ltb-false, not-true, not-false}
@@ -12,13 +12,13 @@ use lib.ListN.{length, getD, set, take, drop}
 use lib.Seq.{slice, length-slice, paste, paste-suc, length-paste, getD-drop, getD-take, take-nil}
 use native.Mathlib.Nat.{add-zero, zero-add, sub-zero}
 use Rattle.leaves.specs.Utf8.{isUtf8}
-use Rattle.leaves.specs.Utf8Laws.{cut, none-left}
+use Rattle.leaves.specs.Utf8Laws.{cut, none-left, whole}
 use Rattle.leaves.specs.Names.{startOf, endOf, nameOf, namesFrom, namesOf, isName, standFrom, wellFormed, memoryOk, same, least, hasRoom, numbering, naming, namingAnswer, written, bytesAfter, endsAfter}
-use Rattle.theory.specs.Answer.{Answer, answer}
+use Rattle.theory.specs.Answer.{answer}
 use Rattle.leaves.specs.Refusal.{refused}
 use Rattle.leaves.specs.declared.refusal.Refusal.{Refusal}
 use Rattle.leaves.specs.declared.names.Naming.{Naming}
-use Rattle.leaves.specs.declared.refusal.Refusal.the-variants.{NoNameRoom}
+use Rattle.leaves.specs.declared.refusal.Refusal.the-variants.{BadName, NoNameRoom, IllFormed, BadMemory}
 use Rattle.leaves.specs.declared.names.Naming.the-variants.{Old, New, Refused as Not-named}
 
 -- a name lies from start to end, within the bytes in use
@@ -72,6 +72,11 @@ memory bytes places names used e =
       held = leb-true _ _ (and-right (leb places 4096 && leb bytes 65536) (leb names places) p);
       room = leb-true _ _ (and-right (leb places 4096 && leb bytes 65536 && leb names places) (leb used bytes) e);
     }
+
+-- and back
+pub memory-so : (bytes places names used : ℕ) → Memory bytes places names used → memoryOk bytes places names used ≡ true
+unfolding memoryOk
+memory-so bytes places names used m = rw (le-leb _ _ (m .few), le-leb _ _ (m .small), le-leb _ _ (m .held)) (le-leb _ _ (m .room))
 
 -- no place is left
 pub room-none : (bytes places names used size : ℕ) → Memory bytes places names used → places ≤ names → false ≡ hasRoom bytes places names used size
@@ -420,7 +425,7 @@ part-is (x ∷ l) (suc s) (suc e) =
 
 -- ---- the case of a valid name
 
-pub numbered-old : (bytes places names used size number : ℕ) {r : ℕ} → r ≡ number → r < names → Old r ≡ numbering bytes places names used size number
+numbered-old : (bytes places names used size number : ℕ) {r : ℕ} → r ≡ number → r < names → Old r ≡ numbering bytes places names used size number
 unfolding numbering
 numbered-old bytes places names used size number e h =
     let l : number < names = omega arith in
@@ -433,12 +438,18 @@ numbered-fresh bytes places names used size number e h =
     let l : names ≤ number = omega arith in
     rw (le-ltb number names l)
 
-pub numbered-new : (bytes places names used size number : ℕ) {r : ℕ} → r ≡ number → names ≤ r → hasRoom bytes places names used size ≡ true → New names ≡ numbering bytes places names used size number
-numbered-new bytes places names used size number e h t = sym (numbered-fresh bytes places names used size number e h ∙ rw t)
+module _ (bytes places names used : ℕ) (text : List ℕ) (from to number : ℕ) (k : to ≤ length text) where
+  fresh : {r : ℕ} {f : Bool} → r ≡ number → names ≤ r → f ≡ hasRoom bytes places names used (to - from)
+      → numbering bytes places names used (length (slice from to text)) number ≡ cond f (New names) (Not-named NoNameRoom)
+  fresh e h g = rw (length-slice from to text k) (numbered-fresh bytes places names used (to - from) number e h ∙ rw (sym g))
 
-pub numbered-none : (bytes places names used size number : ℕ) {r : ℕ} → r ≡ number → names ≤ r → hasRoom bytes places names used size ≡ false
-    → Not-named NoNameRoom ≡ numbering bytes places names used size number
-numbered-none bytes places names used size number e h t = sym (numbered-fresh bytes places names used size number e h ∙ rw t)
+  numbered-new : {r : ℕ} {f : Bool} → r ≡ number → names ≤ r → f ≡ hasRoom bytes places names used (to - from) → f ≡ true
+      → New names ≡ numbering bytes places names used (length (slice from to text)) number
+  numbered-new e h g t = sym (fresh e h g ∙ rw t)
+
+  numbered-none : {r : ℕ} {f : Bool} → r ≡ number → names ≤ r → f ≡ hasRoom bytes places names used (to - from) → f ≡ false
+      → Not-named NoNameRoom ≡ numbering bytes places names used (length (slice from to text)) number
+  numbered-none e h g t = sym (fresh e h g ∙ rw t)
 
 -- ---- what a case of naming says
 
@@ -530,3 +541,46 @@ module _ (bytes ends : List ℕ) (names used : ℕ) (name : List ℕ) (became : 
     rw e (ap (λ (n : ℕ). answer 0 (k ∷ (names + 1) ∷ n ∷ [])) (f ∙ ap (λ (n : ℕ). used + n) z)),
     (rw e (g ∙ ap (written bytes used) p), rw e (h ∙ ap (λ (n : ℕ). set ends names (used + n)) z)),
   )
+
+-- ---- what the tests say of a name; f, g and h are what those of the memory, the list and the name answered
+
+module _ (bytes ends : List ℕ) (names used : ℕ) (name : List ℕ) where
+  judged : {f g h : Bool} → f ≡ memoryOk (length bytes) (length ends) names used → not f ≡ false → g ≡ wellFormed bytes ends names used → not g ≡ false → h ≡ isName name → not h ≡ false
+      → naming bytes ends names used name ≡ numbering (length bytes) (length ends) names used (length name) (least name (namesOf bytes ends names))
+  unfolding naming
+  judged e p q r s t = rw (holds e p, holds q r, holds s t)
+
+  pub judged-15 : {f : Bool} → f ≡ memoryOk (length bytes) (length ends) names used → not f ≡ true → Not-named BadMemory ≡ naming bytes ends names used name
+  unfolding naming
+  judged-15 e p = rw (fails e p)
+
+  pub judged-14 : {f g : Bool} → f ≡ memoryOk (length bytes) (length ends) names used → not f ≡ false → g ≡ wellFormed bytes ends names used → not g ≡ true
+      → Not-named IllFormed ≡ naming bytes ends names used name
+  unfolding naming
+  judged-14 e p q r = rw (holds e p, fails q r)
+
+  pub judged-4 : {f g h : Bool} → f ≡ memoryOk (length bytes) (length ends) names used → not f ≡ false → g ≡ wellFormed bytes ends names used → not g ≡ false → h ≡ isName name → not h ≡ true
+      → Not-named BadName ≡ naming bytes ends names used name
+  unfolding naming
+  judged-4 e p q r s t = rw (holds e p, holds q r, fails s t)
+
+  pub judged-old : {f g h : Bool} {n : ℕ} → f ≡ memoryOk (length bytes) (length ends) names used → not f ≡ false → g ≡ wellFormed bytes ends names used → not g ≡ false
+      → h ≡ isName name → not h ≡ false → n ≡ least name (namesOf bytes ends names) → n < names → Old n ≡ naming bytes ends names used name
+  judged-old e p q r s t m l = numbered-old _ _ _ _ _ _ m l ∙ sym (judged e p q r s t)
+
+module _ (bytes ends : List ℕ) (names used : ℕ) (text : List ℕ) (from to : ℕ) where
+  pub judged-new : {f g h k : Bool} {n : ℕ} → f ≡ memoryOk (length bytes) (length ends) names used → not f ≡ false → g ≡ wellFormed bytes ends names used → not g ≡ false
+      → h ≡ isName (slice from to text) → not h ≡ false → n ≡ least (slice from to text) (namesOf bytes ends names) → names ≤ n → to ≤ length text
+      → k ≡ hasRoom (length bytes) (length ends) names used (to - from) → k ≡ true → New names ≡ naming bytes ends names used (slice from to text)
+  judged-new e p q r s t m l z a b =
+      numbered-new (length bytes) (length ends) names used text from to _ z m l a b ∙ sym (judged bytes ends names used (slice from to text) e p q r s t)
+
+  pub judged-5 : {f g h k : Bool} {n : ℕ} → f ≡ memoryOk (length bytes) (length ends) names used → not f ≡ false → g ≡ wellFormed bytes ends names used → not g ≡ false
+      → h ≡ isName (slice from to text) → not h ≡ false → n ≡ least (slice from to text) (namesOf bytes ends names) → names ≤ n → to ≤ length text
+      → k ≡ hasRoom (length bytes) (length ends) names used (to - from) → k ≡ false → Not-named NoNameRoom ≡ naming bytes ends names used (slice from to text)
+  judged-5 e p q r s t m l z a b =
+      numbered-none (length bytes) (length ends) names used text from to _ z m l a b ∙ sym (judged bytes ends names used (slice from to text) e p q r s t)
+
+-- what was judged of the text's bytes from 0 to its length is judged of the text
+pub of-whole : (bytes ends : List ℕ) (names used : ℕ) (text : List ℕ) {r x : Naming} → r ≡ naming bytes ends names used (slice 0 (length text) text) → r ≡ x → naming bytes ends names used text ≡ x
+of-whole bytes ends names used text e f = sym (e ∙ ap (naming bytes ends names used) (whole text)) ∙ f

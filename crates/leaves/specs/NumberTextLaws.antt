@@ -1,17 +1,15 @@
 -- The code's way through a number text: where the digits begin, and what one more digit makes of the value. What is left to read from a
 -- place on is what there was to read at the start.
 -- Assumes nothing.
-use Prim.Native.Nat.{ℕ, suc, _+_, _-_, _*_, _≤_, _<_}
+use Prim.Native.Nat.{ℕ, _+_, _-_, _*_, _≤_, _<_}
 use mathlib.Core.List.{List, [], _∷_}
-use mathlib.Core.Bool.{Bool, true, false, cond, _&&_}
+use mathlib.Core.Bool.{Bool, true, false, cond}
 use mathlib.Core.Path.{_≡_, refl, ap, _∙_, sym}
 use native.Mathlib.Omega.{arith}
-use native.Mathlib.Numerals.{add-one}
 use borrow.Author.Tests.{le-leb, lt-leb, eq-eqb, ne-eqb}
-use lib.Dec.{leb, eqb}
 use lib.ListN.{length, getD}
 use lib.Seq.{slice}
-use Rattle.theory.specs.Answer.{Answer, answer}
+use Rattle.theory.specs.Answer.{answer}
 use Rattle.leaves.specs.Utf8Laws.{cut, none-left}
 use Rattle.leaves.specs.NumberText.{isDigit, stuck, digits, someDigits, numberText}
 

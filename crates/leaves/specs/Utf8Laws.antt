@@ -1,14 +1,14 @@
 -- What a step over one UTF8-char means for the text from a place on: the code's walk, a law for each way that a step goes.
 -- Assumes nothing.
-use Prim.Native.Nat.{ℕ, suc, _+_, _-_, _≤_, _<_}
+use Prim.Native.Nat.{ℕ, _+_, _-_, _≤_, _<_}
 use mathlib.Core.List.{List, [], _∷_}
 use mathlib.Core.Bool.{Bool, true, false}
 use mathlib.Core.Path.{_≡_, refl, ap, _∙_, sym}
 use native.Mathlib.Omega.{arith}
 use native.Mathlib.Numerals.{add-one}
-use lib.ListN.{length, getD, take}
+use lib.ListN.{length, getD}
 use lib.Seq.{slice, slice-cons, slice-empty, take-all}
-use Rattle.leaves.specs.Utf8.{utf8-1, utf8-2, utf8-3, utf8-4, isUtf8, from-2, from-3, from-4}
+use Rattle.leaves.specs.Utf8.{utf8-1, utf8-2, three, utf8-3, four, utf8-4, isUtf8}
 
 -- n is the length of the UTF8-char that stands at place at, of the bytes before to; 0 where none does
 pub record Stepped (s : List ℕ) (at to n : ℕ) : Type 0 where
@@ -16,21 +16,60 @@ pub record Stepped (s : List ℕ) (at to n : ℕ) : Type 0 where
   pub stuck : n ≡ 0 → isUtf8 (slice at to s) ≡ false
   pub onward : (n ≡ 0 → ⊥) → isUtf8 (slice at to s) ≡ isUtf8 (slice (at + n) to s)
 
+-- ---- the alternatives of a production, tried in their order; f1 to f4 are what their tests answered
+
+pub third-1 : (a b c : ℕ) {f1 : Bool} → f1 ≡ three 0xE0 0xE0 0xA0 0xBF a b c → f1 ≡ true → true ≡ utf8-3 a b c
+unfolding utf8-3
+third-1 a b c e1 t1 = rw (sym e1 ∙ t1)
+
+pub third-2 : (a b c : ℕ) {f1 f2 : Bool} → f1 ≡ three 0xE0 0xE0 0xA0 0xBF a b c → f1 ≡ false
+    → f2 ≡ three 0xE1 0xEC 0x80 0xBF a b c → f2 ≡ true → true ≡ utf8-3 a b c
+unfolding utf8-3
+third-2 a b c e1 t1 e2 t2 = rw (sym e1 ∙ t1, sym e2 ∙ t2)
+
+pub third-3 : (a b c : ℕ) {f1 f2 f3 : Bool} → f1 ≡ three 0xE0 0xE0 0xA0 0xBF a b c → f1 ≡ false
+    → f2 ≡ three 0xE1 0xEC 0x80 0xBF a b c → f2 ≡ false
+    → f3 ≡ three 0xED 0xED 0x80 0x9F a b c → f3 ≡ true → true ≡ utf8-3 a b c
+unfolding utf8-3
+third-3 a b c e1 t1 e2 t2 e3 t3 = rw (sym e1 ∙ t1, sym e2 ∙ t2, sym e3 ∙ t3)
+
+pub third-4 : (a b c : ℕ) {f1 f2 f3 f4 : Bool} → f1 ≡ three 0xE0 0xE0 0xA0 0xBF a b c → f1 ≡ false
+    → f2 ≡ three 0xE1 0xEC 0x80 0xBF a b c → f2 ≡ false
+    → f3 ≡ three 0xED 0xED 0x80 0x9F a b c → f3 ≡ false
+    → f4 ≡ three 0xEE 0xEF 0x80 0xBF a b c → f4 ≡ utf8-3 a b c
+unfolding utf8-3
+third-4 a b c e1 t1 e2 t2 e3 t3 e4 = rw (sym e1 ∙ t1, sym e2 ∙ t2, sym e3 ∙ t3) e4
+
+pub fourth-1 : (a b c d : ℕ) {f1 : Bool} → f1 ≡ four 0xF0 0xF0 0x90 0xBF a b c d → f1 ≡ true → true ≡ utf8-4 a b c d
+unfolding utf8-4
+fourth-1 a b c d e1 t1 = rw (sym e1 ∙ t1)
+
+pub fourth-2 : (a b c d : ℕ) {f1 f2 : Bool} → f1 ≡ four 0xF0 0xF0 0x90 0xBF a b c d → f1 ≡ false
+    → f2 ≡ four 0xF1 0xF3 0x80 0xBF a b c d → f2 ≡ true → true ≡ utf8-4 a b c d
+unfolding utf8-4
+fourth-2 a b c d e1 t1 e2 t2 = rw (sym e1 ∙ t1, sym e2 ∙ t2)
+
+pub fourth-3 : (a b c d : ℕ) {f1 f2 f3 : Bool} → f1 ≡ four 0xF0 0xF0 0x90 0xBF a b c d → f1 ≡ false
+    → f2 ≡ four 0xF1 0xF3 0x80 0xBF a b c d → f2 ≡ false
+    → f3 ≡ four 0xF4 0xF4 0x80 0x8F a b c d → f3 ≡ utf8-4 a b c d
+unfolding utf8-4
+fourth-3 a b c d e1 t1 e2 t2 e3 = rw (sym e1 ∙ t1, sym e2 ∙ t2) e3
+
 -- ---- the definition, one byte after the other
 
-is-1 : (a : ℕ) (s : List ℕ) → utf8-1 a ≡ true → isUtf8 (a ∷ s) ≡ isUtf8 s
+pub is-1 : (a : ℕ) (s : List ℕ) → utf8-1 a ≡ true → isUtf8 (a ∷ s) ≡ isUtf8 s
 unfolding isUtf8
 is-1 a s e = rw e
 
-is-2 : (a b : ℕ) (s : List ℕ) → utf8-1 a ≡ false → utf8-2 a b ≡ true → isUtf8 (a ∷ b ∷ s) ≡ isUtf8 s
+pub is-2 : (a b : ℕ) (s : List ℕ) → utf8-1 a ≡ false → utf8-2 a b ≡ true → isUtf8 (a ∷ b ∷ s) ≡ isUtf8 s
 unfolding isUtf8
 is-2 a b s e f = rw (e, f)
 
-is-3 : (a b c : ℕ) (s : List ℕ) → utf8-1 a ≡ false → utf8-2 a b ≡ false → utf8-3 a b c ≡ true → isUtf8 (a ∷ b ∷ c ∷ s) ≡ isUtf8 s
+pub is-3 : (a b c : ℕ) (s : List ℕ) → utf8-1 a ≡ false → utf8-2 a b ≡ false → utf8-3 a b c ≡ true → isUtf8 (a ∷ b ∷ c ∷ s) ≡ isUtf8 s
 unfolding isUtf8
 is-3 a b c s e f g = rw (e, f, g)
 
-is-4 : (a b c d : ℕ) (s : List ℕ) → utf8-1 a ≡ false → utf8-2 a b ≡ false → utf8-3 a b c ≡ false → utf8-4 a b c d ≡ true → isUtf8 (a ∷ b ∷ c ∷ d ∷ s) ≡ isUtf8 s
+pub is-4 : (a b c d : ℕ) (s : List ℕ) → utf8-1 a ≡ false → utf8-2 a b ≡ false → utf8-3 a b c ≡ false → utf8-4 a b c d ≡ true → isUtf8 (a ∷ b ∷ c ∷ d ∷ s) ≡ isUtf8 s
 unfolding isUtf8
 is-4 a b c d s e f g h = rw (e, f, g, h)
 

@@ -3,7 +3,7 @@
 ghost use mathlib.Core.Path.{_≡_};
 ghost use mathlib.Core.Bool.{true};
 ghost use Prim.Native.Nat.{_+_, _-_, _<_, _≤_};
-ghost use lib.ListN.{length, set, getD};
+ghost use lib.ListN.{length, set};
 ghost use lib.Seq.{slice};
 ghost use Rattle.leaves.specs.Names.{startOf, endOf, nameOf, namesOf, isName, wellFormed, memoryOk, same, least, hasRoom, written, checkedOf, checkNames, naming, namedOf, namingAnswer, bytesAfter, endsAfter, placedOf, placeOfName};
 ghost use Rattle.leaves.specs.NamesLaws.{standing, Ordered};
@@ -184,7 +184,7 @@ pub fn has_room(bytes: usize, places: usize, names: usize, used: usize, size: us
     size <= bytes - used
 }
 
-// Copies the source's bytes from `from` to before `to` to place `at`.
+// Writes the text's bytes from `from` to before `to` at place `at`.
 fn copy(bytes: &mut [u8], at: usize, text: &[u8], from: usize, to: usize)
     requires { ⌜ (from ≤ to) × (to ≤ length (now text)) × (at + (to - from) ≤ length (now bytes)) ⌝ }
     ensures { λ _. ⌜ now (bytes .exit) ≡ written (now (bytes .entry)) at (slice from to (now (text .entry))) ⌝ }
@@ -284,7 +284,7 @@ pub fn number_of(
     }
 }
 
-// Where a name begins, of which there is one before it or none.
+// Where a name begins: at 0, or where the one before it ends.
 pub fn name_start(ends: &[u32], number: usize) -> usize
     requires { ⌜ number ≤ length (now ends) ⌝ }
     ensures { λ r. ⌜ r ≡ startOf (now (ends .entry)) number ⌝ }

@@ -6,7 +6,7 @@ use lib.ListN.{getD}
 use Rattle.theory.specs.Fields.{field}
 use Rattle.leaves.specs.Frame.{frameAt}
 use Rattle.machine.specs.Machine.{rec, Stream, record-at, damage-at, Answer, says, end}
-use Rattle.machine.specs.Bytes.{bytesOf}
+use Rattle.machine.specs.Bytes.{bytesOf, streamsOf}
 use Rattle.machine.specs.Whole.{run}
 use Rattle.machine.specs.Literal.{told}
 
@@ -25,6 +25,11 @@ streams ss p = bytesOf (getD ss p [])
 pub replay : run (streams ((short 5 ++ 1 ∷ 2 ∷ 3 ∷ []) ∷ short 6 ∷ [])) (0 ∷ 0 ∷ []) ≡ out 0 0 5 ∷ says 0 (damage-at 16 1) ∷ out 1 0 6 ∷ end ∷ []
 unfolding run streams bytesOf frameAt short out field
 replay = refl
+
+-- the same, the two streams in one buffer, cut at 0, 19 and 35
+pub replay-cut : run (streamsOf (short 5 ++ (1 ∷ 2 ∷ 3 ∷ []) ++ short 6) (0 ∷ 19 ∷ 35 ∷ [])) (0 ∷ 0 ∷ []) ≡ out 0 0 5 ∷ says 0 (damage-at 16 1) ∷ out 1 0 6 ∷ end ∷ []
+unfolding run streamsOf frameAt short out field
+replay-cut = refl
 
 -- M12: streams with times 5,5 and 5,4: stream 0, 0, 1, 1
 pub m12 : run (streams ((short 5 ++ short 5) ∷ (short 5 ++ short 4) ∷ [])) (0 ∷ 0 ∷ []) ≡ out 0 0 5 ∷ out 0 16 5 ∷ out 1 0 5 ∷ out 1 16 4 ∷ end ∷ []

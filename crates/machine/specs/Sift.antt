@@ -132,7 +132,7 @@ pub record Sifting (ts : List ℕ) (n o i : ℕ) (hp hq : List ℕ) : Type 0 whe
 pub sift-start : (ts hp : List ℕ) (n o : ℕ) → o ≤ n → Sifting ts n o o hp hp
 sift-start ts hp n o h = record { long = refl; from = h; moved = moved-refl n hp; but = but-start (keys ts) hp n o }
 
-module _ (ts hp hq : List ℕ) (n o i : ℕ) (hn : n ≤ length hp) (s : Sifting ts n o i hp hq) where
+module _ {ts hp hq : List ℕ} {n o i : ℕ} (hn : n ≤ length hp) (s : Sifting ts n o i hp hq) where
   -- no child
   pub sift-leaf : n ≤ 2 * i + 1 → Sifted ts n o hp hq
   sift-leaf h = record { moved = s .moved; heap = λ f. but-done (keys ts) hq n o i (s .but f) (λ j a b d. absurd (omega arith)) }

@@ -34,104 +34,104 @@ got-whole k t l h = found-whole k (whole (l % 65536) (l / 65536 % 65536) (l / 42
 -- what a read says, with its length, kind and instrument in one number
 pub got-packed : (k size kind instrument t : ℕ) → size < 65536 → kind < 65536 → gotOf k t (packed size kind instrument) ≡ foundOf k (whole size kind instrument t)
 unfolding gotOf recIn
-got-packed k size kind instrument t hs hk =
-    ap (λ (r : Rec). foundOf k (whole (r .size) (r .kind) (r .instrument) (r .time))) (recIn-packed size kind instrument t hs hk)
+got-packed k size kind instrument t below-size below-kind =
+    ap (λ (r : Rec). foundOf k (whole (r .size) (r .kind) (r .instrument) (r .time))) (recIn-packed size kind instrument t below-size below-kind)
 
 -- ---- a store at p, whoever is chosen
-module _ (n : ℕ) (ks ts cs ls : List ℕ) (p : ℕ) where
+module _ (n : ℕ) (ms ts cs hs : List ℕ) (p : ℕ) where
   abbrev state : List Status
-  state = statusesOf n ks ts cs ls
+  state = statusesOf n ms ts cs hs
 
-  module _ (hp : p < n) (hk : n ≤ length ks) (ht : n ≤ length ts) (hc : n ≤ length cs) (hl : n ≤ length ls) where
-    waits-at : getD ks p 0 ≡ 1 → getD state p gone ≡ waiting (getD ts p 0) (getD cs p 0)
+  module _ (hp : p < n) (hk : n ≤ length ms) (ht : n ≤ length ts) (hc : n ≤ length cs) (hl : n ≤ length hs) where
+    waits-at : getD ms p 0 ≡ 1 → getD state p gone ≡ waiting (getD ts p 0) (getD cs p 0)
     unfolding statusOf
-    waits-at e = status-at n ks ts cs ls p hp ∙ ap (λ (k : ℕ). statusOf k (getD ts p 0) (getD cs p 0) (getD ls p 0)) e
+    waits-at e = status-at n ms ts cs hs p hp ∙ ap (λ (k : ℕ). statusOf k (getD ts p 0) (getD cs p 0) (getD hs p 0)) e
 
-    gone-set : statusesOf n (set ks p 0) ts cs ls ≡ set state p gone
+    gone-set : statusesOf n (set ms p 0) ts cs hs ≡ set state p gone
     unfolding statusOf
-    gone-set = ap (λ (l : List ℕ). statusesOf n (set ks p 0) l cs ls) (sym (set-getD ts p 0))
-        ∙ ap (λ (l : List ℕ). statusesOf n (set ks p 0) (set ts p (getD ts p 0)) l ls) (sym (set-getD cs p 0))
-        ∙ ap (λ (l : List ℕ). statusesOf n (set ks p 0) (set ts p (getD ts p 0)) (set cs p (getD cs p 0)) l) (sym (set-getD ls p 0))
-        ∙ statuses-set n ks ts cs ls p 0 (getD ts p 0) (getD cs p 0) (getD ls p 0) hp hk ht hc hl
+    gone-set = ap (λ (l : List ℕ). statusesOf n (set ms p 0) l cs hs) (sym (set-getD ts p 0))
+        ∙ ap (λ (l : List ℕ). statusesOf n (set ms p 0) (set ts p (getD ts p 0)) l hs) (sym (set-getD cs p 0))
+        ∙ ap (λ (l : List ℕ). statusesOf n (set ms p 0) (set ts p (getD ts p 0)) (set cs p (getD cs p 0)) l) (sym (set-getD hs p 0))
+        ∙ statuses-set n ms ts cs hs p 0 (getD ts p 0) (getD cs p 0) (getD hs p 0) hp hk ht hc hl
 
-    stand-set : (t l : ℕ) → statusesOf n (set ks p 2) (set ts p t) cs (set ls p l) ≡ set state p (standing (getD cs p 0) (recIn l t))
+    stand-set : (t l : ℕ) → statusesOf n (set ms p 2) (set ts p t) cs (set hs p l) ≡ set state p (standing (getD cs p 0) (recIn l t))
     unfolding statusOf
-    stand-set t l = ap (λ (r : List ℕ). statusesOf n (set ks p 2) (set ts p t) r (set ls p l)) (sym (set-getD cs p 0))
-        ∙ statuses-set n ks ts cs ls p 2 t (getD cs p 0) l hp hk ht hc hl
+    stand-set t l = ap (λ (r : List ℕ). statusesOf n (set ms p 2) (set ts p t) r (set hs p l)) (sym (set-getD cs p 0))
+        ∙ statuses-set n ms ts cs hs p 2 t (getD cs p 0) l hp hk ht hc hl
 
-    wait-set : (a : ℕ) → statusesOf n (set ks p 1) ts (set cs p a) (set ls p 0) ≡ set state p (waiting (getD ts p 0) a)
+    wait-set : (a : ℕ) → statusesOf n (set ms p 1) ts (set cs p a) (set hs p 0) ≡ set state p (waiting (getD ts p 0) a)
     unfolding statusOf
-    wait-set a = ap (λ (r : List ℕ). statusesOf n (set ks p 1) r (set cs p a) (set ls p 0)) (sym (set-getD ts p 0))
-        ∙ statuses-set n ks ts cs ls p 1 (getD ts p 0) a 0 hp hk ht hc hl
+    wait-set a = ap (λ (r : List ℕ). statusesOf n (set ms p 1) r (set cs p a) (set hs p 0)) (sym (set-getD ts p 0))
+        ∙ statuses-set n ms ts cs hs p 1 (getD ts p 0) a 0 hp hk ht hc hl
 
-    pub less-gone : getD ks p 0 ≡ 1 → waits (statusesOf n (set ks p 0) ts cs ls) < waits state
+    pub less-gone : getD ms p 0 ≡ 1 → waits (statusesOf n (set ms p 0) ts cs hs) < waits state
     unfolding unread
-    less-gone e = rw gone-set (waits-less state p (getD ts p 0) (getD cs p 0) gone (omega (arith, length-statuses n ks ts cs ls)) (waits-at e) refl)
+    less-gone e = rw gone-set (waits-less state p (getD ts p 0) (getD cs p 0) gone (omega (arith, length-statuses n ms ts cs hs)) (waits-at e) refl)
 
-    pub less-stand : (t l : ℕ) → getD ks p 0 ≡ 1 → waits (statusesOf n (set ks p 2) (set ts p t) cs (set ls p l)) < waits state
+    pub less-stand : (t l : ℕ) → getD ms p 0 ≡ 1 → waits (statusesOf n (set ms p 2) (set ts p t) cs (set hs p l)) < waits state
     unfolding unread
     less-stand t l e =
-        rw (stand-set t l) (waits-less state p (getD ts p 0) (getD cs p 0) (standing (getD cs p 0) (recIn l t)) (omega (arith, length-statuses n ks ts cs ls)) (waits-at e) refl)
+        rw (stand-set t l) (waits-less state p (getD ts p 0) (getD cs p 0) (standing (getD cs p 0) (recIn l t)) (omega (arith, length-statuses n ms ts cs hs)) (waits-at e) refl)
 
-module _ (b : ℕ → Stream) (n : ℕ) (ks ts cs ls : List ℕ) (p : ℕ) (ch : Chosen n ks ts p) where
+module _ (b : ℕ → Stream) (n : ℕ) (ms ts cs hs : List ℕ) (p : ℕ) (ch : Chosen n ms ts p) where
   abbrev now : List Status
-  now = statusesOf n ks ts cs ls
+  now = statusesOf n ms ts cs hs
 
   pub law-end : n ≤ p → machine.next b now ≡ turn end now
-  law-end h = rule-end b now (ch .nobody (omega (arith, ch .within)) cs ls)
+  law-end h = rule-end b now (ch .nobody (omega (arith, ch .within)) cs hs)
 
-  module _ (hp : p < n) (hk : n ≤ length ks) (ht : n ≤ length ts) (hc : n ≤ length cs) (hl : n ≤ length ls) where
+  module _ (hp : p < n) (hk : n ≤ length ms) (ht : n ≤ length ts) (hc : n ≤ length cs) (hl : n ≤ length hs) where
     f : (t : ℕ) × IsFirst now t p
-    f = ch .some hp cs ls
+    f = ch .some hp cs hs
 
-    stands-at : getD ks p 0 ≢ 1 → getD now p gone ≡ standing (getD cs p 0) (recIn (getD ls p 0) (getD ts p 0))
+    stands-at : getD ms p 0 ≢ 1 → getD now p gone ≡ standing (getD cs p 0) (recIn (getD hs p 0) (getD ts p 0))
     unfolding statusOf key
-    stands-at d = status-at n ks ts cs ls p hp ∙ go (getD ks p 0) d (ap key (sym (status-at n ks ts cs ls p hp)) ∙ f .1 .has)
+    stands-at d = status-at n ms ts cs hs p hp ∙ go (getD ms p 0) d (ap key (sym (status-at n ms ts cs hs p hp)) ∙ f .1 .has)
       where
-        go : (k : ℕ) → k ≢ 1 → key (statusOf k (getD ts p 0) (getD cs p 0) (getD ls p 0)) ≡ some (f .0)
-            → statusOf k (getD ts p 0) (getD cs p 0) (getD ls p 0) ≡ standing (getD cs p 0) (recIn (getD ls p 0) (getD ts p 0))
+        go : (k : ℕ) → k ≢ 1 → key (statusOf k (getD ts p 0) (getD cs p 0) (getD hs p 0)) ≡ some (f .0)
+            → statusOf k (getD ts p 0) (getD cs p 0) (getD hs p 0) ≡ standing (getD cs p 0) (recIn (getD hs p 0) (getD ts p 0))
         go zero d e = let z : _≡_ {A = ℕ} 0 1 = cc in absurd (omega arith)
         go (suc zero) d e = absurd (d refl)
         go (suc (suc k)) d e = refl
 
-    pub law-record : getD ks p 0 ≢ 1
-        → machine.next b now ≡ turn (says p (record-at (getD cs p 0) (recIn (getD ls p 0) (getD ts p 0)))) (statusesOf n (set ks p 1) ts (set cs p (getD cs p 0 + getD ls p 0 % 65536)) (set ls p 0))
+    pub law-record : getD ms p 0 ≢ 1
+        → machine.next b now ≡ turn (says p (record-at (getD cs p 0) (recIn (getD hs p 0) (getD ts p 0)))) (statusesOf n (set ms p 1) ts (set cs p (getD cs p 0 + getD hs p 0 % 65536)) (set hs p 0))
     unfolding recIn
     law-record d =
-        rule-record b now (f .0) p (f .1) (getD cs p 0) (recIn (getD ls p 0) (getD ts p 0)) (stands-at d)
-        ∙ ap (turn (says p (record-at (getD cs p 0) (recIn (getD ls p 0) (getD ts p 0))))) (sym ((wait-set n ks ts cs ls p hp hk ht hc hl) (getD cs p 0 + getD ls p 0 % 65536)))
+        rule-record b now (f .0) p (f .1) (getD cs p 0) (recIn (getD hs p 0) (getD ts p 0)) (stands-at d)
+        ∙ ap (turn (says p (record-at (getD cs p 0) (recIn (getD hs p 0) (getD ts p 0))))) (sym ((wait-set n ms ts cs hs p hp hk ht hc hl) (getD cs p 0 + getD hs p 0 % 65536)))
 
-    module _ (e : getD ks p 0 ≡ 1) (k t l : ℕ) (g : gotOf k t l ≡ b p .read (getD cs p 0)) where
-      pub law-ended : k ≡ 0 → machine.next b (statusesOf n (set ks p 0) ts cs ls) ≡ machine.next b now
+    module _ (e : getD ms p 0 ≡ 1) (k t l : ℕ) (g : gotOf k t l ≡ b p .read (getD cs p 0)) where
+      pub law-ended : k ≡ 0 → machine.next b (statusesOf n (set ms p 0) ts cs hs) ≡ machine.next b now
       law-ended d =
-          ap (machine.next b) (gone-set n ks ts cs ls p hp hk ht hc hl) ∙ sym (rule-ended b now (f .0) p (f .1) (getD ts p 0) (getD cs p 0) ((waits-at n ks ts cs ls p hp hk ht hc hl) e) (sym g ∙ got-ended k t l d))
+          ap (machine.next b) (gone-set n ms ts cs hs p hp hk ht hc hl) ∙ sym (rule-ended b now (f .0) p (f .1) (getD ts p 0) (getD cs p 0) ((waits-at n ms ts cs hs p hp hk ht hc hl) e) (sym g ∙ got-ended k t l d))
 
-      pub law-damaged : k ≢ 0 → k < 4 → machine.next b now ≡ turn (says p (damage-at (getD cs p 0) k)) (statusesOf n (set ks p 0) ts cs ls)
+      pub law-damaged : k ≢ 0 → k < 4 → machine.next b now ≡ turn (says p (damage-at (getD cs p 0) k)) (statusesOf n (set ms p 0) ts cs hs)
       law-damaged d h =
-          rule-damaged b now (f .0) p (f .1) (getD ts p 0) (getD cs p 0) k ((waits-at n ks ts cs ls p hp hk ht hc hl) e) (sym g ∙ got-damaged k t l d h)
-          ∙ ap (turn (says p (damage-at (getD cs p 0) k))) (sym (gone-set n ks ts cs ls p hp hk ht hc hl))
+          rule-damaged b now (f .0) p (f .1) (getD ts p 0) (getD cs p 0) k ((waits-at n ms ts cs hs p hp hk ht hc hl) e) (sym g ∙ got-damaged k t l d h)
+          ∙ ap (turn (says p (damage-at (getD cs p 0) k))) (sym (gone-set n ms ts cs hs p hp hk ht hc hl))
 
-      pub law-whole : 4 ≤ k → machine.next b (statusesOf n (set ks p 2) (set ts p t) cs (set ls p l)) ≡ machine.next b now
+      pub law-whole : 4 ≤ k → machine.next b (statusesOf n (set ms p 2) (set ts p t) cs (set hs p l)) ≡ machine.next b now
       unfolding recIn
       law-whole h =
-          ap (machine.next b) ((stand-set n ks ts cs ls p hp hk ht hc hl) t l)
-          ∙ sym (rule-whole b now (f .0) p (f .1) (getD ts p 0) (getD cs p 0) (l % 65536) (l / 65536 % 65536) (l / 4294967296) t ((waits-at n ks ts cs ls p hp hk ht hc hl) e) (sym g ∙ got-whole k t l h))
+          ap (machine.next b) ((stand-set n ms ts cs hs p hp hk ht hc hl) t l)
+          ∙ sym (rule-whole b now (f .0) p (f .1) (getD ts p 0) (getD cs p 0) (l % 65536) (l / 65536 % 65536) (l / 4294967296) t ((waits-at n ms ts cs hs p hp hk ht hc hl) e) (sym g ∙ got-whole k t l h))
 
       pub law-small : 4 ≤ k → getD cs p 0 + l % 65536 ≤ b p .size
       law-small h =
           let x : Fits (b p .size) (getD cs p 0) (whole (l % 65536) (l / 65536 % 65536) (l / 4294967296) t) = rw (sym g ∙ got-whole k t l h) at (b p .fits (getD cs p 0)) in
           x .1
 
-pub small-set : (n : ℕ) (cs ls : List ℕ) (p l : ℕ) → p < length ls → Small n cs ls → getD cs p 0 + l % 65536 < 2 ^ 64 → Small n cs (set ls p l)
-small-set n cs ls p l h k x q i = go (ℕ-discrete q p)
+pub small-set : (n : ℕ) (cs hs : List ℕ) (p l : ℕ) → p < length hs → Small n cs hs → getD cs p 0 + l % 65536 < 2 ^ 64 → Small n cs (set hs p l)
+small-set n cs hs p l h k x q i = go (ℕ-discrete q p)
   where
-    go : Dec (q ≡ p) → getD cs q 0 + getD (set ls p l) q 0 % 65536 < 2 ^ 64
-    go (yes d) = rw (d, getD-set-same ls p l 0 h) x
-    go (no d) = rw (getD-set-other ls p q l 0 d) (k q i)
+    go : Dec (q ≡ p) → getD cs q 0 + getD (set hs p l) q 0 % 65536 < 2 ^ 64
+    go (yes d) = rw (d, getD-set-same hs p l 0 h) x
+    go (no d) = rw (getD-set-other hs p q l 0 d) (k q i)
 
-pub small-move : (n : ℕ) (cs ls : List ℕ) (p a : ℕ) → p < length cs → p < length ls → Small n cs ls → a < 2 ^ 64 → Small n (set cs p a) (set ls p 0)
-small-move n cs ls p a h h' k x q i = go (ℕ-discrete q p)
+pub small-move : (n : ℕ) (cs hs : List ℕ) (p a : ℕ) → p < length cs → p < length hs → Small n cs hs → a < 2 ^ 64 → Small n (set cs p a) (set hs p 0)
+small-move n cs hs p a h h' k x q i = go (ℕ-discrete q p)
   where
-    go : Dec (q ≡ p) → getD (set cs p a) q 0 + getD (set ls p 0) q 0 % 65536 < 2 ^ 64
-    go (yes d) = rw (d, getD-set-same cs p a 0 h, getD-set-same ls p 0 0 h') (omega arith)
-    go (no d) = rw (getD-set-other cs p q a 0 d, getD-set-other ls p q 0 0 d) (k q i)
+    go : Dec (q ≡ p) → getD (set cs p a) q 0 + getD (set hs p 0) q 0 % 65536 < 2 ^ 64
+    go (yes d) = rw (d, getD-set-same cs p a 0 h, getD-set-same hs p 0 0 h') (omega arith)
+    go (no d) = rw (getD-set-other cs p q a 0 d, getD-set-other hs p q 0 0 d) (k q i)

@@ -50,12 +50,12 @@ recIn h t = rec (h % 65536) (h / 65536 % 65536) (h / 4294967296) t
 
 pub recIn-packed : (size kind instrument t : ℕ) → size < 65536 → kind < 65536 → recIn (packed size kind instrument) t ≡ rec size kind instrument t
 unfolding recIn packed
-recIn-packed size kind instrument t hs hk =
+recIn-packed size kind instrument t below-size below-kind =
     let h = size + 65536 * kind + 4294967296 * instrument in
     let w : h ≡ size + 65536 * (kind + 65536 * instrument) = omega arith in
     let q : h / 65536 ≡ kind + 65536 * instrument = omega arith in
-    let e₁ : h % 65536 ≡ size = ap (λ (n : ℕ). n % 65536) w ∙ low size (kind + 65536 * instrument) hs in
-    let e₂ : h / 65536 % 65536 ≡ kind = ap (λ (n : ℕ). n % 65536) q ∙ low kind instrument hk in
+    let e₁ : h % 65536 ≡ size = ap (λ (n : ℕ). n % 65536) w ∙ low size (kind + 65536 * instrument) below-size in
+    let e₂ : h / 65536 % 65536 ≡ kind = ap (λ (n : ℕ). n % 65536) q ∙ low kind instrument below-kind in
     let e₃ : h / 4294967296 ≡ instrument = omega arith in
     cc
   where
@@ -71,25 +71,25 @@ statusOf (suc (suc k)) t a l = standing a (recIn l t)
 
 unfoldable pub statusesOf : ℕ → List ℕ → List ℕ → List ℕ → List ℕ → List Status
 unfolding statusOf tab
-statusesOf n ks ts cs ls = tab n (λ p. statusOf (getD ks p 0) (getD ts p 0) (getD cs p 0) (getD ls p 0))
+statusesOf n ms ts cs hs = tab n (λ p. statusOf (getD ms p 0) (getD ts p 0) (getD cs p 0) (getD hs p 0))
 
 -- a store at p in each: one status changes. (An array that was not stored into: `set-getD` of lib.Seq.)
-pub statuses-set : (n : ℕ) (ks ts cs ls : List ℕ) (p k t a l : ℕ)
-    → p < n → n ≤ length ks → n ≤ length ts → n ≤ length cs → n ≤ length ls
-    → statusesOf n (set ks p k) (set ts p t) (set cs p a) (set ls p l) ≡ set (statusesOf n ks ts cs ls) p (statusOf k t a l)
+pub statuses-set : (n : ℕ) (ms ts cs hs : List ℕ) (p k t a l : ℕ)
+    → p < n → n ≤ length ms → n ≤ length ts → n ≤ length cs → n ≤ length hs
+    → statusesOf n (set ms p k) (set ts p t) (set cs p a) (set hs p l) ≡ set (statusesOf n ms ts cs hs) p (statusOf k t a l)
 unfolding statusesOf
-statuses-set n ks ts cs ls p k t a l h hk ht ha hl =
-    tab-set n (λ q. statusOf (getD ks q 0) (getD ts q 0) (getD cs q 0) (getD ls q 0))
-    (λ q. statusOf (getD (set ks p k) q 0) (getD (set ts p t) q 0) (getD (set cs p a) q 0) (getD (set ls p l) q 0)) p h
-    (λ q d. rw (getD-set-other ks p q k 0 d, getD-set-other ts p q t 0 d, getD-set-other cs p q a 0 d, getD-set-other ls p q l 0 d))
-    ∙ ap (set (statusesOf n ks ts cs ls) p)
-    (rw (getD-set-same ks p k 0 (omega arith), getD-set-same ts p t 0 (omega arith), getD-set-same cs p a 0 (omega arith), getD-set-same ls p l 0 (omega arith)))
+statuses-set n ms ts cs hs p k t a l h hk ht ha hl =
+    tab-set n (λ q. statusOf (getD ms q 0) (getD ts q 0) (getD cs q 0) (getD hs q 0))
+    (λ q. statusOf (getD (set ms p k) q 0) (getD (set ts p t) q 0) (getD (set cs p a) q 0) (getD (set hs p l) q 0)) p h
+    (λ q d. rw (getD-set-other ms p q k 0 d, getD-set-other ts p q t 0 d, getD-set-other cs p q a 0 d, getD-set-other hs p q l 0 d))
+    ∙ ap (set (statusesOf n ms ts cs hs) p)
+    (rw (getD-set-same ms p k 0 (omega arith), getD-set-same ts p t 0 (omega arith), getD-set-same cs p a 0 (omega arith), getD-set-same hs p l 0 (omega arith)))
 
-pub status-at : (n : ℕ) (ks ts cs ls : List ℕ) (p : ℕ) → p < n
-    → getD (statusesOf n ks ts cs ls) p gone ≡ statusOf (getD ks p 0) (getD ts p 0) (getD cs p 0) (getD ls p 0)
+pub status-at : (n : ℕ) (ms ts cs hs : List ℕ) (p : ℕ) → p < n
+    → getD (statusesOf n ms ts cs hs) p gone ≡ statusOf (getD ms p 0) (getD ts p 0) (getD cs p 0) (getD hs p 0)
 unfolding statusesOf
-status-at n ks ts cs ls p h = getD-tab n (λ q. statusOf (getD ks q 0) (getD ts q 0) (getD cs q 0) (getD ls q 0)) p gone h
+status-at n ms ts cs hs p h = getD-tab n (λ q. statusOf (getD ms q 0) (getD ts q 0) (getD cs q 0) (getD hs q 0)) p gone h
 
-pub length-statuses : (n : ℕ) (ks ts cs ls : List ℕ) → length (statusesOf n ks ts cs ls) ≡ n
+pub length-statuses : (n : ℕ) (ms ts cs hs : List ℕ) → length (statusesOf n ms ts cs hs) ≡ n
 unfolding statusesOf
-length-statuses n ks ts cs ls = length-tab n (λ q. statusOf (getD ks q 0) (getD ts q 0) (getD cs q 0) (getD ls q 0))
+length-statuses n ms ts cs hs = length-tab n (λ q. statusOf (getD ms q 0) (getD ts q 0) (getD cs q 0) (getD hs q 0))

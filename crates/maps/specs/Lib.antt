@@ -1,4 +1,12 @@
+pub mod Entries
+pub mod EntriesLaws
+pub mod Points
+pub mod PointsLaws
+pub mod PointsSteps
 pub mod Interval
 pub mod Insert
 pub mod Check
+pub mod Mapping
+pub mod MappingLaws
+pub mod MappingInterval
 pub mod Lookup

@@ -1,7 +1,10 @@
-// The maps: the table over time in lent bytes.
+// The maps of document 01, "The map over time": the table over time and the point-in-time table, in lent bytes.
 pub mod check;
+pub mod entries;
 pub mod insert;
 pub mod interval;
 pub mod lookup;
+pub mod mapping;
 pub mod moves;
+pub mod points;
 pub mod search;

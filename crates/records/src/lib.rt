@@ -1,3 +1,6 @@
-// The record merge: one reader a stream, a heap of the streams, and the calls `open` and `next`.
+// The record merge: what is lent to it, a heap of the streams, the calls `open` and `next`, and the reader of one stream.
 pub mod heap;
 pub mod merge;
+pub mod opening;
+pub mod reader;
+pub mod state;

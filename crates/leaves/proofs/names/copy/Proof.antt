@@ -1,10 +1,10 @@
 -- `names::copy` meets its contract. The loop's invariant: the first i bytes are copied. The measure is the bytes that are left.
 -- Assumes nothing.
-use mathlib.Core.Path.{_≡_, refl, ap, _∙_}
-use Prim.Native.Nat.{ℕ, _+_, _-_, _≤_}
+use mathlib.Core.Path.{_≡_, refl, _∙_}
+use Prim.Native.Nat.{_-_, _≤_}
 use native.Mathlib.Omega.{arith}
 use borrow.Author.Needs.{needs}
-use lib.ListN.{length, set, length-set}
+use lib.ListN.{length, length-set}
 use lib.Seq.{slice, paste, paste-zero}
 use Rattle.leaves.specs.NamesLaws.{copied-next, copied-all}
 use Rattle.leaves.proofs.names.copy.Statement.{statement}

@@ -1,12 +1,8 @@
 -- `names::judge_name` meets its contract: each test decides its case.
 -- Assumes nothing.
-use mathlib.Core.Path.{sym, ap, _∙_}
-use Prim.Native.Nat.{ℕ}
 use native.Mathlib.Omega.{arith}
 use borrow.Author.Needs.{needs}
-use lib.Seq.{slice, length-slice}
-use Rattle.leaves.specs.Names.{hasRoom, naming}
-use Rattle.leaves.specs.NamesLaws.{memory, formed, ordered, holds, fails, numbered-old, numbered-new, numbered-none}
+use Rattle.leaves.specs.NamesLaws.{memory, formed, ordered, holds, judged-15, judged-14, judged-4, judged-old, judged-new, judged-5}
 use Rattle.leaves.proofs.names.judge_name.Statement.{statement}
 use Rattle.leaves.proofs.names.judge_name.Tie as tie
 
@@ -14,22 +10,19 @@ is-memory-requires : tie.Need-is-memory-requires
 is-memory-requires c κs = search needs
 
 returns : tie.Need-returns
-unfolding naming
-returns c = rw (fails (c .before .is-memory .ensures) (c .if1 .taken))
+returns c = search (needs, judged-15)
 
 is-list-requires : tie.Need-is-list-requires
 is-list-requires c κs = let m = memory _ _ _ _ (holds (c .before .is-memory .ensures) (c .if1 .left)) in (m .held, m .room)
 
 returns-2 : tie.Need-returns-2
-unfolding naming
-returns-2 c = rw (holds (c .before .before .before .is-memory .ensures) (c .before .before .if1 .left), fails (c .before .is-list .ensures) (c .if2 .taken))
+returns-2 c = search (needs, judged-14)
 
 is-name-requires : tie.Need-is-name-requires
 is-name-requires c κs = search needs
 
 returns-3 : tie.Need-returns-3
-unfolding naming
-returns-3 c = rw (holds (c .before .before .before .before .before .is-memory .ensures) (c .before .before .before .before .if1 .left), holds (c .before .before .before .is-list .ensures) (c .before .before .if2 .left), fails (c .before .is-name .ensures) (c .if3 .taken))
+returns-3 c = search (needs, judged-4)
 
 find-name-requires : tie.Need-find-name-requires
 find-name-requires c κs =
@@ -39,10 +32,9 @@ cast-t16 : tie.Need-cast-t16
 cast-t16 c = let m = memory _ _ _ _ (holds (c .before .before .before .before .before .before .before .is-memory .ensures) (c .before .before .before .before .before .before .if1 .left)) in omega (arith, m .held, m .few)
 
 returns-4 : tie.Need-returns-4
-unfolding naming
 returns-4 c =
-    rw (holds (c .before .before .before .before .before .before .before .is-memory .ensures) (c .before .before .before .before .before .before .if1 .left), holds (c .before .before .before .before .before .is-list .ensures) (c .before .before .before .before .if2 .left), holds (c .before .before .before .is-name .ensures) (c .before .before .if3 .left))
-    (numbered-old _ _ _ _ _ _ (c .before .find-name .ensures) (c .if4 .taken))
+    judged-old _ _ _ _ _ (c .before .before .before .before .before .before .before .is-memory .ensures) (c .before .before .before .before .before .before .if1 .left) (c .before .before .before .before .before .is-list .ensures) (c .before .before .before .before .if2 .left) (c .before .before .before .is-name .ensures) (c .before .before .if3 .left)
+    (c .before .find-name .ensures) (c .if4 .taken)
 
 sub-has-room : tie.Need-sub-has-room
 sub-has-room c = search needs
@@ -54,20 +46,14 @@ cast-t20 : tie.Need-cast-t20
 cast-t20 c = let m = memory _ _ _ _ (holds (c .before .before .before .before .before .before .before .before .before .is-memory .ensures) (c .before .before .before .before .before .before .before .before .if1 .left)) in omega (arith, m .held, m .few)
 
 returns-5 : tie.Need-returns-5
-unfolding naming
 returns-5 c =
-    let s = c .before .before .before .before .before .before .before .before .before .before .before .before .before in
-    let n = length-slice (s .args .from) (s .args .to) (s .args .text .now) (s .pre .1) in
-    rw (holds (c .before .before .before .before .before .before .before .before .before .is-memory .ensures) (c .before .before .before .before .before .before .before .before .if1 .left), holds (c .before .before .before .before .before .before .before .is-list .ensures) (c .before .before .before .before .before .before .if2 .left), holds (c .before .before .before .before .before .is-name .ensures) (c .before .before .before .before .if3 .left), n)
-    (numbered-new _ _ _ _ _ _ (c .before .before .before .find-name .ensures) (c .before .before .if4 .left) (sym (c .before .has-room .ensures) ∙ c .if5 .taken))
+    judged-new _ _ _ _ _ _ _ (c .before .before .before .before .before .before .before .before .before .is-memory .ensures) (c .before .before .before .before .before .before .before .before .if1 .left) (c .before .before .before .before .before .before .before .is-list .ensures) (c .before .before .before .before .before .before .if2 .left) (c .before .before .before .before .before .is-name .ensures) (c .before .before .before .before .if3 .left)
+    (c .before .before .before .find-name .ensures) (c .before .before .if4 .left) (c .before .before .before .before .before .before .before .before .before .before .before .before .before .pre .1) (c .before .has-room .ensures) (c .if5 .taken)
 
 returns-6 : tie.Need-returns-6
-unfolding naming
 returns-6 c =
-    let s = c .before .before .before .before .before .before .before .before .before .before .before .before .before in
-    let n = length-slice (s .args .from) (s .args .to) (s .args .text .now) (s .pre .1) in
-    rw (holds (c .before .before .before .before .before .before .before .before .before .is-memory .ensures) (c .before .before .before .before .before .before .before .before .if1 .left), holds (c .before .before .before .before .before .before .before .is-list .ensures) (c .before .before .before .before .before .before .if2 .left), holds (c .before .before .before .before .before .is-name .ensures) (c .before .before .before .before .if3 .left), n)
-    (numbered-none _ _ _ _ _ _ (c .before .before .before .find-name .ensures) (c .before .before .if4 .left) (sym (c .before .has-room .ensures) ∙ c .if5 .left))
+    judged-5 _ _ _ _ _ _ _ (c .before .before .before .before .before .before .before .before .before .is-memory .ensures) (c .before .before .before .before .before .before .before .before .if1 .left) (c .before .before .before .before .before .before .before .is-list .ensures) (c .before .before .before .before .before .before .if2 .left) (c .before .before .before .before .before .is-name .ensures) (c .before .before .before .before .if3 .left)
+    (c .before .before .before .find-name .ensures) (c .before .before .if4 .left) (c .before .before .before .before .before .before .before .before .before .before .before .before .before .pre .1) (c .before .has-room .ensures) (c .if5 .left)
 
 pub judge-name-spec : {M : Type 1} → statement M
 judge-name-spec =

@@ -1,10 +1,9 @@
 -- `names::name_bytes` meets its contract: in an ordered list a name begins before it ends, within the bytes lent.
 -- Assumes nothing.
-use mathlib.Core.Path.{ap, sym, _∙_}
 use native.Mathlib.Omega.{arith}
 use borrow.Author.Needs.{needs}
 use Rattle.leaves.specs.Names.{startOf, endOf, nameOf}
-use Rattle.leaves.specs.NamesLaws.{Ordered, part-is}
+use Rattle.leaves.specs.NamesLaws.{part-is}
 use Rattle.leaves.proofs.names.name_bytes.Statement.{statement}
 use Rattle.leaves.proofs.names.name_bytes.Tie as tie
 

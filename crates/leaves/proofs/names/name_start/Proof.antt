@@ -1,6 +1,6 @@
 -- `names::name_start` meets its contract: a name's number is 0 or one more than another's.
 -- Assumes nothing.
-use mathlib.Core.Path.{sym, ap, _∙_}
+use mathlib.Core.Path.{_∙_}
 use borrow.Author.Needs.{needs}
 use Rattle.leaves.specs.NamesLaws.{start-first, start-after}
 use Rattle.leaves.proofs.names.name_start.Statement.{statement}

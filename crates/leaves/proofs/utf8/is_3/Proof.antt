@@ -1,8 +1,7 @@
 -- `utf8::is_3` meets its contract: it tries the alternatives in their order.
 -- Assumes nothing.
-use mathlib.Core.Path.{sym, _∙_}
 use borrow.Author.Needs.{needs}
-use Rattle.leaves.specs.Utf8.{utf8-3}
+use Rattle.leaves.specs.Utf8Laws.{third-1, third-2, third-3, third-4}
 use Rattle.leaves.proofs.utf8.is_3.Statement.{statement}
 use Rattle.leaves.proofs.utf8.is_3.Tie as tie
 
@@ -10,43 +9,38 @@ is-three-requires : tie.Need-is-three-requires
 is-three-requires c κs = search needs
 
 returns : tie.Need-returns
-unfolding utf8-3
-returns c = rw (sym (c .before .is-three .ensures) ∙ c .if1 .taken)
+returns c =
+    third-1 _ _ _
+    (c .before .is-three .ensures) (c .if1 .taken)
 
 is-three-requires-2 : tie.Need-is-three-requires-2
 is-three-requires-2 c κs = search needs
 
 returns-2 : tie.Need-returns-2
-unfolding utf8-3
 returns-2 c =
-    rw (
-      sym (c .before .before .before .is-three .ensures) ∙ c .before .before .if1 .left,
-      sym (c .before .is-three2 .ensures) ∙ c .if2 .taken,
-    )
+    third-2 _ _ _
+    (c .before .before .before .is-three .ensures) (c .before .before .if1 .left)
+    (c .before .is-three2 .ensures) (c .if2 .taken)
 
 is-three-requires-3 : tie.Need-is-three-requires-3
 is-three-requires-3 c κs = search needs
 
 returns-3 : tie.Need-returns-3
-unfolding utf8-3
 returns-3 c =
-    rw (
-      sym (c .before .before .before .before .before .is-three .ensures) ∙ c .before .before .before .before .if1 .left,
-      sym (c .before .before .before .is-three2 .ensures) ∙ c .before .before .if2 .left,
-      sym (c .before .is-three3 .ensures) ∙ c .if3 .taken,
-    )
+    third-3 _ _ _
+    (c .before .before .before .before .before .is-three .ensures) (c .before .before .before .before .if1 .left)
+    (c .before .before .before .is-three2 .ensures) (c .before .before .if2 .left)
+    (c .before .is-three3 .ensures) (c .if3 .taken)
 
 is-three-requires-4 : tie.Need-is-three-requires-4
 is-three-requires-4 c κs = search needs
 
 returns-4 : tie.Need-returns-4
-unfolding utf8-3
 returns-4 c =
-    rw (
-      sym (c .before .before .before .before .before .before .is-three .ensures) ∙ c .before .before .before .before .before .if1 .left,
-      sym (c .before .before .before .before .is-three2 .ensures) ∙ c .before .before .before .if2 .left,
-      sym (c .before .before .is-three3 .ensures) ∙ c .before .if3 .left,
-    )
+    third-4 _ _ _
+    (c .before .before .before .before .before .before .is-three .ensures) (c .before .before .before .before .before .if1 .left)
+    (c .before .before .before .before .is-three2 .ensures) (c .before .before .before .if2 .left)
+    (c .before .before .is-three3 .ensures) (c .before .if3 .left)
     (c .is-three4 .ensures)
 
 pub is-3-spec : {M : Type 1} → statement M

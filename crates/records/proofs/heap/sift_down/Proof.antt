@@ -26,7 +26,7 @@ same-length : tie.Need-same-length Inv-loop μ-loop
 same-length c = c .before .loop .inv .long
 
 returns : tie.Need-returns Inv-loop μ-loop
-returns c = let at = c .before in let s = at .before .before .before in let ts = s .args .times .now in let hp = s .args .heap .now in let hq = at .loop .heap in let n = s .args .held in let o = s .args .from in let i = at .loop .i in sift-leaf ts hp hq n o i (s .pre .0) (at .loop .inv) (c .if1 .taken)
+returns c = sift-leaf (c .before .before .before .before .pre .0) (c .before .loop .inv) (c .if1 .taken)
 
 pick-requires : tie.Need-pick-requires Inv-loop μ-loop
 pick-requires c κs = omega arith
@@ -35,26 +35,47 @@ same-length-2 : tie.Need-same-length-2 Inv-loop μ-loop
 same-length-2 c = c .before .before .before .before .loop .inv .long
 
 returns-2 : tie.Need-returns-2 Inv-loop μ-loop
-returns-2 c = let at = c .before .before .before .before in let s = at .before .before .before in let ts = s .args .times .now in let hp = s .args .heap .now in let hq = at .loop .heap in let n = s .args .held in let o = s .args .from in let i = at .loop .i in sift-done ts hp hq n o i (s .pre .0) (at .loop .inv) _ (c .if2 .taken) (c .before .pick .ensures)
+returns-2 c =
+    let at = c .before .before .before .before in
+    sift-done (at .before .before .before .pre .0) (at .loop .inv) (c .before .pick .result) (c .if2 .taken) (c .before .pick .ensures)
 
 slice-read-p : tie.Need-slice-read-p Inv-loop μ-loop
 slice-read-p c = omega arith
 
 slice-read-q : tie.Need-slice-read-q Inv-loop μ-loop
-slice-read-q c = let at = c .before .before .before .before .before .before in let s = at .before .before .before in let ts = s .args .times .now in let hp = s .args .heap .now in let hq = at .loop .heap in let n = s .args .held in let o = s .args .from in let i = at .loop .i in let m = c .before .before .before .pick .result in let below = sift-below ts hp hq n o i (s .pre .0) (at .loop .inv) m (c .before .before .if2 .left) (c .before .before .before .pick .ensures) in omega (arith, below)
+slice-read-q c =
+    let at = c .before .before .before .before .before .before in
+    let s = at .before .before .before in
+    let picked = c .before .before .before .pick in
+    let below = sift-below (s .pre .0) (at .loop .inv) (picked .result) (c .before .before .if2 .left) (picked .ensures) in
+    omega (arith, below)
 
 slice-write-heap : tie.Need-slice-write-heap Inv-loop μ-loop
 slice-write-heap c = omega arith
 
 slice-write-heap-2 : tie.Need-slice-write-heap-2 Inv-loop μ-loop
-slice-write-heap-2 c = let at = c .before .before .before .before .before .before in let s = at .before .before .before in let ts = s .args .times .now in let hp = s .args .heap .now in let hq = at .loop .heap in let n = s .args .held in let o = s .args .from in let i = at .loop .i in let m = c .before .before .before .pick .result in let below = sift-below ts hp hq n o i (s .pre .0) (at .loop .inv) m (c .before .before .if2 .left) (c .before .before .before .pick .ensures) in omega (arith, below, length-set hq i (getD hq m 0))
+slice-write-heap-2 c =
+    let at = c .before .before .before .before .before .before in
+    let s = at .before .before .before in
+    let picked = c .before .before .before .pick in
+    let below = sift-below (s .pre .0) (at .loop .inv) (picked .result) (c .before .before .if2 .left) (picked .ensures) in
+    omega (arith, below, length-set (at .loop .heap) (at .loop .i) (getD (at .loop .heap) (picked .result) 0))
 
 loop-less : tie.Need-loop-less Inv-loop μ-loop
-loop-less c = let at = c .before .before .before .before .before .before in let s = at .before .before .before in let ts = s .args .times .now in let hp = s .args .heap .now in let hq = at .loop .heap in let n = s .args .held in let o = s .args .from in let i = at .loop .i in let m = c .before .before .before .pick .result in let below = sift-below ts hp hq n o i (s .pre .0) (at .loop .inv) m (c .before .before .if2 .left) (c .before .before .before .pick .ensures) in omega (arith, below)
+loop-less c =
+    let at = c .before .before .before .before .before .before in
+    let s = at .before .before .before in
+    let picked = c .before .before .before .pick in
+    let below = sift-below (s .pre .0) (at .loop .inv) (picked .result) (c .before .before .if2 .left) (picked .ensures) in
+    omega (arith, below)
 
 loop-again : tie.Need-loop-again Inv-loop μ-loop
 unfolding swap
-loop-again c = let at = c .before .before .before .before .before .before in let s = at .before .before .before in let ts = s .args .times .now in let hp = s .args .heap .now in let hq = at .loop .heap in let n = s .args .held in let o = s .args .from in let i = at .loop .i in let m = c .before .before .before .pick .result in let below = sift-below ts hp hq n o i (s .pre .0) (at .loop .inv) m (c .before .before .if2 .left) (c .before .before .before .pick .ensures) in sift-turn ts hp hq n o i (s .pre .0) (at .loop .inv) m (c .before .before .if2 .left) (c .before .before .before .pick .ensures)
+loop-again c =
+    let at = c .before .before .before .before .before .before in
+    let s = at .before .before .before in
+    let picked = c .before .before .before .pick in
+    sift-turn (s .pre .0) (at .loop .inv) (picked .result) (c .before .before .if2 .left) (picked .ensures)
 
 pub sift-down-spec : {M : Type 1} → statement M
 sift-down-spec =

@@ -58,8 +58,8 @@ slice-read-place c = omega arith
 slice-read-if2 : tie.Need-slice-read-if2 Inv-loop μ-loop
 slice-read-if2 c = omega arith
 
-read-at-requires : tie.Need-read-at-requires Inv-loop μ-loop
-read-at-requires c κs = search needs
+read-stream-requires : tie.Need-read-stream-requires Inv-loop μ-loop
+read-stream-requires c κs = search needs
 
 slice-write-marks : tie.Need-slice-write-marks Inv-loop μ-loop
 slice-write-marks c = omega arith
@@ -99,7 +99,7 @@ same-length-10 c =
 returns-2 : tie.Need-returns-2 Inv-loop μ-loop
 returns-2 c =
     let there = c .before .before .before .before .before .before .before .before .before in
-    let got = there .read-at in
+    let got = there .read-stream in
     let root = there .before .before .before .before in
     let at = there .before .before .before .before .before .before .before .loop in
     let start = there .before .before .before .before .before .before .before .before .before .before .before .before .before .before .before in
@@ -108,7 +108,7 @@ returns-2 c =
 loop-less : tie.Need-loop-less Inv-loop μ-loop
 loop-less c =
     let there = c .before .before .before .before .before .before .before .before in
-    let got = there .read-at in
+    let got = there .read-stream in
     let root = there .before .before .before .before in
     let at = there .before .before .before .before .before .before .before .loop in
     let start = there .before .before .before .before .before .before .before .before .before .before .before .before .before .before .before in
@@ -117,7 +117,7 @@ loop-less c =
 loop-again : tie.Need-loop-again Inv-loop μ-loop
 loop-again c =
     let there = c .before .before .before .before .before .before .before .before in
-    let got = there .read-at in
+    let got = there .read-stream in
     let root = there .before .before .before .before in
     let at = there .before .before .before .before .before .before .before .loop in
     let start = there .before .before .before .before .before .before .before .before .before .before .before .before .before .before .before in
@@ -140,12 +140,12 @@ slice-write-heads c = omega arith
 
 sift-down-requires-2 : tie.Need-sift-down-requires-2 Inv-loop μ-loop
 sift-down-requires-2 c κs =
-    let at = c .before .before .before .before .before .before .before .before .before .before .loop in omega (arith, length-set (at .times) (c .before .before .before .before .before .before .before .slot .result) (c .before .before .before .read-at .result .time))
+    let at = c .before .before .before .before .before .before .before .before .before .before .loop in omega (arith, length-set (at .times) (c .before .before .before .before .before .before .before .slot .result) (c .before .before .before .read-stream .result .time))
 
 loop-less-2 : tie.Need-loop-less-2 Inv-loop μ-loop
 loop-less-2 c =
     let there = c .before .before .before .before .before .before in
-    let got = there .read-at in
+    let got = there .read-stream in
     let root = there .before .before .before .before in
     let at = there .before .before .before .before .before .before .before .loop in
     let start = there .before .before .before .before .before .before .before .before .before .before .before .before .before .before .before in
@@ -154,7 +154,7 @@ loop-less-2 c =
 loop-again-2 : tie.Need-loop-again-2 Inv-loop μ-loop
 loop-again-2 c =
     let there = c .before .before .before .before .before .before in
-    let got = there .read-at in
+    let got = there .read-stream in
     let root = there .before .before .before .before in
     let at = there .before .before .before .before .before .before .before .loop in
     let start = there .before .before .before .before .before .before .before .before .before .before .before .before .before .before .before in
@@ -235,7 +235,7 @@ turns-spec =
     mul-place
     slice-read-place
     slice-read-if2
-    read-at-requires
+    read-stream-requires
     slice-write-marks
     sub-size
     slice-read-last

@@ -1,0 +1,59 @@
+-- The entry is stored over its instrument's, or at its place after the later ones have moved. Assumes nothing.
+use native.Mathlib.Omega.{arith}
+use Rattle.maps.specs.PointsSteps.{held-within, set-held, set-held-bytes, set-full, set-full-bytes, set-more, set-more-bytes}
+use borrow.Author.Needs.{needs}
+use Rattle.maps.proofs.points.set_entry.Statement.{statement}
+use Rattle.maps.proofs.points.set_entry.Tie as tie
+
+place-of-requires : tie.Need-place-of-requires
+place-of-requires c κs = search needs
+
+holds-requires : tie.Need-holds-requires
+holds-requires c κs = search needs
+
+put-entry-requires : tie.Need-put-entry-requires
+put-entry-requires c κs = held-within _ _ _ _ (c .before .before .before .before .before .before .before .pre .0) (c .before .before .holds .ensures) (c .before .if1 .taken)
+
+same-length : tie.Need-same-length
+same-length c = search needs
+
+returns : tie.Need-returns
+returns c = (set-held _ _ _ _ (c .before .before .before .before .before .before .before .before .before .before .pre .0) (c .before .before .before .before .before .before .before .before .before .before .pre .1) (c .before .before .before .before .before .before .before .place-of .ensures) (c .before .before .before .before .before .holds .ensures) (c .before .before .before .before .if1 .taken), set-held-bytes _ _ _ _ (c .before .before .before .before .before .before .before .before .before .before .pre .0) (c .before .before .before .before .before .before .before .before .before .before .pre .1) (c .before .before .before .before .before .before .before .place-of .ensures) (c .before .before .before .before .before .holds .ensures) (λ k. omega (arith, c .before .before .before .before .before .before .before .before .before .slice-known .given k)) (c .before .before .before .before .if1 .taken) (c .before .before .put-entry .ensures))
+
+same-length-2 : tie.Need-same-length-2
+same-length-2 c = search needs
+
+returns-2 : tie.Need-returns-2
+returns-2 c = (set-full _ _ _ _ (c .before .before .before .before .before .before .before .pre .0) (c .before .before .before .before .before .before .before .pre .1) (c .before .before .before .before .place-of .ensures) (c .before .before .holds .ensures) (c .before .if1 .left) (c .if2 .taken), set-full-bytes _ _ _ _ (c .before .before .before .before .before .before .before .pre .0) (c .before .before .before .before .before .before .before .pre .1) (c .before .before .before .before .place-of .ensures) (c .before .before .holds .ensures) (c .before .if1 .left) (c .if2 .taken))
+
+move-up-requires : tie.Need-move-up-requires
+move-up-requires c κs = search needs
+
+put-entry-requires-2 : tie.Need-put-entry-requires-2
+put-entry-requires-2 c κs = search needs
+
+add-t13 : tie.Need-add-t13
+add-t13 c = search needs
+
+same-length-3 : tie.Need-same-length-3
+same-length-3 c = search needs
+
+returns-3 : tie.Need-returns-3
+returns-3 c = (set-more _ _ _ _ (c .before .before .before .before .before .before .before .before .before .before .before .before .before .before .before .pre .0) (c .before .before .before .before .before .before .before .before .before .before .before .before .before .before .before .pre .1) (c .before .before .before .before .before .before .before .before .before .before .before .before .place-of .ensures) (c .before .before .before .before .before .before .before .before .before .before .holds .ensures) (c .before .before .before .before .before .before .before .before .before .if1 .left) (c .before .before .before .before .before .before .before .before .if2 .left), set-more-bytes _ _ _ _ (c .before .before .before .before .before .before .before .before .before .before .before .before .before .before .before .pre .0) (c .before .before .before .before .before .before .before .before .before .before .before .before .before .before .before .pre .1) (c .before .before .before .before .before .before .before .before .before .before .before .before .place-of .ensures) (c .before .before .before .before .before .before .before .before .before .before .holds .ensures) (λ k. omega (arith, c .before .before .before .before .before .before .before .before .before .before .before .before .before .before .slice-known .given k)) (c .before .before .before .before .before .before .before .before .before .if1 .left) (c .before .before .before .before .before .before .before .before .if2 .left) (c .before .before .before .before .before .before .move-up .ensures) (c .before .before .put-entry2 .ensures))
+
+pub set-entry-spec : {M : Type 1} → statement M
+set-entry-spec =
+    tie.close
+    (tie.spec
+    place-of-requires
+    holds-requires
+    put-entry-requires
+    same-length
+    returns
+    same-length-2
+    returns-2
+    move-up-requires
+    put-entry-requires-2
+    add-t13
+    same-length-3
+    returns-3)

@@ -1,0 +1,77 @@
+#!/usr/bin/env python3
+"""Writes the cases of vectors_maps: oracle/build && python3 tools/make_vectors_maps.py > crates/vectors_maps/stdin
+
+Three sources, in this order: the traps of the rules' reading (oracle/traps.py), random lent memory answered by the plain
+model of document 01 (oracle/model.py), and histories answered by dbn's own code (oracle/driver.rs), each of their inserts
+and lookups on the table that the one before it left.
+"""
+import random
+import subprocess
+import sys
+from pathlib import Path
+
+ORACLE = Path(__file__).resolve().parent.parent / "oracle"
+sys.path.insert(0, str(ORACLE))
+
+import answer  # noqa: E402
+import cases  # noqa: E402
+import lent  # noqa: E402
+import model  # noqa: E402
+import traps  # noqa: E402
+from answer import words  # noqa: E402
+
+KINDS = ["check", "insert", "get_for_ts", "check_point", "get_point", "on_record", "on_record_point"]
+LONGEST = 1500
+NAMES = 3
+ROOM = 8
+
+
+def is_served(case):
+    return case.split()[0] in KINDS and len(case) < LONGEST
+
+
+def show(case, said):
+    print(case, "=", said)
+
+
+def history(line):
+    """A history that dbn's own code answered, one case a step."""
+    steps = line.split()[1:]
+    run = subprocess.run([ORACLE / "target/driver"], input=line + "\n", capture_output=True, text=True, check=True)
+    answered = run.stdout.strip().split(" ; ")
+    if any(len(words_of) > 2 + 4 * ROOM for words_of in map(str.split, answered)):
+        return
+    said = iter(answered)
+    table, used = bytes(24 * ROOM), 0
+    while steps:
+        kind, *rest = steps
+        answers = next(said).split()
+        if kind == "i":
+            given, steps = rest[:4], rest[4:]
+            number, rows = int(answers[0]), [int(word) for word in answers[2:]]
+            rows = [tuple(rows[n : n + 4]) for n in range(0, len(rows), 4)]
+            after = table if number else model.laid(table, used, rows)
+            count = used if number else len(rows)
+            show(words("insert", table, used, NAMES, *map(int, given)), words(number, count, after))
+            table, used = after, count
+        else:
+            (instrument, moment, hint), steps = map(int, rest[:3]), rest[3:]
+            symbol, new_hint = answers
+            found = (0, 0) if symbol == "-" else (1, int(symbol))
+            show(words("get_for_ts", table, used, instrument, moment, hint), words(0, *found, int(new_hint)))
+
+
+print("# The cases of vectors_maps, made by tools/make_vectors_maps.py: a call, what it is handed, and behind the = what it answers.")
+print("# Bytes are hexadecimal, a - for none; oracle/README.md has the form of each call")
+for _, (case, said) in traps.traps():
+    if is_served(case):
+        show(case, said)
+rng = random.Random(1)
+for faults in (0, 0.3):
+    for part in (lent.table_case, lent.point_case, lent.record_case):
+        for _ in range(60):
+            case = part(rng, faults)
+            if is_served(case):
+                show(case, answer.answer(case))
+for _ in range(13):
+    history(cases.long_history(rng))
