@@ -16,11 +16,13 @@ use Rattle.machine.specs.Rules.{IsHeap, root-first, root-none}
 use Rattle.machine.specs.Heap.{at, over, Le, HeapFrom}
 use Rattle.machine.specs.Sift.{keys, Moved}
 
+-- the first `size` places of the heap hold the streams that are not gone (mark 0), and each of them once
 pub record Holds (n : ℕ) (ms hp : List ℕ) (size : ℕ) : Type 0 where
   pub who : (x : ℕ) → x < size → (at hp x < n) × (getD ms (at hp x) 0 ≢ 0)
   pub there : (q : ℕ) → q < n → getD ms q 0 ≢ 0 → (x : ℕ) × (x < size) × (at hp x ≡ q)
   pub once : (x y : ℕ) → x < size → y < size → at hp x ≡ at hp y → x ≡ y
 
+-- and they are in order: no parent comes after its children by (time, stream)
 pub record HeapOk (n : ℕ) (ms ts hp : List ℕ) (size : ℕ) : Type 0 where
   pub holds : Holds n ms hp size
   pub heap : HeapFrom (keys ts) hp size 0

@@ -9,4 +9,5 @@ pub mod Check
 pub mod Mapping
 pub mod MappingLaws
 pub mod MappingInterval
+pub mod Table
 pub mod Lookup

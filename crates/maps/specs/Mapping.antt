@@ -13,10 +13,10 @@ use Rattle.leaves.specs.Names.{isName, memoryOk, namesOf, least, numbering, wri
 use Rattle.leaves.specs.Names.{wellFormed as wellFormedNames}
 use Rattle.leaves.specs.declared.names.Naming.{Naming}
 use Rattle.leaves.specs.declared.names.Naming.the-variants.{Old, New, Refused as NotNamed}
-use Rattle.tables.specs.Table.{Row, Outcome, refusedBy, stored, ifRoom, insertRows, wellFormed as wellFormedRows}
-use Rattle.tables.specs.Memory.{sameValue, knownValue, rows, roomOf, badTable, memoryAfter}
+use Rattle.tables.specs.Table.{Row, Outcome, refusedBy, stored, nowStored, ifRoom, insertRows, wellFormed as wellFormedRows}
+use Rattle.tables.specs.Memory.{sameValue, knownValue, rows, roomOf, badTable, memoryAfter, usedAfter}
 use Rattle.maps.specs.Entries.{entries}
-use Rattle.maps.specs.Points.{wellFormed, setEntry, pointsFit, hasRoom, storedBytes}
+use Rattle.maps.specs.Points.{wellFormed, setEntry, pointsFit, hasRoom, storedBytes, usedThen, entriesThen}
 use Rattle.maps.specs.declared.entries.Entry.{Entry}
 use Rattle.maps.specs.declared.mapping.Plan.{Plan}
 use Rattle.maps.specs.declared.mapping.Plan.the-variants.{Nothing, Store, Refuse}
@@ -101,6 +101,19 @@ pointTable t used nothing = t
 pointTable t used (refuses a) = t
 pointTable t used (stores instrument start end number new) = storedBytes t (pointOutcome t used instrument number)
 
+-- how many entries are in use then, and which
+unfoldable pub pointUsed : List ℕ → ℕ → Wanted → ℕ
+unfolding pointOutcome
+pointUsed t used nothing = used
+pointUsed t used (refuses a) = used
+pointUsed t used (stores instrument start end number new) = usedThen t used (pointOutcome t used instrument number)
+
+unfoldable pub pointEntries : List ℕ → ℕ → Wanted → List Entry
+unfolding pointOutcome
+pointEntries t used nothing = entries t used
+pointEntries t used (refuses a) = entries t used
+pointEntries t used (stores instrument start end number new) = entriesThen t used (pointOutcome t used instrument number)
+
 -- how many names, and how many bytes of them, are in use once a name has joined or not
 abbrev pub namesThen : Bool → ℕ → ℕ
 namesThen joins names = cond joins (names + 1) names
@@ -151,6 +164,19 @@ unfolding timeOutcome
 timeTable t used nothing = t
 timeTable t used (refuses a) = t
 timeTable t used (stores instrument start end number new) = memoryAfter t used (timeOutcome t used instrument start end number)
+
+-- how many intervals are in use then, and which
+unfoldable pub timeUsed : List ℕ → ℕ → Wanted → ℕ
+unfolding timeOutcome
+timeUsed t used nothing = used
+timeUsed t used (refuses a) = used
+timeUsed t used (stores instrument start end number new) = usedAfter used (timeOutcome t used instrument start end number)
+
+unfoldable pub timeRows : List ℕ → ℕ → Wanted → List (Row ℕ)
+unfolding timeOutcome
+timeRows t used nothing = rows t used
+timeRows t used (refuses a) = rows t used
+timeRows t used (stores instrument start end number new) = nowStored (rows t used) (timeOutcome t used instrument start end number)
 
 -- the answer of an outcome: 2, or the intervals, the names and the name bytes in use
 abbrev pub outcomeThen : ℕ → ℕ → List ℕ → Bool → Outcome (Row ℕ) → Answer

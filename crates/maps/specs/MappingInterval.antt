@@ -26,7 +26,7 @@ use Rattle.tables.specs.Memory.{sameValue, knownValue, width, rows, roomOf, bad
 use Rattle.tables.specs.Outcomes.{Lent, table-lent, checked-ordered}
 use Rattle.maps.specs.declared.mapping.Plan.{Plan}
 use Rattle.maps.specs.declared.mapping.Plan.the-variants.{Nothing, Store, Refuse}
-use Rattle.maps.specs.Mapping.{Wanted, nothing, refuses, stores, numberingIn, numbered, timeWanted, timeJudged, mappingRow, timeOutcome, isStored, timeJoins, timeTable, timeAnswer, outcomeThen, namesThen, sizeThen, bytesThen, endsThen, planOf}
+use Rattle.maps.specs.Mapping.{Wanted, nothing, refuses, stores, numberingIn, numbered, timeWanted, timeJudged, mappingRow, timeOutcome, isStored, timeJoins, timeTable, timeUsed, timeRows, timeAnswer, outcomeThen, namesThen, sizeThen, bytesThen, endsThen, planOf}
 use Rattle.maps.specs.MappingLaws.{Lies, Ready, Forward, ReadyInterval, asked, asked-part}
 
 -- ---- what the record asks
@@ -161,30 +161,31 @@ module _ (t : List ℕ) (used : ℕ) (bytes ends : List ℕ) (names size : ℕ) 
   abbrev pub TimeLeaves : Wanted → Answer → List ℕ → List ℕ → List ℕ → Type 0
   TimeLeaves w a t′ b e =
       (a ≡ timeAnswer t used names size name w)
-      × ((t′ ≡ timeTable t used w) × ((b ≡ bytesThen (timeJoins t used w) bytes size name) × (e ≡ endsThen (timeJoins t used w) ends names size name)))
+      × ((t′ ≡ timeTable t used w) × ((b ≡ bytesThen (timeJoins t used w) bytes size name) × ((e ≡ endsThen (timeJoins t used w) ends names size name)
+      × (rows t′ (timeUsed t used w) ≡ timeRows t used w))))
 
   pub time-nothing : {w : Wanted} → nothing ≡ w → TimeLeaves w (answer 0 (used ∷ names ∷ size ∷ [])) t bytes ends
-  unfolding timeAnswer timeTable timeJoins bytesThen endsThen
-  time-nothing h = rw (← h) (refl, (refl, (refl, refl)))
+  unfolding timeAnswer timeTable timeJoins timeUsed timeRows bytesThen endsThen
+  time-nothing h = rw (← h) (refl, (refl, (refl, (refl, refl))))
 
   pub time-refuses : {a : Answer} {w : Wanted} → refuses a ≡ w → TimeLeaves w a t bytes ends
-  unfolding timeAnswer timeTable timeJoins bytesThen endsThen
-  time-refuses h = rw (← h) (refl, (refl, (refl, refl)))
+  unfolding timeAnswer timeTable timeJoins timeUsed timeRows bytesThen endsThen
+  time-refuses h = rw (← h) (refl, (refl, (refl, (refl, refl))))
 
   module _ {i s e n : ℕ} {new : Bool} {w : Wanted} (h : stores i s e n new ≡ w) where
     abbrev o : Outcome (Row ℕ)
     o = ifRoom (roomOf t) (insertRows sameValue (mappingRow i s e n) (rows t used))
 
     pub time-full : (r : Refusal) {a : Answer} {t′ : List ℕ} → refused r ≡ a → Gives o t used a t′ → TimeLeaves w (refused r) t′ bytes ends
-    unfolding timeAnswer timeTable timeJoins timeOutcome bytesThen endsThen
+    unfolding timeAnswer timeTable timeJoins timeUsed timeRows timeOutcome bytesThen endsThen
     time-full r q g =
         let no′ = out-no names size name new o r (q ∙ g .answers) in
-        rw (← h, no′ .0) (no′ .1, (g .memory, (refl, refl)))
+        rw (← h) (no′ .1, (g .memory, (rw (no′ .0) refl, (rw (no′ .0) refl, g .holds))))
 
     pub time-stored : {u k z : ℕ} {a : Answer} {t′ b′ e′ : List ℕ} → answer 0 (u ∷ []) ≡ a → Gives o t used a t′
         → k ≡ namesThen new names → z ≡ sizeThen new size name → b′ ≡ bytesThen new bytes size name → e′ ≡ endsThen new ends names size name
         → TimeLeaves w (answer 0 (u ∷ k ∷ z ∷ [])) t′ b′ e′
-    unfolding timeAnswer timeTable timeJoins timeOutcome
+    unfolding timeAnswer timeTable timeJoins timeUsed timeRows timeOutcome
     time-stored {u} {k} {z} q g a b c d =
         let yes′ = out-yes names size name new o u k z (q ∙ g .answers) a b in
-        rw (← h, yes′ .0) (yes′ .1, (g .memory, (c, d)))
+        rw (← h) (yes′ .1, (g .memory, (rw (yes′ .0) c, (rw (yes′ .0) d, g .holds))))

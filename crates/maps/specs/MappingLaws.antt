@@ -23,8 +23,8 @@ use Rattle.leaves.specs.NamesLaws.{holds, fails, Memory, memory, Ordered as Ord
 use Rattle.maps.specs.Entries.{entries}
 use Rattle.maps.specs.declared.entries.Entry.{Entry}
 use Rattle.maps.specs.Points.{rising, allKnown, wellFormed, setEntry, pointsFit, hasRoom, storedAnswer, storedBytes}
-use Rattle.maps.specs.PointsSteps.{fit-bytes}
-use Rattle.maps.specs.Mapping.{Wanted, nothing, refuses, stores, numberingIn, numbered, pointWanted, pointJudged, pointOutcome, pointJoins, pointTable, pointAnswer, namesThen, sizeThen, bytesThen, endsThen, planOf}
+use Rattle.maps.specs.PointsSteps.{fit-bytes, Stores}
+use Rattle.maps.specs.Mapping.{Wanted, nothing, refuses, stores, numberingIn, numbered, pointWanted, pointJudged, pointOutcome, pointJoins, pointTable, pointUsed, pointEntries, pointAnswer, namesThen, sizeThen, bytesThen, endsThen, planOf}
 use Rattle.tables.specs.Table.{Ordered}
 use Rattle.tables.specs.Memory.{width, rows, roomOf}
 use Rattle.maps.specs.declared.mapping.Plan.{Plan}
@@ -311,30 +311,31 @@ module _ (t : List ℕ) (used : ℕ) (bytes ends : List ℕ) (names size : ℕ) 
   abbrev pub Leaves : Wanted → Answer → List ℕ → List ℕ → List ℕ → Type 0
   Leaves w a t′ b e =
       (a ≡ pointAnswer t used names size name w)
-      × ((t′ ≡ pointTable t used w) × ((b ≡ bytesThen (pointJoins t used w) bytes size name) × (e ≡ endsThen (pointJoins t used w) ends names size name)))
+      × ((t′ ≡ pointTable t used w) × ((b ≡ bytesThen (pointJoins t used w) bytes size name) × ((e ≡ endsThen (pointJoins t used w) ends names size name)
+      × (entries t′ (pointUsed t used w) ≡ pointEntries t used w))))
 
   pub leaves-nothing : {w : Wanted} → nothing ≡ w → Leaves w (answer 0 (used ∷ names ∷ size ∷ [])) t bytes ends
-  unfolding pointAnswer pointTable pointJoins bytesThen endsThen
-  leaves-nothing h = rw (← h) (refl, (refl, (refl, refl)))
+  unfolding pointAnswer pointTable pointJoins pointUsed pointEntries bytesThen endsThen
+  leaves-nothing h = rw (← h) (refl, (refl, (refl, (refl, refl))))
 
   pub leaves-refused : {a : Answer} {w : Wanted} → refuses a ≡ w → Leaves w a t bytes ends
-  unfolding pointAnswer pointTable pointJoins bytesThen endsThen
-  leaves-refused h = rw (← h) (refl, (refl, (refl, refl)))
+  unfolding pointAnswer pointTable pointJoins pointUsed pointEntries bytesThen endsThen
+  leaves-refused h = rw (← h) (refl, (refl, (refl, (refl, refl))))
 
   module _ {i s e n : ℕ} {new : Bool} {w : Wanted} (h : stores i s e n new ≡ w) where
     abbrev out : List Entry
     out = setEntry (record { instrument = i; symbol = n }) (entries t used)
 
-    pub leaves-full : (r : Refusal) {t′ : List ℕ} → refused r ≡ storedAnswer t out → t′ ≡ storedBytes t out → Leaves w (refused r) t′ bytes ends
-    unfolding pointAnswer pointTable pointJoins bytesThen endsThen
-    leaves-full r p q =
-        let no = stored-no t out r p in
-        rw (← h, no .0) (no .1, (q, (refl, refl)))
+    pub leaves-full : (r : Refusal) {a : Answer} {t′ : List ℕ} → refused r ≡ a → Stores t used (record { instrument = i; symbol = n }) a t′ → Leaves w (refused r) t′ bytes ends
+    unfolding pointAnswer pointTable pointJoins pointUsed pointEntries bytesThen endsThen
+    leaves-full r q st =
+        let no′ = stored-no t out r (q ∙ st .0) in
+        rw (← h) (rw (no′ .0) (no′ .1), (st .1 .0, (rw (no′ .0) refl, (rw (no′ .0) refl, st .1 .1))))
 
-    pub leaves-stored : {u k z : ℕ} {t′ b′ e′ : List ℕ} → answer 0 (u ∷ []) ≡ storedAnswer t out → t′ ≡ storedBytes t out
+    pub leaves-stored : {u k z : ℕ} {a : Answer} {t′ b′ e′ : List ℕ} → answer 0 (u ∷ []) ≡ a → Stores t used (record { instrument = i; symbol = n }) a t′
         → k ≡ namesThen new names → z ≡ sizeThen new size name → b′ ≡ bytesThen new bytes size name → e′ ≡ endsThen new ends names size name
         → Leaves w (answer 0 (u ∷ k ∷ z ∷ [])) t′ b′ e′
-    unfolding pointAnswer pointTable pointJoins
-    leaves-stored {u} p q a b c d =
-        let yes′ = stored-yes t out u p in
-        rw (← h, yes′ .0) ((λ j. answer 0 (yes′ .1 j ∷ a j ∷ b j ∷ [])), (q, (c, d)))
+    unfolding pointAnswer pointTable pointJoins pointUsed pointEntries
+    leaves-stored {u} q st a b c d =
+        let yes′ = stored-yes t out u (q ∙ st .0) in
+        rw (← h) (rw (yes′ .0) (λ j. answer 0 (yes′ .1 j ∷ a j ∷ b j ∷ [])), (st .1 .0, (rw (yes′ .0) c, (rw (yes′ .0) d, st .1 .1))))

@@ -101,6 +101,15 @@ unfoldable pub storedBytes : List ℕ → List Entry → List ℕ
 unfolding hasRoom
 storedBytes t out = cond (hasRoom t out) (putEntries t 0 out) t
 
+-- how many entries are in use then, and which: the outcome; after 2 those before
+unfoldable pub usedThen : List ℕ → ℕ → List Entry → ℕ
+unfolding hasRoom
+usedThen t used out = cond (hasRoom t out) (length out) used
+
+unfoldable pub entriesThen : List ℕ → ℕ → List Entry → List Entry
+unfolding hasRoom
+entriesThen t used out = cond (hasRoom t out) out (entries t used)
+
 abbrev pub storedOf : Stored → Answer
 storedOf (Done used) = answer 0 (used ∷ [])
 storedOf (StoreRefused r) = refused r

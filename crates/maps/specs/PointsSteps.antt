@@ -14,12 +14,13 @@ use lib.Dec.{T, ltb, leb, eqb, lt→ltb}
 use borrow.Author.Tests.{lt-ltb, le-ltb, le-leb, lt-leb, leb-true, ltb-true, eq-eqb, ne-eqb, eqb-true, not-true, not-false}
 use Rattle.theory.specs.Answer.{Answer, answer}
 use Rattle.theory.specs.Fields.{Bytes}
+use Rattle.theory.specs.RunsTools.{cond-case}
 use Rattle.leaves.specs.Refusal.{refused}
 use Rattle.leaves.specs.declared.refusal.Refusal.the-variants.{NoRoom, IllFormed, BadMemory}
 use Rattle.maps.specs.declared.entries.Entry.{Entry}
 use Rattle.maps.specs.Entries.{entryAt, entriesFrom, entries, putEntry, putEntries}
-use Rattle.maps.specs.EntriesLaws.{length-entries, getD-entries, entries-cons, take-entries, drop-entries, putEntries-append, putEntries-back, putEntries-comm, length-putEntry, length-putEntries}
-use Rattle.maps.specs.Points.{ahead, rising, allKnown, wellFormed, symbolFor, setEntry, pointsFit, namesFit, pointsChecked, symbolAnswer, pointFound, hasRoom, storedAnswer, storedBytes}
+use Rattle.maps.specs.EntriesLaws.{length-entries, getD-entries, entries-cons, take-entries, drop-entries, putEntries-append, putEntries-back, putEntries-comm, entries-put, Small, AllSmall, entries-small}
+use Rattle.maps.specs.Points.{ahead, rising, allKnown, wellFormed, symbolFor, setEntry, pointsFit, namesFit, pointsChecked, symbolAnswer, pointFound, hasRoom, storedAnswer, storedBytes, usedThen, entriesThen}
 use Rattle.maps.specs.PointsLaws.{placeOf, place-is, symbol-at, symbol-none, set-at, set-new}
 
 -- ---- the memory
@@ -319,6 +320,36 @@ put-front t n p x ys h l =
     ∙ ap (λ (k : ℕ). putEntries (putEntry t p x) k ys) (sym (add-one p))
     ∙ sym (putEntries-comm t (p + 1) ys p x (omega arith))
 
+set-small : (x : Entry) (xs : List Entry) → Small x → AllSmall xs → AllSmall (setEntry x xs)
+unfolding setEntry
+set-small x [] h k = (h, tt)
+set-small x (y ∷ ys) h k =
+    cond-case AllSmall (ltb (y .instrument) (x .instrument)) _ _
+    (λ a. (k .0, set-small x ys h (k .1)))
+    (λ a. cond-case AllSmall (ltb (x .instrument) (y .instrument)) _ _ (λ b. (h, k)) (λ b. (h, k .1)))
+
+-- the answer, the bytes and the entries in use are those of the entry set
+abbrev pub Stores : List ℕ → ℕ → Entry → Answer → List ℕ → Type 0
+Stores t used x a t′ =
+    (a ≡ storedAnswer t (setEntry x (entries t used)))
+    × ((t′ ≡ storedBytes t (setEntry x (entries t used)))
+    × (entries t′ (usedThen t used (setEntry x (entries t used))) ≡ entriesThen t used (setEntry x (entries t used))))
+
+-- what is stored is what is read then
+stored-entries : (t : List ℕ) (used : ℕ) (x : Entry) {t′ : List ℕ} → Bytes t → Small x → t′ ≡ storedBytes t (setEntry x (entries t used))
+    → entries t′ (usedThen t used (setEntry x (entries t used))) ≡ entriesThen t used (setEntry x (entries t used))
+unfolding storedBytes usedThen entriesThen hasRoom
+stored-entries t used x b h e = rw e (go (leb (length out) (length t / 8)) refl)
+  where
+    out : List Entry
+    out = setEntry x (entries t used)
+
+    go : (r : Bool) → leb (length out) (length t / 8) ≡ r → entries (cond r (putEntries t 0 out) t) (cond r (length out) used) ≡ cond r out (entries t used)
+    go true f =
+        let l : length out ≤ length t / 8 = leb-true (length out) (length t / 8) f in
+        entries-put t 0 out (omega arith) (set-small x (entries t used) h (entries-small t 0 used b))
+    go false f = refl
+
 module _ (t : List ℕ) (used : ℕ) (x : Entry) (place : ℕ) (fit : used * 8 ≤ length t) (s : T (rising (entries t used)))
     (p : Placed t used (x .instrument) place) where
   abbrev old : List Entry
@@ -386,11 +417,11 @@ module _ (t : List ℕ) (used : ℕ) (x : Entry) (place : ℕ) (fit : used * 8 �
     unfolding hasRoom
     has-not f l = rw (new-length (sym e ∙ f)) (lt-leb (used + 1) (length t / 8) (omega arith))
 
-    pub set-held : h ≡ true → answer 0 (used ∷ []) ≡ storedAnswer t out
+    set-held : h ≡ true → answer 0 (used ∷ []) ≡ storedAnswer t out
     unfolding storedAnswer
     set-held f = rw (has-held f, held-length (sym e ∙ f)) refl
 
-    pub set-held-bytes : {t′ : List ℕ} → Bytes t → h ≡ true → t′ ≡ putEntry t place x → t′ ≡ storedBytes t out
+    set-held-bytes : {t′ : List ℕ} → Bytes t → h ≡ true → t′ ≡ putEntry t place x → t′ ≡ storedBytes t out
     unfolding storedBytes
     set-held-bytes b f w =
         let l : place < used = held t used place (x .instrument) (sym e ∙ f) .within in
@@ -400,19 +431,19 @@ module _ (t : List ℕ) (used : ℕ) (x : Entry) (place : ℕ) (fit : used * 8 �
         ∙ sym (put-front t used place x (entriesFrom t (place + 1) (used - (place + 1))) b (p .within))
         ∙ sym (ap (putEntries t 0) (out-held (sym e ∙ f))))
 
-    pub set-full : h ≡ false → length t / 8 ≤ used → refused NoRoom ≡ storedAnswer t out
+    set-full : h ≡ false → length t / 8 ≤ used → refused NoRoom ≡ storedAnswer t out
     unfolding storedAnswer
     set-full f l = rw (has-not f l) refl
 
-    pub set-full-bytes : h ≡ false → length t / 8 ≤ used → t ≡ storedBytes t out
+    set-full-bytes : h ≡ false → length t / 8 ≤ used → t ≡ storedBytes t out
     unfolding storedBytes
     set-full-bytes f l = rw (has-not f l) refl
 
-    pub set-more : h ≡ false → used < length t / 8 → answer 0 ((used + 1) ∷ []) ≡ storedAnswer t out
+    set-more : h ≡ false → used < length t / 8 → answer 0 ((used + 1) ∷ []) ≡ storedAnswer t out
     unfolding storedAnswer
     set-more f l = rw (has-new f l, new-length (sym e ∙ f)) refl
 
-    pub set-more-bytes : {t₁ t′ : List ℕ} → Bytes t → h ≡ false → used < length t / 8 → t₁ ≡ putEntries t (place + 1) (entriesFrom t place (used - place))
+    set-more-bytes : {t₁ t′ : List ℕ} → Bytes t → h ≡ false → used < length t / 8 → t₁ ≡ putEntries t (place + 1) (entriesFrom t place (used - place))
         → t′ ≡ putEntry t₁ place x → t′ ≡ storedBytes t out
     unfolding storedBytes
     set-more-bytes b f l v w =
@@ -421,3 +452,17 @@ module _ (t : List ℕ) (used : ℕ) (x : Entry) (place : ℕ) (fit : used * 8 �
         ∙ ap (λ (l : List ℕ). putEntry l place x) v
         ∙ sym (put-front t used place x (entriesFrom t place (used - place)) b (p .within))
         ∙ sym (ap (putEntries t 0) (out-new (sym e ∙ f))))
+
+    module _ (b : Bytes t) (small : Small x) where
+      all : {a : Answer} {t′ : List ℕ} → a ≡ storedAnswer t out → t′ ≡ storedBytes t out → Stores t used x a t′
+      all a w = (a, (w, stored-entries t used x b small w))
+
+      pub stores-held : {t′ : List ℕ} → h ≡ true → t′ ≡ putEntry t place x → Stores t used x (answer 0 (used ∷ [])) t′
+      stores-held f w = all (set-held f) (set-held-bytes b f w)
+
+      pub stores-full : h ≡ false → length t / 8 ≤ used → Stores t used x (refused NoRoom) t
+      stores-full f l = all (set-full f l) (set-full-bytes f l)
+
+      pub stores-more : {t₁ t′ : List ℕ} → h ≡ false → used < length t / 8 → t₁ ≡ putEntries t (place + 1) (entriesFrom t place (used - place)) → t′ ≡ putEntry t₁ place x
+          → Stores t used x (answer 0 ((used + 1) ∷ [])) t′
+      stores-more f l v w = all (set-more f l) (set-more-bytes b f l v w)

@@ -163,9 +163,9 @@ pub fn enter(table: &mut [u8], used: usize, names: usize, n: Interval) -> Insert
 pub fn insert(table: &mut [u8], used: usize, names: usize, n: Interval) -> Inserted
     ensures { λ r. ⌜ Gives (insertOutcome (now (table .entry)) used names (rowOf n)) (now (table .entry)) used (insertedOf r) (now (table .exit)) ⌝ }
 {
-    if crate::check::bad_memory(table.len(), used, names) {
+    if crate::table::bad_memory(table.len(), used, names) {
         Inserted::Refused(Refusal::BadMemory)
-    } else if crate::check::well_formed(table, used, names) {
+    } else if crate::table::well_formed(table, used, names) {
         enter(table, used, names, n)
     } else {
         Inserted::Refused(Refusal::IllFormed)

@@ -1,5 +1,5 @@
 // The maps of document 01, "The map over time": the table over time and the point-in-time table, in lent bytes.
-pub mod check;
+pub mod cursor;
 pub mod entries;
 pub mod insert;
 pub mod interval;
@@ -8,3 +8,4 @@ pub mod mapping;
 pub mod moves;
 pub mod points;
 pub mod search;
+pub mod table;

@@ -130,7 +130,7 @@ fn look_up(table: &[u8], used: usize, instrument: u32, moment: u64, hint: u64) -
 pub fn get_for_ts(table: &[u8], used: usize, instrument: u32, moment: u64, hint: u64) -> Looked
     ensures { λ r. ⌜ (T (badTable (length (now (table .entry))) used || ordered sameValue (rows (now (table .entry)) used)) → (lookedOf r ≡ lookupAnswer (now (table .entry)) used instrument moment hint) × (r .hint ≡ lookupHint (now (table .entry)) used instrument moment hint)) ⌝ }
 {
-    if crate::check::bad_table(table.len(), used) {
+    if crate::table::bad_table(table.len(), used) {
         let found = Found::Refused(Refusal::BadMemory);
         Looked { found, hint }
     } else {

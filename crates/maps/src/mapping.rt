@@ -25,7 +25,9 @@ ghost use lib.ListN.{length};
 ghost use lib.Seq.{slice};
 ghost use Rattle.leaves.specs.Names.{memoryOk, wellFormed};
 ghost use Rattle.leaves.specs.Frame.{mappedIn, nameIn};
-ghost use Rattle.maps.specs.Mapping.{numberingIn, numbered, pointWanted, pointJudged, pointJoins, pointTable, pointAnswer, timeWanted, timeJudged, timeJoins, timeTable, timeAnswer, namesThen, sizeThen, bytesThen, endsThen, recordedOf, planOf};
+ghost use Rattle.tables.specs.Memory.{rows};
+ghost use Rattle.maps.specs.Entries.{entries};
+ghost use Rattle.maps.specs.Mapping.{numberingIn, numbered, pointWanted, pointJudged, pointJoins, pointTable, pointUsed, pointEntries, pointAnswer, timeWanted, timeJudged, timeJoins, timeTable, timeUsed, timeRows, timeAnswer, namesThen, sizeThen, bytesThen, endsThen, recordedOf, planOf};
 ghost use Rattle.maps.specs.MappingLaws.{Lies, Ready, ReadyPoint, Forward, ReadyInterval};
 
 // What a mapping call comes to before the room of the table is judged.
@@ -281,6 +283,7 @@ pub fn on_record_point(
     ensures { λ _. ⌜ now (table .exit) ≡ pointTable (now (table .entry)) used (pointJudged (now (table .entry)) used (now (bytes .entry)) (now (ends .entry)) names size (now (rec .entry))) ⌝ }
     ensures { λ _. ⌜ now (bytes .exit) ≡ bytesThen (pointJoins (now (table .entry)) used (pointJudged (now (table .entry)) used (now (bytes .entry)) (now (ends .entry)) names size (now (rec .entry)))) (now (bytes .entry)) size (nameIn (now (rec .entry))) ⌝ }
     ensures { λ _. ⌜ now (ends .exit) ≡ endsThen (pointJoins (now (table .entry)) used (pointJudged (now (table .entry)) used (now (bytes .entry)) (now (ends .entry)) names size (now (rec .entry)))) (now (ends .entry)) names size (nameIn (now (rec .entry))) ⌝ }
+    ensures { λ _. ⌜ entries (now (table .exit)) (pointUsed (now (table .entry)) used (pointJudged (now (table .entry)) used (now (bytes .entry)) (now (ends .entry)) names size (now (rec .entry)))) ≡ pointEntries (now (table .entry)) used (pointJudged (now (table .entry)) used (now (bytes .entry)) (now (ends .entry)) names size (now (rec .entry))) ⌝ }
 {
     let plan = judge_point(table, used, bytes, ends, names, size, rec);
     match plan {
@@ -329,6 +332,7 @@ pub fn on_record(
     ensures { λ _. ⌜ now (table .exit) ≡ timeTable (now (table .entry)) used (timeJudged (now (table .entry)) used (now (bytes .entry)) (now (ends .entry)) names size (now (rec .entry))) ⌝ }
     ensures { λ _. ⌜ now (bytes .exit) ≡ bytesThen (timeJoins (now (table .entry)) used (timeJudged (now (table .entry)) used (now (bytes .entry)) (now (ends .entry)) names size (now (rec .entry)))) (now (bytes .entry)) size (nameIn (now (rec .entry))) ⌝ }
     ensures { λ _. ⌜ now (ends .exit) ≡ endsThen (timeJoins (now (table .entry)) used (timeJudged (now (table .entry)) used (now (bytes .entry)) (now (ends .entry)) names size (now (rec .entry)))) (now (ends .entry)) names size (nameIn (now (rec .entry))) ⌝ }
+    ensures { λ _. ⌜ rows (now (table .exit)) (timeUsed (now (table .entry)) used (timeJudged (now (table .entry)) used (now (bytes .entry)) (now (ends .entry)) names size (now (rec .entry)))) ≡ timeRows (now (table .entry)) used (timeJudged (now (table .entry)) used (now (bytes .entry)) (now (ends .entry)) names size (now (rec .entry))) ⌝ }
 {
     let plan = judge_interval(table, used, bytes, ends, names, size, rec);
     match plan {

@@ -18,7 +18,7 @@ ghost use lib.Dec.{T};
 ghost use Rattle.leaves.specs.Refusal.{refused};
 ghost use Rattle.maps.specs.Check.{checkedOf};
 ghost use Rattle.maps.specs.Entries.{entries};
-ghost use Rattle.maps.specs.Points.{rising, wellFormed, pointsFit, setEntry, pointsChecked, pointFound, foundOf, storedAnswer, storedBytes, storedOf};
+ghost use Rattle.maps.specs.Points.{rising, wellFormed, pointsFit, setEntry, pointsChecked, pointFound, foundOf, storedAnswer, storedBytes, usedThen, entriesThen, storedOf};
 ghost use Rattle.maps.specs.PointsSteps.{standsAt, holdsAt, Placed};
 
 // What a call that stores answers: how many entries are in use then.
@@ -140,6 +140,7 @@ pub fn set_entry(table: &mut [u8], used: usize, x: Entry) -> Stored
     requires { ⌜ (used * 8 ≤ length (now table)) × T (rising (entries (now table) used)) ⌝ }
     ensures answered { λ r. ⌜ storedOf r ≡ storedAnswer (now (table .entry)) (setEntry x (entries (now (table .entry)) used)) ⌝ }
     ensures bytes { λ r. ⌜ now (table .exit) ≡ storedBytes (now (table .entry)) (setEntry x (entries (now (table .entry)) used)) ⌝ }
+    ensures stored { λ r. ⌜ entries (now (table .exit)) (usedThen (now (table .entry)) used (setEntry x (entries (now (table .entry)) used))) ≡ entriesThen (now (table .entry)) used (setEntry x (entries (now (table .entry)) used)) ⌝ }
 {
     let place = place_of(table, used, x.instrument);
     if holds(table, used, place, x.instrument) {

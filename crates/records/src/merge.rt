@@ -1,6 +1,11 @@
-// The record merge over a heap: document 01, "Merging records". A call hands out the record of the least (time, stream).
+// The record merge over a heap: document 01, "Merging records". All of its state stands in arrays of 256 places that the caller
+// lends: for each stream its mark, its time, its place and the head (length, kind, instrument) of the record it stands at; and the
+// heap of stream numbers, of which `held` places are in use. A call hands out the record of the least (time, stream).
+use crate::heap::heapify;
 use crate::heap::sift_down;
 use crate::heap::slot;
+use crate::opening::lay;
+use crate::opening::streams_right;
 use crate::state::EMPTY;
 use crate::state::GONE;
 use crate::state::STANDING;
@@ -11,16 +16,16 @@ use leaves::frame::Head;
 use leaves::frame::read_within;
 use leaves::refusal::Refusal;
 ghost use mathlib.Core.Path.{_≡_};
-ghost use mathlib.Core.Bool.{true, false};
-ghost use Prim.Native.Nat.{ℕ, _+_, _<_, _≤_, _^_};
-ghost use lib.ListN.{length};
+ghost use mathlib.Core.Bool.{true, false, _&&_};
+ghost use Prim.Native.Nat.{ℕ, _+_, _-_, _<_, _≤_, _^_};
+ghost use lib.ListN.{length, replicate};
 ghost use mathlib.Core.List.{[]};
 ghost use Rattle.theory.specs.Answer.{answer};
 ghost use Rattle.machine.specs.Machine.{says, record-at, damage-at};
 ghost use Rattle.machine.specs.Bytes.{streamsOf};
 ghost use Rattle.machine.specs.View.{packed, recIn};
-ghost use Rattle.machine.specs.State.{answerOf, rightMemory, Room, Untouched, gotOf, StateOk, Says};
-ghost use Rattle.records.specs.Merge.{turnOf};
+ghost use Rattle.machine.specs.State.{answerOf, rightMemory, Room, Untouched, rightStreams, opening, gotOf, StateOk, Says, Opened};
+ghost use Rattle.records.specs.Merge.{turnOf, openingOf};
 
 // What a read found: the end is 0, damage its reason, a record 4.
 const RECORD: u64 = 4;
@@ -52,11 +57,31 @@ pub struct Turned {
     pub answer: Turn,
 }
 
+// What an opening answers: the streams, and how many of them the heap holds.
+pub enum Opening {
+    Opened { streams: usize, held: usize },
+    Refused(Refusal),
+}
+
 // What a read found, in numbers: the head has the record's length, kind and instrument.
 struct Got {
     found: u64,
     time: u64,
     head: u64,
+}
+
+// Room for marks, and for the heap: empty places.
+pub fn empty_bytes() -> [u8; 256]
+    ensures { λ r. ⌜ (r ≡ replicate 256 0) × (256 ≡ length r) ⌝ }
+{
+    [GONE; 256]
+}
+
+// Room for times, places and heads: empty places.
+pub fn empty_numbers() -> [u64; 256]
+    ensures { λ r. ⌜ (r ≡ replicate 256 0) × (256 ≡ length r) ⌝ }
+{
+    [EMPTY; 256]
 }
 
 // The sum, where it fits.
@@ -219,4 +244,50 @@ pub fn next(
         };
     }
     turns(buffer, cuts, held, marks, times, places, heads, heap)
+}
+
+// Opens the streams of a buffer between its cuts, each at its hint. It reads none of them. A refusal leaves everything as it was.
+pub fn open(
+    buffer: &[u8],
+    cuts: &[u64],
+    hints: &[u64],
+    marks: &mut [u8],
+    times: &mut [u64],
+    places: &mut [u64],
+    heads: &mut [u64],
+    heap: &mut [u8],
+) -> Opening
+    ensures { λ r. ⌜ openingOf r ≡ opening (rightMemory 0 (length (now (marks .entry))) (length (now (times .entry))) (length (now (places .entry))) (length (now (heads .entry))) (length (now (heap .entry))))
+        (rightStreams (length (now (buffer .entry))) (now (cuts .entry)) (length (now (hints .entry)))) (length (now (cuts .entry)) - 1) ⌝ }
+    ensures { λ r. ⌜ ((rightMemory 0 (length (now (marks .entry))) (length (now (times .entry))) (length (now (places .entry))) (length (now (heads .entry))) (length (now (heap .entry)))
+        && rightStreams (length (now (buffer .entry))) (now (cuts .entry)) (length (now (hints .entry)))) ≡ false
+        → Untouched (now (marks .entry)) (now (times .entry)) (now (places .entry)) (now (heads .entry)) (now (heap .entry)) (now (marks .exit)) (now (times .exit)) (now (places .exit)) (now (heads .exit)) (now (heap .exit))) ⌝ }
+    ensures { λ r. ⌜ ((rightMemory 0 (length (now (marks .entry))) (length (now (times .entry))) (length (now (places .entry))) (length (now (heads .entry))) (length (now (heap .entry)))
+        && rightStreams (length (now (buffer .entry))) (now (cuts .entry)) (length (now (hints .entry)))) ≡ true
+        → Opened (length (now (cuts .entry)) - 1) (now (hints .entry)) (now (marks .exit)) (now (times .exit)) (now (places .exit)) (now (heads .exit)) (now (heap .exit))) ⌝ }
+{
+    if memory(
+        0,
+        marks.len(),
+        times.len(),
+        places.len(),
+        heads.len(),
+        heap.len(),
+    )
+        == 0
+    {
+        let refusal = Refusal::BadMemory;
+        return Opening::Refused(refusal);
+    }
+    if streams_right(buffer.len() as u64, cuts, hints.len()) == 0 {
+        let refusal = Refusal::BadStreams;
+        return Opening::Refused(refusal);
+    }
+    let n = cuts.len() - 1;
+    lay(n, hints, marks, times, places, heads, heap);
+    heapify(times, heap, n);
+    Opening::Opened {
+        streams: n,
+        held: n,
+    }
 }

@@ -1,31 +1,21 @@
-// Opening the merge: document 01, "Merging records". The streams stand in one buffer between its cuts; each begins to wait at its hint.
-use crate::heap::heapify;
+// The parts of an opening: are the streams right, and each of them laid at its hint. Document 01, "Merging records".
 use crate::state::EMPTY;
 use crate::state::GONE;
 use crate::state::PLACES;
 use crate::state::WAITING;
 use crate::state::entry_or_zero;
-use crate::state::memory;
-use leaves::refusal::Refusal;
 ghost use mathlib.Core.Path.{_≡_};
-ghost use mathlib.Core.Bool.{true, false, _&&_, _||_};
+ghost use mathlib.Core.Bool.{_||_};
 ghost use Prim.Native.Nat.{_-_, _<_, _≤_};
 ghost use lib.Dec.{eqb};
 ghost use lib.ListN.{length};
-ghost use Rattle.machine.specs.State.{bit, rightMemory, Room, Untouched, riseTo, rightStreams, opening, Opened};
+ghost use Rattle.machine.specs.State.{bit, Room, riseTo, rightStreams};
 ghost use Rattle.machine.specs.Opening.{markAt, numberAt, Laid};
-ghost use Rattle.records.specs.Opening.{openingOf};
 
 // Cuts are one more than the streams.
 const FEWEST_CUTS: usize = 2;
 
 const MOST_CUTS: usize = 257;
-
-// What an opening answers: the streams, and how many of them the heap holds.
-pub enum Opening {
-    Opened { streams: usize, held: usize },
-    Refused(Refusal),
-}
 
 // Do the cuts never fall? 1: they don't.
 fn rising(cuts: &[u64]) -> u64
@@ -56,7 +46,7 @@ fn hints_right(hints: usize, streams: usize) -> u64
 }
 
 // Are the streams right? 1: at least one and at most 256, the cuts from 0 to the buffer's length without a fall, and no hint or one a stream.
-fn streams_right(size: u64, cuts: &[u64], hints: usize) -> u64
+pub fn streams_right(size: u64, cuts: &[u64], hints: usize) -> u64
     ensures { λ r. ⌜ r ≡ bit (rightStreams size (now (cuts .entry)) hints) ⌝ }
 {
     let count = cuts.len();
@@ -100,7 +90,7 @@ fn number_at(i: usize, n: usize) -> u8
 }
 
 // Each of n streams waits at its hint, from its first byte on; the other places are empty.
-fn lay(
+pub fn lay(
     n: usize,
     hints: &[u64],
     marks: &mut [u8],
@@ -120,51 +110,5 @@ fn lay(
         heads[i] = EMPTY;
         heap[i] = number_at(i, n);
         i = i + 1;
-    }
-}
-
-// Opens the streams of a buffer between its cuts, each at its hint. It reads none of them. A refusal leaves everything as it was.
-pub fn open(
-    buffer: &[u8],
-    cuts: &[u64],
-    hints: &[u64],
-    marks: &mut [u8],
-    times: &mut [u64],
-    places: &mut [u64],
-    heads: &mut [u64],
-    heap: &mut [u8],
-) -> Opening
-    ensures { λ r. ⌜ openingOf r ≡ opening (rightMemory 0 (length (now (marks .entry))) (length (now (times .entry))) (length (now (places .entry))) (length (now (heads .entry))) (length (now (heap .entry))))
-        (rightStreams (length (now (buffer .entry))) (now (cuts .entry)) (length (now (hints .entry)))) (length (now (cuts .entry)) - 1) ⌝ }
-    ensures { λ r. ⌜ ((rightMemory 0 (length (now (marks .entry))) (length (now (times .entry))) (length (now (places .entry))) (length (now (heads .entry))) (length (now (heap .entry)))
-        && rightStreams (length (now (buffer .entry))) (now (cuts .entry)) (length (now (hints .entry)))) ≡ false
-        → Untouched (now (marks .entry)) (now (times .entry)) (now (places .entry)) (now (heads .entry)) (now (heap .entry)) (now (marks .exit)) (now (times .exit)) (now (places .exit)) (now (heads .exit)) (now (heap .exit))) ⌝ }
-    ensures { λ r. ⌜ ((rightMemory 0 (length (now (marks .entry))) (length (now (times .entry))) (length (now (places .entry))) (length (now (heads .entry))) (length (now (heap .entry)))
-        && rightStreams (length (now (buffer .entry))) (now (cuts .entry)) (length (now (hints .entry)))) ≡ true
-        → Opened (length (now (cuts .entry)) - 1) (now (hints .entry)) (now (marks .exit)) (now (times .exit)) (now (places .exit)) (now (heads .exit)) (now (heap .exit))) ⌝ }
-{
-    if memory(
-        0,
-        marks.len(),
-        times.len(),
-        places.len(),
-        heads.len(),
-        heap.len(),
-    )
-        == 0
-    {
-        let refusal = Refusal::BadMemory;
-        return Opening::Refused(refusal);
-    }
-    if streams_right(buffer.len() as u64, cuts, hints.len()) == 0 {
-        let refusal = Refusal::BadStreams;
-        return Opening::Refused(refusal);
-    }
-    let n = cuts.len() - 1;
-    lay(n, hints, marks, times, places, heads, heap);
-    heapify(times, heap, n);
-    Opening::Opened {
-        streams: n,
-        held: n,
     }
 }

@@ -1,7 +1,6 @@
-// What the caller lends to the merge: arrays of 256 places, all empty at opening. For each stream its mark, its time, its place and
-// the head (length, kind, instrument) of the record it stands at; and the heap of stream numbers, of which `held` places are in use.
+// What the tests and the laying of the merge's arrays share: the places, the marks, and what is right of what is lent.
 ghost use mathlib.Core.Path.{_≡_};
-ghost use lib.ListN.{length, getD, replicate};
+ghost use lib.ListN.{getD};
 ghost use Rattle.machine.specs.State.{bit, rightMemory};
 
 // The places of each array that is lent, and what an empty one holds.
@@ -15,20 +14,6 @@ pub const GONE: u8 = 0;
 pub const WAITING: u8 = 1;
 
 pub const STANDING: u8 = 2;
-
-// Room for marks, and for the heap: empty places.
-pub fn empty_bytes() -> [u8; 256]
-    ensures { λ r. ⌜ (r ≡ replicate 256 0) × (256 ≡ length r) ⌝ }
-{
-    [GONE; 256]
-}
-
-// Room for times, places and heads: empty places.
-pub fn empty_numbers() -> [u64; 256]
-    ensures { λ r. ⌜ (r ≡ replicate 256 0) × (256 ≡ length r) ⌝ }
-{
-    [EMPTY; 256]
-}
 
 // Is what is lent right? 1: each array has 256 places, and no more of the heap is in use.
 pub fn memory(

@@ -16,3 +16,4 @@ pub mod Pieces
 pub mod Checks
 pub mod Outcomes
 pub mod Looks
+pub mod Calls

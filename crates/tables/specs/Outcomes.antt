@@ -11,10 +11,11 @@ use lib.Arith.{le→nltb}
 use mir.Facts.{eqb-yes}
 use Rattle.theory.specs.Answer.{Answer, answer}
 use Rattle.theory.specs.Fields.{Bytes}
-use Rattle.theory.specs.RunsTools.{cond-lt, cond-ge, cond-yes, cond-no}
+use Rattle.theory.specs.RunsTools.{ltb-case, cond-lt, cond-ge, cond-yes, cond-no}
 use Rattle.tables.specs.Table.{Row, Ordered, Outcome, refusedBy, stored, nowStored, ifRoom, badRoom, badNames, wellFormed, insertRows, entered, inserted}
 use Rattle.tables.specs.Tests.{Good, room-good, good-room, bad-limit, formed-parts}
-use Rattle.tables.specs.Memory.{sameValue, knownValue, rows, badTable, insertOutcome, checkAnswer, memoryAfter, outcomeAnswer, usedAfter, Gives}
+use Rattle.tables.specs.Rules.{rows-ok}
+use Rattle.tables.specs.Memory.{sameValue, knownValue, rows, badTable, insertOutcome, checkAnswer, written, memoryAfter, outcomeAnswer, usedAfter, Gives}
 use Rattle.tables.specs.MemoryLaws.{length-rows, written-same}
 use Rattle.tables.specs.Pieces.{symbols}
 
@@ -216,3 +217,35 @@ module _ (t : List ℕ) (used names : ℕ) (n : Row ℕ) where
       → Gives (entered sameValue knownValue names (length t / 24) n (rows t used)) t used a t′
       → Gives (insertOutcome t used names n) t used a t′
   inserted-enters e f g h k = rw (good e f ∙ cond-yes (wellFormed sameValue knownValue names (rows t used)) _ _ (rw (sym g ∙ h) tt)) k
+
+-- ---- what a caller of an insert in place learns
+
+-- done with m rows: they are the outcome, it fits, and the whole memory is known
+pub record Placed (room m used : ℕ) (ys : List (Row ℕ)) (t t′ : List ℕ) : Type 0 where
+  pub long : m ≡ length ys
+  pub room-fits : m ≤ room
+  pub holds : rows t′ m ≡ ys
+  pub memory : t′ ≡ written t used ys
+
+pub placed-done : (room m used : ℕ) (ys : List (Row ℕ)) (t t′ : List ℕ) → Gives (ifRoom room ys) t used (answer 0 (m ∷ [])) t′ → Placed room m used ys t t′
+unfolding ifRoom outcomeAnswer memoryAfter usedAfter nowStored
+placed-done room m used ys t t′ =
+    ltb-case (λ (o : Outcome (Row ℕ)). Gives o t used (answer 0 (m ∷ [])) t′ → Placed room m used ys t t′) room (length ys) (refusedBy 2) (stored ys)
+    (λ h g. let d : answer 0 (m ∷ []) ≡ answer 2 [] = g .answers in absurd (let z : _≡_ {A = ℕ} 0 2 = cc in omega arith))
+    (λ h g.
+    let d : answer 0 (m ∷ []) ≡ answer 0 (length ys ∷ []) = g .answers in
+    let e : m ≡ length ys = cc in
+    record { long = e; room-fits = omega arith; holds = ap (λ (k : ℕ). rows t′ k) e ∙ g .holds; memory = g .memory })
+
+-- refused: it does not fit, and nothing changed
+pub placed-refused : (room used : ℕ) (ys : List (Row ℕ)) (t t′ : List ℕ) → Gives (ifRoom room ys) t used (answer 2 []) t′ → (room < length ys) × (t′ ≡ t)
+unfolding ifRoom outcomeAnswer memoryAfter usedAfter nowStored
+placed-refused room used ys t t′ =
+    ltb-case (λ (o : Outcome (Row ℕ)). Gives o t used (answer 2 []) t′ → (room < length ys) × (t′ ≡ t)) room (length ys) (refusedBy 2) (stored ys)
+    (λ h g. (h, g .memory))
+    (λ h g. let d : answer 2 [] ≡ answer 0 (length ys ∷ []) = g .answers in absurd (let z : _≡_ {A = ℕ} 0 2 = cc in omega arith))
+
+-- and the table is in order again
+pub placed-ordered : (n : Row ℕ) (used m : ℕ) (t t′ : List ℕ) → n .start < n .end → Ordered (rows t used)
+    → rows t′ m ≡ insertRows sameValue n (rows t used) → Ordered (rows t′ m)
+placed-ordered n used m t t′ h w e = rw e (rows-ok sameValue symbols n (rows t used) h w)

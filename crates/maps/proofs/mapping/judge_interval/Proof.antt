@@ -16,25 +16,45 @@ is-memory-requires : tie.Need-is-memory-requires
 is-memory-requires c κs = search needs
 
 returns-2 : tie.Need-returns-2
-returns-2 c = (timed-list _ _ _ _ _ _ _ (sym (c .before .before .before .bad-table .ensures) ∙ c .before .before .if1 .left) (fails (c .before .is-memory .ensures) (c .if2 .taken)), tt)
+returns-2 c =
+    let f = sym (c .before .before .before .bad-table .ensures) ∙ c .before .before .if1 .left in
+    (timed-list _ _ _ _ _ _ _ f (fails (c .before .is-memory .ensures) (c .if2 .taken)), tt)
 
 well-formed-requires : tie.Need-well-formed-requires
 well-formed-requires c κs = table-bytes _ _ (sym (c .before .before .before .bad-table .ensures) ∙ c .before .before .if1 .left)
 
 returns-3 : tie.Need-returns-3
-returns-3 c = (timed-ill-table _ _ _ _ _ _ _ (sym (c .before .before .before .before .before .bad-table .ensures) ∙ c .before .before .before .before .if1 .left) (holds (c .before .before .before .is-memory .ensures) (c .before .before .if2 .left)) (fails (c .before .well-formed .ensures) (c .if3 .taken)), tt)
+returns-3 c =
+    let f = sym (c .before .before .before .before .before .bad-table .ensures) ∙ c .before .before .before .before .if1 .left in
+    let g = holds (c .before .before .before .is-memory .ensures) (c .before .before .if2 .left) in
+    (timed-ill-table _ _ _ _ _ _ _ f g (fails (c .before .well-formed .ensures) (c .if3 .taken)), tt)
 
 is-list-requires : tie.Need-is-list-requires
-is-list-requires c κs = let m = memory _ _ _ _ (holds (c .before .before .before .is-memory .ensures) (c .before .before .if2 .left)) in (m .held, m .room)
+is-list-requires c κs =
+    let m = memory _ _ _ _ (holds (c .before .before .before .is-memory .ensures) (c .before .before .if2 .left)) in
+    (m .held, m .room)
 
 returns-4 : tie.Need-returns-4
-returns-4 c = (timed-ill-list _ _ _ _ _ _ _ (sym (c .before .before .before .before .before .before .before .bad-table .ensures) ∙ c .before .before .before .before .before .before .if1 .left) (holds (c .before .before .before .before .before .is-memory .ensures) (c .before .before .before .before .if2 .left)) (holds (c .before .before .before .well-formed .ensures) (c .before .before .if3 .left)) (fails (c .before .is-list .ensures) (c .if4 .taken)), tt)
+returns-4 c =
+    let f = sym (c .before .before .before .before .before .before .before .bad-table .ensures) ∙ c .before .before .before .before .before .before .if1 .left in
+    let g = holds (c .before .before .before .before .before .is-memory .ensures) (c .before .before .before .before .if2 .left) in
+    let h = holds (c .before .before .before .well-formed .ensures) (c .before .before .if3 .left) in
+    (timed-ill-list _ _ _ _ _ _ _ f g h (fails (c .before .is-list .ensures) (c .if4 .taken)), tt)
 
 plan-interval-requires : tie.Need-plan-interval-requires
-plan-interval-requires c κs = ((holds (c .before .before .before .before .before .is-memory .ensures) (c .before .before .before .before .if2 .left)), (holds (c .before .is-list .ensures) (c .if4 .left)))
+plan-interval-requires c κs = (holds (c .before .before .before .before .before .is-memory .ensures) (c .before .before .before .before .if2 .left), holds (c .before .is-list .ensures) (c .if4 .left))
 
 returns-5 : tie.Need-returns-5
-returns-5 c = (c .plan-interval .ensures .0 ∙ timed-on _ _ _ _ _ _ _ (sym (c .before .before .before .before .before .before .before .before .bad-table .ensures) ∙ c .before .before .before .before .before .before .before .if1 .left) (holds (c .before .before .before .before .before .before .is-memory .ensures) (c .before .before .before .before .before .if2 .left)) (holds (c .before .before .before .before .well-formed .ensures) (c .before .before .before .if3 .left)) (holds (c .before .before .is-list .ensures) (c .before .if4 .left)), ready-interval (c .before .before .before .before .before .before .before .before .before .before .before .before .before .args .table .now) (c .before .before .before .before .before .before .before .before .before .before .before .before .before .args .used) (c .before .before .before .before .before .before .before .before .before .before .before .before .before .args .bytes .now) (c .before .before .before .before .before .before .before .before .before .before .before .before .before .args .ends .now) (c .before .before .before .before .before .before .before .before .before .before .before .before .before .args .names) (c .before .before .before .before .before .before .before .before .before .before .before .before .before .args .size) (c .before .before .before .before .before .before .before .before .before .before .before .before .before .args .rec .now) (c .plan-interval .result) (sym (c .before .before .before .before .before .before .before .before .bad-table .ensures) ∙ c .before .before .before .before .before .before .before .if1 .left) (holds (c .before .before .before .before .well-formed .ensures) (c .before .before .before .if3 .left)) (c .plan-interval .ensures .1 .0) (c .plan-interval .ensures .1 .1))
+returns-5 c =
+    let f = sym (c .before .before .before .before .before .before .before .before .bad-table .ensures) ∙ c .before .before .before .before .before .before .before .if1 .left in
+    let g = holds (c .before .before .before .before .before .before .is-memory .ensures) (c .before .before .before .before .before .if2 .left) in
+    let h = holds (c .before .before .before .before .well-formed .ensures) (c .before .before .before .if3 .left) in
+    let k = holds (c .before .before .is-list .ensures) (c .before .if4 .left) in
+    let a = c .before .before .before .before .before .before .before .before .before .before .before .before .before .args in
+    let p = c .plan-interval .ensures in (
+      p .0 ∙ timed-on _ _ _ _ _ _ _ f g h k,
+      ready-interval (a .table .now) (a .used) (a .bytes .now) (a .ends .now) (a .names) (a .size) (a .rec .now) (c .plan-interval .result) f h (p .1 .0) (p .1 .1),
+    )
 
 pub judge-interval-spec : {M : Type 1} → statement M
 judge-interval-spec =

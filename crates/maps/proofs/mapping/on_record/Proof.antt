@@ -20,7 +20,9 @@ enum-known-plan-2 : tie.Need-enum-known-plan-2
 enum-known-plan-2 c = search needs
 
 place-requires : tie.Need-place-requires
-place-requires c κs = interval-store (c .before .before .before .before .before .before .before .before .before .before .before .before .args .table .now) (c .before .before .before .before .before .before .before .before .before .before .before .before .args .used) (c .before .before .before .before .before .before .before .before .before .before .before .before .args .bytes .now) (c .before .before .before .before .before .before .before .before .before .before .before .before .args .ends .now) (c .before .before .before .before .before .before .before .before .before .before .before .before .args .names) (c .before .before .before .before .before .before .before .before .before .before .before .before .args .size) (c .before .before .before .before .before .before .before .before .before .before .before .before .args .rec .now) (c .before .before .before .before .judge-interval .ensures .1) (c .before .before .plan2 .given .1) .1
+place-requires c κs =
+    let a = c .before .before .before .before .before .before .before .before .before .before .before .before .args in
+    interval-store (a .table .now) (a .used) (a .bytes .now) (a .ends .now) (a .names) (a .size) (a .rec .now) (c .before .before .before .before .judge-interval .ensures .1) (c .before .before .plan2 .given .1) .1
 
 enum-known-inserted : tie.Need-enum-known-inserted
 enum-known-inserted c = search needs
@@ -29,7 +31,9 @@ enum-known-inserted-2 : tie.Need-enum-known-inserted-2
 enum-known-inserted-2 c = search needs
 
 join-name-requires : tie.Need-join-name-requires
-join-name-requires c κs = interval-store (c .before .before .before .before .before .before .before .before .before .before .before .before .before .before .before .before .before .before .before .before .args .table .now) (c .before .before .before .before .before .before .before .before .before .before .before .before .before .before .before .before .before .before .before .before .args .used) (c .before .before .before .before .before .before .before .before .before .before .before .before .before .before .before .before .before .before .before .before .args .bytes .now) (c .before .before .before .before .before .before .before .before .before .before .before .before .before .before .before .before .before .before .before .before .args .ends .now) (c .before .before .before .before .before .before .before .before .before .before .before .before .before .before .before .before .before .before .before .before .args .names) (c .before .before .before .before .before .before .before .before .before .before .before .before .before .before .before .before .before .before .before .before .args .size) (c .before .before .before .before .before .before .before .before .before .before .before .before .before .before .before .before .before .before .before .before .args .rec .now) (c .before .before .before .before .before .before .before .before .before .before .before .before .judge-interval .ensures .1) (c .before .before .before .before .before .before .before .before .before .before .plan2 .given .1) .0
+join-name-requires c κs =
+    let a = c .before .before .before .before .before .before .before .before .before .before .before .before .before .before .before .before .before .before .before .before .args in
+    interval-store (a .table .now) (a .used) (a .bytes .now) (a .ends .now) (a .names) (a .size) (a .rec .now) (c .before .before .before .before .before .before .before .before .before .before .before .before .judge-interval .ensures .1) (c .before .before .before .before .before .before .before .before .before .before .plan2 .given .1) .0
 
 same-length : tie.Need-same-length
 same-length c = search needs
@@ -65,7 +69,9 @@ same-length-9 : tie.Need-same-length-9
 same-length-9 c = search needs
 
 returns-3 : tie.Need-returns-3
-returns-3 c = time-full _ _ _ _ _ _ _ (sym (ap planOf (c .before .before .before .before .before .before .before .before .plan2 .given .1)) ∙ c .before .before .before .before .before .before .before .before .before .before .judge-interval .ensures .0) (c .before .inserted .given .0 .0) (sym (ap insertedOf (c .before .inserted .given .1))) (c .before .before .before .before .before .place .ensures)
+returns-3 c =
+    let w = sym (ap planOf (c .before .before .before .before .before .before .before .before .plan2 .given .1)) ∙ c .before .before .before .before .before .before .before .before .before .before .judge-interval .ensures .0 in
+    time-full _ _ _ _ _ _ _ w (c .before .inserted .given .0 .0) (sym (ap insertedOf (c .before .inserted .given .1))) (c .before .before .before .before .before .place .ensures)
 
 same-length-10 : tie.Need-same-length-10
 same-length-10 c = search needs
@@ -77,7 +83,10 @@ same-length-12 : tie.Need-same-length-12
 same-length-12 c = search needs
 
 returns-4 : tie.Need-returns-4
-returns-4 c = time-stored _ _ _ _ _ _ _ (sym (ap planOf (c .before .before .before .before .before .before .before .before .before .before .before .before .before .before .before .plan2 .given .1)) ∙ c .before .before .before .before .before .before .before .before .before .before .before .before .before .before .before .before .before .judge-interval .ensures .0) (sym (ap insertedOf (c .before .before .before .before .before .before .before .before .inserted2 .given .1))) (c .before .before .before .before .before .before .before .before .before .before .before .before .place .ensures) (c .before .before .before .before .join-name .ensures .0 .0) (c .before .before .before .before .join-name .ensures .0 .1) (c .before .before .before .before .join-name .ensures .1 .0) (c .before .before .before .before .join-name .ensures .1 .1)
+returns-4 c =
+    let w = sym (ap planOf (c .before .before .before .before .before .before .before .before .before .before .before .before .before .before .before .plan2 .given .1)) ∙ c .before .before .before .before .before .before .before .before .before .before .before .before .before .before .before .before .before .judge-interval .ensures .0 in
+    let j = c .before .before .before .before .join-name .ensures in
+    time-stored _ _ _ _ _ _ _ w (sym (ap insertedOf (c .before .before .before .before .before .before .before .before .inserted2 .given .1))) (c .before .before .before .before .before .before .before .before .before .before .before .before .place .ensures) (j .0 .0) (j .0 .1) (j .1 .0) (j .1 .1)
 
 pub on-record-spec : {M : Type 1} → statement M
 on-record-spec =

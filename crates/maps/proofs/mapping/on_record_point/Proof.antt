@@ -20,7 +20,10 @@ enum-known-plan-2 : tie.Need-enum-known-plan-2
 enum-known-plan-2 c = search needs
 
 set-entry-requires : tie.Need-set-entry-requires
-set-entry-requires c κs = let r = ready-store (c .before .before .before .before .before .before .before .before .before .before .before .before .args .table .now) (c .before .before .before .before .before .before .before .before .before .before .before .before .args .used) (c .before .before .before .before .before .before .before .before .before .before .before .before .args .bytes .now) (c .before .before .before .before .before .before .before .before .before .before .before .before .args .ends .now) (c .before .before .before .before .before .before .before .before .before .before .before .before .args .names) (c .before .before .before .before .before .before .before .before .before .before .before .before .args .size) (c .before .before .before .before .before .before .before .before .before .before .before .before .args .rec .now) (c .before .before .before .before .judge-point .ensures .1) (c .before .before .plan2 .given .1) in (r .1, r .2)
+set-entry-requires c κs =
+    let a = c .before .before .before .before .before .before .before .before .before .before .before .before .args in
+    let r = ready-store (a .table .now) (a .used) (a .bytes .now) (a .ends .now) (a .names) (a .size) (a .rec .now) (c .before .before .before .before .judge-point .ensures .1) (c .before .before .plan2 .given .1) in
+    (r .1, r .2)
 
 enum-known-stored : tie.Need-enum-known-stored
 enum-known-stored c = search needs
@@ -29,7 +32,9 @@ enum-known-stored-2 : tie.Need-enum-known-stored-2
 enum-known-stored-2 c = search needs
 
 join-name-requires : tie.Need-join-name-requires
-join-name-requires c κs = ready-store (c .before .before .before .before .before .before .before .before .before .before .before .before .before .before .before .before .before .before .before .before .args .table .now) (c .before .before .before .before .before .before .before .before .before .before .before .before .before .before .before .before .before .before .before .before .args .used) (c .before .before .before .before .before .before .before .before .before .before .before .before .before .before .before .before .before .before .before .before .args .bytes .now) (c .before .before .before .before .before .before .before .before .before .before .before .before .before .before .before .before .before .before .before .before .args .ends .now) (c .before .before .before .before .before .before .before .before .before .before .before .before .before .before .before .before .before .before .before .before .args .names) (c .before .before .before .before .before .before .before .before .before .before .before .before .before .before .before .before .before .before .before .before .args .size) (c .before .before .before .before .before .before .before .before .before .before .before .before .before .before .before .before .before .before .before .before .args .rec .now) (c .before .before .before .before .before .before .before .before .before .before .before .before .judge-point .ensures .1) (c .before .before .before .before .before .before .before .before .before .before .plan2 .given .1) .0
+join-name-requires c κs =
+    let a = c .before .before .before .before .before .before .before .before .before .before .before .before .before .before .before .before .before .before .before .before .args in
+    ready-store (a .table .now) (a .used) (a .bytes .now) (a .ends .now) (a .names) (a .size) (a .rec .now) (c .before .before .before .before .before .before .before .before .before .before .before .before .judge-point .ensures .1) (c .before .before .before .before .before .before .before .before .before .before .plan2 .given .1) .0
 
 same-length : tie.Need-same-length
 same-length c = search needs
@@ -65,7 +70,9 @@ same-length-9 : tie.Need-same-length-9
 same-length-9 c = search needs
 
 returns-3 : tie.Need-returns-3
-returns-3 c = leaves-full _ _ _ _ _ _ _ (sym (ap planOf (c .before .before .before .before .before .before .before .before .plan2 .given .1)) ∙ c .before .before .before .before .before .before .before .before .before .before .judge-point .ensures .0) (c .before .stored .given .0 .0) (sym (ap storedOf (c .before .stored .given .1)) ∙ c .before .before .before .before .before .set-entry .ensures .0) (c .before .before .before .before .before .set-entry .ensures .1)
+returns-3 c =
+    let w = sym (ap planOf (c .before .before .before .before .before .before .before .before .plan2 .given .1)) ∙ c .before .before .before .before .before .before .before .before .before .before .judge-point .ensures .0 in
+    leaves-full _ _ _ _ _ _ _ w (c .before .stored .given .0 .0) (sym (ap storedOf (c .before .stored .given .1))) (c .before .before .before .before .before .set-entry .ensures)
 
 same-length-10 : tie.Need-same-length-10
 same-length-10 c = search needs
@@ -77,7 +84,10 @@ same-length-12 : tie.Need-same-length-12
 same-length-12 c = search needs
 
 returns-4 : tie.Need-returns-4
-returns-4 c = leaves-stored _ _ _ _ _ _ _ (sym (ap planOf (c .before .before .before .before .before .before .before .before .before .before .before .before .before .before .before .plan2 .given .1)) ∙ c .before .before .before .before .before .before .before .before .before .before .before .before .before .before .before .before .before .judge-point .ensures .0) (sym (ap storedOf (c .before .before .before .before .before .before .before .before .stored2 .given .1)) ∙ c .before .before .before .before .before .before .before .before .before .before .before .before .set-entry .ensures .0) (c .before .before .before .before .before .before .before .before .before .before .before .before .set-entry .ensures .1) (c .before .before .before .before .join-name .ensures .0 .0) (c .before .before .before .before .join-name .ensures .0 .1) (c .before .before .before .before .join-name .ensures .1 .0) (c .before .before .before .before .join-name .ensures .1 .1)
+returns-4 c =
+    let w = sym (ap planOf (c .before .before .before .before .before .before .before .before .before .before .before .before .before .before .before .plan2 .given .1)) ∙ c .before .before .before .before .before .before .before .before .before .before .before .before .before .before .before .before .before .judge-point .ensures .0 in
+    let j = c .before .before .before .before .join-name .ensures in
+    leaves-stored _ _ _ _ _ _ _ w (sym (ap storedOf (c .before .before .before .before .before .before .before .before .stored2 .given .1))) (c .before .before .before .before .before .before .before .before .before .before .before .before .set-entry .ensures) (j .0 .0) (j .0 .1) (j .1 .0) (j .1 .1)
 
 pub on-record-point-spec : {M : Type 1} → statement M
 on-record-point-spec =

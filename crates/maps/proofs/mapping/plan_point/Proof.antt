@@ -18,7 +18,9 @@ enum-known-asked-2 : tie.Need-enum-known-asked-2
 enum-known-asked-2 c = search needs
 
 is-name-requires : tie.Need-is-name-requires
-is-name-requires c κs = let p = asked-part [] [] _ 0 0 (c .before .before .before .read-mapping .ensures) (c .before .asked2 .given .1) in (p .0, p .1)
+is-name-requires c κs =
+    let p = asked-part [] [] _ 0 0 (c .before .before .before .read-mapping .ensures) (c .before .asked2 .given .1) in
+    (p .0, p .1)
 
 plan-name-requires : tie.Need-plan-name-requires
 plan-name-requires c κs = (c .before .before .before .before .before .before .before .before .before .pre, asked-part [] [] _ 0 0 (c .before .before .before .before .before .read-mapping .ensures) (c .before .before .before .asked2 .given .1))
@@ -30,10 +32,19 @@ returns-2 : tie.Need-returns-2
 returns-2 c = (asked-refused _ _ _ _ _ (c .before .before .before .read-mapping .ensures) (c .before .asked .given .1), tt)
 
 returns-3 : tie.Need-returns-3
-returns-3 c = (asked-symbol _ _ _ _ _ (c .before .before .before .before .before .before .read-mapping .ensures) (c .before .before .before .before .asked2 .given .1) (c .before .before .is-name .ensures) (c .before .if1 .taken) (c .plan-name .ensures .0), c .plan-name .ensures .1)
+returns-3 c =
+    let e = c .before .before .before .before .before .before .read-mapping .ensures in
+    let s = c .before .before .before .before .asked2 .given .1 in
+    let n = c .before .before .is-name .ensures in
+    let p = c .plan-name .ensures in
+    (asked-symbol _ _ _ _ _ e s n (c .before .if1 .taken) (p .0), p .1)
 
 returns-4 : tie.Need-returns-4
-returns-4 c = (asked-bad _ _ _ _ _ (c .before .before .before .before .before .read-mapping .ensures) (c .before .before .before .asked2 .given .1) (c .before .is-name .ensures) (c .if1 .left), tt)
+returns-4 c =
+    let e = c .before .before .before .before .before .read-mapping .ensures in
+    let s = c .before .before .before .asked2 .given .1 in
+    let n = c .before .is-name .ensures in
+    (asked-bad _ _ _ _ _ e s n (c .if1 .left), tt)
 
 pub plan-point-spec : {M : Type 1} → statement M
 plan-point-spec =

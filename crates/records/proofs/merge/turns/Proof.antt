@@ -74,8 +74,7 @@ slice-write-heap : tie.Need-slice-write-heap Inv-loop μ-loop
 slice-write-heap c = omega arith
 
 sift-down-requires : tie.Need-sift-down-requires Inv-loop μ-loop
-sift-down-requires c κs =
-    let at = c .before .before .before .before .before .before .before .before .before .before .before .loop in omega (arith, length-set (at .heap) 0 (getD (at .heap) (at .size - 1) 0))
+sift-down-requires c κs = simp length-set (omega arith)
 
 damaged-requires : tie.Need-damaged-requires Inv-loop μ-loop
 damaged-requires c κs = search needs
@@ -94,7 +93,8 @@ same-length-9 c = search needs
 
 same-length-10 : tie.Need-same-length-10 Inv-loop μ-loop
 same-length-10 c =
-    let at = c .before .before .before .before .before .before .before .before .before .before .before .before .before .before .before .before .loop in c .before .before .before .before .sift-down .kept .1 .0 ∙ length-set (at .heap) 0 (getD (at .heap) (at .size - 1) 0) ∙ at .inv .heap
+    let at = c .before .before .before .before .before .before .before .before .before .before .before .before .before .before .before .before .loop in
+    c .before .before .before .before .sift-down .kept .1 .0 ∙ simp length-set (at .inv .heap)
 
 returns-2 : tie.Need-returns-2 Inv-loop μ-loop
 returns-2 c =
@@ -139,8 +139,7 @@ slice-write-heads : tie.Need-slice-write-heads Inv-loop μ-loop
 slice-write-heads c = omega arith
 
 sift-down-requires-2 : tie.Need-sift-down-requires-2 Inv-loop μ-loop
-sift-down-requires-2 c κs =
-    let at = c .before .before .before .before .before .before .before .before .before .before .loop in omega (arith, length-set (at .times) (c .before .before .before .before .before .before .before .slot .result) (c .before .before .before .read-stream .result .time))
+sift-down-requires-2 c κs = simp length-set (omega arith)
 
 loop-less-2 : tie.Need-loop-less-2 Inv-loop μ-loop
 loop-less-2 c =

@@ -1,8 +1,8 @@
 -- Each way through the tests is one law. Assumes nothing.
 use borrow.Author.Needs.{needs}
 use Rattle.tables.specs.Outcomes.{table-odd, table-big, table-rest}
-use Rattle.maps.proofs.check.bad_table.Statement.{statement}
-use Rattle.maps.proofs.check.bad_table.Tie as tie
+use Rattle.maps.proofs.table.bad_table.Statement.{statement}
+use Rattle.maps.proofs.table.bad_table.Tie as tie
 
 returns : tie.Need-returns
 returns c = search (needs, table-odd, table-big, table-rest)

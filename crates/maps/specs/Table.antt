@@ -2,8 +2,8 @@
 use mathlib.Core.List.{[]}
 use Rattle.theory.specs.Answer.{Answer, answer}
 use Rattle.leaves.specs.Refusal.{refused}
-use Rattle.maps.specs.declared.check.Checked.{Checked}
-use Rattle.maps.specs.declared.check.Checked.the-variants.{WellFormed, Refused}
+use Rattle.maps.specs.declared.table.Checked.{Checked}
+use Rattle.maps.specs.declared.table.Checked.the-variants.{WellFormed, Refused}
 
 -- 0, or the refusal
 abbrev pub checkedOf : Checked → Answer

@@ -1,8 +1,8 @@
 -- Each way through the test is one law. Assumes nothing.
 use Rattle.tables.specs.Outcomes.{memory-bad, memory-rest}
 use borrow.Author.Needs.{needs}
-use Rattle.maps.proofs.check.bad_memory.Statement.{statement}
-use Rattle.maps.proofs.check.bad_memory.Tie as tie
+use Rattle.maps.proofs.table.bad_memory.Statement.{statement}
+use Rattle.maps.proofs.table.bad_memory.Tie as tie
 
 bad-table-requires : tie.Need-bad-table-requires
 bad-table-requires c κs = search needs

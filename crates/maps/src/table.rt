@@ -1,4 +1,4 @@
-// The check of a table over time (01, The map over time), and of the memory that is lent for it (01, Numbers the desk lives by).
+// A table over time: the memory that is lent for it (01, Numbers the desk lives by), and its check (01, The map over time).
 use crate::interval::Interval;
 use crate::interval::WIDTH;
 use leaves::refusal::Refusal;
@@ -11,7 +11,7 @@ ghost use Rattle.tables.specs.Table.{badNames, apartRow, wellFormed};
 ghost use Rattle.tables.specs.Memory.{sameValue, knownValue, width, rows, badTable, checkAnswer};
 ghost use Rattle.tables.specs.Checks.{valid, soundAt};
 ghost use Rattle.maps.specs.Interval.{rowOf};
-ghost use Rattle.maps.specs.Check.{checkedOf};
+ghost use Rattle.maps.specs.Table.{checkedOf};
 
 // A table's room is at most so many intervals.
 pub const ROOM_LIMIT: usize = 65536;

@@ -1,8 +1,8 @@
 -- Each way through the tests is one law. Assumes nothing.
 use Rattle.tables.specs.Checks.{sound-not, sound-last, sound-next}
 use borrow.Author.Needs.{needs}
-use Rattle.maps.proofs.check.is_sound.Statement.{statement}
-use Rattle.maps.proofs.check.is_sound.Tie as tie
+use Rattle.maps.proofs.table.is_sound.Statement.{statement}
+use Rattle.maps.proofs.table.is_sound.Tie as tie
 
 interval-at-requires : tie.Need-interval-at-requires
 interval-at-requires c κs = search needs

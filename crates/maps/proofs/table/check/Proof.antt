@@ -1,8 +1,8 @@
 -- Each way through the tests is one law. Assumes nothing.
 use Rattle.tables.specs.Outcomes.{memory-fits, checked-bad, checked-yes, checked-no}
 use borrow.Author.Needs.{needs}
-use Rattle.maps.proofs.check.check.Statement.{statement}
-use Rattle.maps.proofs.check.check.Tie as tie
+use Rattle.maps.proofs.table.check.Statement.{statement}
+use Rattle.maps.proofs.table.check.Tie as tie
 
 bad-memory-requires : tie.Need-bad-memory-requires
 bad-memory-requires c κs = search needs

@@ -1,8 +1,8 @@
 -- Each way through the tests is one law. Assumes nothing.
 use Rattle.tables.specs.Checks.{follow-lower, follow-higher, follow-gap, follow-overlap, follow-touch}
 use borrow.Author.Needs.{needs}
-use Rattle.maps.proofs.check.may_follow.Statement.{statement}
-use Rattle.maps.proofs.check.may_follow.Tie as tie
+use Rattle.maps.proofs.table.may_follow.Statement.{statement}
+use Rattle.maps.proofs.table.may_follow.Tie as tie
 
 same-value-requires : tie.Need-same-value-requires
 same-value-requires c κs = search needs

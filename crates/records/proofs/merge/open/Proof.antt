@@ -7,8 +7,8 @@ use lib.ListN.{length}
 use Rattle.machine.specs.State.{rightMemory, rightStreams, opening}
 use Rattle.machine.specs.Opening.{bit-no, bit-yes, right-room, right-count, opened}
 use borrow.Author.Needs.{needs}
-use Rattle.records.proofs.opening.open.Statement.{statement}
-use Rattle.records.proofs.opening.open.Tie as tie
+use Rattle.records.proofs.merge.open.Statement.{statement}
+use Rattle.records.proofs.merge.open.Tie as tie
 
 memory-requires : tie.Need-memory-requires
 memory-requires c κs = search needs

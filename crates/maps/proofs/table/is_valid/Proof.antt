@@ -1,8 +1,8 @@
 -- Each way through the test is one law. Assumes nothing.
 use Rattle.tables.specs.Checks.{valid-rest, valid-empty}
 use borrow.Author.Needs.{needs}
-use Rattle.maps.proofs.check.is_valid.Statement.{statement}
-use Rattle.maps.proofs.check.is_valid.Tie as tie
+use Rattle.maps.proofs.table.is_valid.Statement.{statement}
+use Rattle.maps.proofs.table.is_valid.Tie as tie
 
 cast-result : tie.Need-cast-result
 cast-result c = search needs

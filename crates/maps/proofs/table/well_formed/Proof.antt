@@ -5,8 +5,8 @@ use borrow.Author.Needs.{needs}
 use Rattle.tables.specs.Table.{wellFormed}
 use Rattle.tables.specs.Memory.{sameValue, knownValue, rows}
 use Rattle.tables.specs.Checks.{formedFrom, check-all, check-next, check-fails, check-end}
-use Rattle.maps.proofs.check.well_formed.Statement.{statement}
-use Rattle.maps.proofs.check.well_formed.Tie as tie
+use Rattle.maps.proofs.table.well_formed.Statement.{statement}
+use Rattle.maps.proofs.table.well_formed.Tie as tie
 
 abbrev Inv-loop : tie.InvT-loop
 Inv-loop table used names k₀ k = (k ≤ used) × (wellFormed sameValue knownValue names (rows table used) ≡ formedFrom table used names k)

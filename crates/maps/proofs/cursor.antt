@@ -1,0 +1,2 @@
+-- What the proofs of the cursor share.
+pub mod CellLent
