@@ -425,13 +425,13 @@ part-is (x ∷ l) (suc s) (suc e) =
 
 -- ---- the case of a valid name
 
-numbered-old : (bytes places names used size number : ℕ) {r : ℕ} → r ≡ number → r < names → Old r ≡ numbering bytes places names used size number
+pub numbered-old : (bytes places names used size number : ℕ) {r : ℕ} → r ≡ number → r < names → Old r ≡ numbering bytes places names used size number
 unfolding numbering
 numbered-old bytes places names used size number e h =
     let l : number < names = omega arith in
     rw (lt-ltb number names l) (ap Old e)
 
-numbered-fresh : (bytes places names used size number : ℕ) {r : ℕ} → r ≡ number → names ≤ r
+pub numbered-fresh : (bytes places names used size number : ℕ) {r : ℕ} → r ≡ number → names ≤ r
     → numbering bytes places names used size number ≡ cond (hasRoom bytes places names used size) (New names) (Not-named NoNameRoom)
 unfolding numbering
 numbered-fresh bytes places names used size number e h =

@@ -1,5 +1,4 @@
--- An insert's answer in document 01's terms, and the outcome of an insert into lent bytes.
-use Prim.Native.Nat.{ℕ}
+-- An insert's answer in document 01's terms.
 use mathlib.Core.List.{[], _∷_}
 use Rattle.theory.specs.Answer.{Answer, answer}
 use Rattle.leaves.specs.Refusal.{refused}

@@ -5,9 +5,9 @@ pub mod PointsLaws
 pub mod PointsSteps
 pub mod Interval
 pub mod Insert
-pub mod Check
 pub mod Mapping
 pub mod MappingLaws
 pub mod MappingInterval
 pub mod Table
+pub mod MappingHistory
 pub mod Lookup

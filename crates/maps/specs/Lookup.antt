@@ -13,5 +13,6 @@ foundOf (Symbol symbol) hint = answer 0 (hint ∷ symbol ∷ [])
 foundOf Nothing hint = answer 0 (hint ∷ [])
 foundOf (Refused r) hint = refused r
 
+-- the same of what a lookup returns
 abbrev pub lookedOf : Looked → Answer
 lookedOf r = foundOf (r .found) (r .hint)

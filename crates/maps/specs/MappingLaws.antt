@@ -19,7 +19,7 @@ use Rattle.leaves.specs.FrameLaws.{mapped-other, mapped-symbol, mapped-refused,
 use Rattle.leaves.specs.declared.frame.Mapping.{Mapping}
 use Rattle.leaves.specs.declared.frame.Mapping.the-variants.{Other, Symbol, Refused as NotRead}
 use Rattle.leaves.specs.Names.{memoryOk, wellFormed as wellFormedNames, namesOf, least, isName, written, hasRoom as hasNameRoom}
-use Rattle.leaves.specs.NamesLaws.{holds, fails, Memory, memory, Ordered as OrderedNames, formed, ordered, numbered-old, numbered-new, numbered-none}
+use Rattle.leaves.specs.NamesLaws.{holds, fails, Memory, memory, Ordered as OrderedNames, formed, ordered, numbered-old, numbered-fresh}
 use Rattle.maps.specs.Entries.{entries}
 use Rattle.maps.specs.declared.entries.Entry.{Entry}
 use Rattle.maps.specs.Points.{rising, allKnown, wellFormed, setEntry, pointsFit, hasRoom, storedAnswer, storedBytes}
@@ -77,12 +77,13 @@ and-snd true b e = e
 and-snd false b e = let z : _≡_ {A = ℕ} 0 1 = cc in absurd (omega arith)
 
 -- what room for one name more gives
-record Room (bytes places names used size : ℕ) : Type 0 where
-  small : used + size ≤ 65536
-  place : names < places
-  inside : used + size ≤ bytes
+pub record Room (bytes places names used size : ℕ) : Type 0 where
+  pub few : names + 1 ≤ 4096
+  pub small : used + size ≤ 65536
+  pub place : names < places
+  pub inside : used + size ≤ bytes
 
-room : (bytes places names used size : ℕ) → hasNameRoom bytes places names used size ≡ true → Room bytes places names used size
+pub room : (bytes places names used size : ℕ) → hasNameRoom bytes places names used size ≡ true → Room bytes places names used size
 unfolding hasNameRoom
 room bytes places names used size e =
     let a = leb (names + 1) 4096 in
@@ -92,6 +93,7 @@ room bytes places names used size e =
     let abc : (a && b && c) ≡ true = and-fst (a && b && c) d e in
     let ab : (a && b) ≡ true = and-fst (a && b) c abc in
     record {
+      few = leb-true (names + 1) 4096 (and-fst a b ab);
       small = leb-true (used + size) 65536 (and-snd a b ab);
       place = omega (arith, leb-true (names + 1) places (and-snd (a && b) c abc));
       inside = leb-true (used + size) bytes (and-snd (a && b && c) d e);
@@ -125,11 +127,11 @@ module _ (bytes ends rec : List ℕ) (names size from to : ℕ) (m : memoryOk (l
 
       pub plan-new : (i s t : ℕ) → b ≡ true → stores i s t names true ≡ numbered i s t (numberingIn bytes ends names size (nameIn rec))
       unfolding numberingIn
-      plan-new i s t g = ap (numbered i s t) (numbered-new _ _ _ _ _ _ least-is h (judged g))
+      plan-new i s t g = ap (numbered i s t) (sym (numbered-fresh _ _ _ _ _ _ least-is h ∙ rw (judged g)))
 
       pub plan-none : (i s t : ℕ) → b ≡ false → refuses (refused NoNameRoom) ≡ numbered i s t (numberingIn bytes ends names size (nameIn rec))
       unfolding numberingIn
-      plan-none i s t g = ap (numbered i s t) (numbered-none _ _ _ _ _ _ least-is h (judged g))
+      plan-none i s t g = ap (numbered i s t) (sym (numbered-fresh _ _ _ _ _ _ least-is h ∙ rw (judged g)))
 
   pub lies-old : Lies bytes ends names size rec from to false
   lies-old = record {

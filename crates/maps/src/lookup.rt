@@ -3,7 +3,7 @@
 use crate::interval::Interval;
 use leaves::refusal::Refusal;
 ghost use mathlib.Core.Path.{_≡_};
-ghost use mathlib.Core.Bool.{_||_};
+ghost use mathlib.Core.Bool.{false, _||_};
 ghost use mathlib.Core.List.{[], _∷_};
 ghost use Prim.Native.Nat.{_*_, _+_, _≤_, _<_};
 ghost use lib.ListN.{length};
@@ -13,7 +13,7 @@ ghost use Rattle.tables.specs.Table.{Ordered, ordered};
 ghost use Rattle.tables.specs.Lookup.{lookupRows};
 ghost use Rattle.tables.specs.Memory.{sameValue, width, rowAt, rows, badTable};
 ghost use Rattle.tables.specs.Search as search;
-ghost use Rattle.tables.specs.Looks.{atMoment, coversAt, last, Tells, lookupAnswer, lookupHint};
+ghost use Rattle.tables.specs.Looks.{numberIn, atMoment, coversAt, last, Tells, lookupAnswer, lookupHint};
 ghost use Rattle.maps.specs.Interval.{rowOf};
 ghost use Rattle.maps.specs.Lookup.{lookedOf};
 
@@ -83,7 +83,8 @@ fn last_started(
     hint: u64,
 ) -> Looked
     requires { ⌜ used * width ≤ length (now table) ⌝ }
-    ensures { λ r. ⌜ (Ordered (rows (now (table .entry)) used) → search.Found (now (table .entry)) used (atMoment instrument moment) 1 begin → Tells (last (now (table .entry)) used instrument moment hint) (lookedOf r) (r .hint)) ⌝ }
+    ensures right { λ r. ⌜ (Ordered (rows (now (table .entry)) used) → search.Found (now (table .entry)) used (atMoment instrument moment) 1 begin → Tells (last (now (table .entry)) used instrument moment hint) (lookedOf r) (r .hint)) ⌝ }
+    ensures accepted { λ r. ⌜ numberIn (lookedOf r) ≡ 0 ⌝ }
 {
     let n = at_moment(instrument, moment);
     let end = crate::search::find(table, used, n, crate::search::AFTER);
@@ -108,7 +109,8 @@ fn last_started(
 // A lookup in memory that is a table: the hinted interval, the following one, then the last with start <= moment.
 fn look_up(table: &[u8], used: usize, instrument: u32, moment: u64, hint: u64) -> Looked
     requires { ⌜ (used * width ≤ length (now table)) × (used ≤ 65536) ⌝ }
-    ensures { λ r. ⌜ (Ordered (rows (now (table .entry)) used) → Tells (lookupRows (rows (now (table .entry)) used) instrument moment hint) (lookedOf r) (r .hint)) ⌝ }
+    ensures right { λ r. ⌜ (Ordered (rows (now (table .entry)) used) → Tells (lookupRows (rows (now (table .entry)) used) instrument moment hint) (lookedOf r) (r .hint)) ⌝ }
+    ensures accepted { λ r. ⌜ numberIn (lookedOf r) ≡ 0 ⌝ }
 {
     let n = at_moment(instrument, moment);
     let begin = crate::search::find(table, used, n, crate::search::TOUCHING);
@@ -126,9 +128,11 @@ fn look_up(table: &[u8], used: usize, instrument: u32, moment: u64, hint: u64) -
     }
 }
 
-// The symbol of the instrument at the moment, with any hint, and the new hint: 15 only.
+// The symbol of the instrument at the moment, with any hint, and the new hint: 15 only. On a table that is not in order the
+// answer may be any symbol or nothing.
 pub fn get_for_ts(table: &[u8], used: usize, instrument: u32, moment: u64, hint: u64) -> Looked
-    ensures { λ r. ⌜ (T (badTable (length (now (table .entry))) used || ordered sameValue (rows (now (table .entry)) used)) → (lookedOf r ≡ lookupAnswer (now (table .entry)) used instrument moment hint) × (r .hint ≡ lookupHint (now (table .entry)) used instrument moment hint)) ⌝ }
+    ensures right { λ r. ⌜ (T (badTable (length (now (table .entry))) used || ordered sameValue (rows (now (table .entry)) used)) → (lookedOf r ≡ lookupAnswer (now (table .entry)) used instrument moment hint) × (r .hint ≡ lookupHint (now (table .entry)) used instrument moment hint)) ⌝ }
+    ensures accepted { λ r. ⌜ (badTable (length (now (table .entry))) used ≡ false → numberIn (lookedOf r) ≡ 0) ⌝ }
 {
     if crate::table::bad_table(table.len(), used) {
         let found = Found::Refused(Refusal::BadMemory);

@@ -1,6 +1,6 @@
 // The mapping call (document 01, "The map over time" and "Merging records"): a record's bytes, a name list and a table. All is
 // read and judged before anything is stored, and the name joins the list last.
-use crate::check::bad_table;
+use crate::table::bad_table;
 use crate::entries::Entry;
 use crate::insert::Inserted;
 use crate::insert::place;
@@ -234,7 +234,7 @@ fn judge_interval(
     if !is_memory(bytes.len(), ends.len(), names, size) {
         return Plan::Refuse(Refusal::BadMemory);
     }
-    if !crate::check::well_formed(table, used, names) {
+    if !crate::table::well_formed(table, used, names) {
         return Plan::Refuse(Refusal::IllFormed);
     }
     if !is_list(bytes, ends, names, size) {

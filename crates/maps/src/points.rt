@@ -1,8 +1,8 @@
 // The point-in-time table of document 01, "The map over time": one entry an instrument, sorted by instrument, in lent bytes
 // of which `used` entries are in use from the front. Its length is `used`.
-use crate::check::Checked;
-use crate::check::NAME_LIMIT;
-use crate::check::ROOM_LIMIT;
+use crate::table::Checked;
+use crate::table::NAME_LIMIT;
+use crate::table::ROOM_LIMIT;
 use crate::entries::Entry;
 use crate::entries::WIDTH;
 use crate::entries::entry_at;
@@ -16,7 +16,7 @@ ghost use Prim.Native.Nat.{_*_, _≤_, _<_};
 ghost use lib.ListN.{length};
 ghost use lib.Dec.{T};
 ghost use Rattle.leaves.specs.Refusal.{refused};
-ghost use Rattle.maps.specs.Check.{checkedOf};
+ghost use Rattle.maps.specs.Table.{checkedOf};
 ghost use Rattle.maps.specs.Entries.{entries};
 ghost use Rattle.maps.specs.Points.{rising, wellFormed, pointsFit, setEntry, pointsChecked, pointFound, foundOf, storedAnswer, storedBytes, usedThen, entriesThen, storedOf};
 ghost use Rattle.maps.specs.PointsSteps.{standsAt, holdsAt, Placed};

@@ -15,7 +15,7 @@ use Rattle.theory.specs.RunsTools.{cond-case, cond-yes, cond-no}
 use Rattle.tables.specs.Table.{Row, answerFor, Ordered, Outcome, refusedBy, stored, nowStored, ifRoom, badRoom, badNames, wellFormed, insertRows, entered, inserted}
 use Rattle.tables.specs.History.{Event, insertion, after, accepted, told}
 use Rattle.tables.specs.Lookup.{lookupRows, lookupRows-right}
-use Rattle.tables.specs.Memory.{sameValue, knownValue, rows, roomOf, insertOutcome, memoryAfter, outcomeAnswer, usedAfter, Gives}
+use Rattle.tables.specs.Memory.{width, sameValue, knownValue, rows, roomOf, insertOutcome, memoryAfter, outcomeAnswer, usedAfter, Gives}
 use Rattle.tables.specs.Pieces.{symbols}
 
 -- the memory holds the table after these events
@@ -24,20 +24,20 @@ Holds es t used = rows t used ≡ after sameValue knownValue es
 
 module _ (es : List (Event ℕ)) (t : List ℕ) (used : ℕ) (s : Holds es t used) where
   -- one more call of insert
-  pub insert-call : (names : ℕ) (n : Row ℕ) (a : Answer) (t′ : List ℕ) → length t % 24 ≡ 0 → Gives (insertOutcome t used names n) t used a t′
+  pub insert-call : (names : ℕ) (n : Row ℕ) (a : Answer) (t′ : List ℕ) → length t % width ≡ 0 → Gives (insertOutcome t used names n) t used a t′
       → Holds (insertion names (roomOf t) n ∷ es) t′ (usedAfter used (insertOutcome t used names n))
   unfolding after insertOutcome
   insert-call names n a t′ h g =
       g .holds
-      ∙ ap (λ (o : Outcome (Row ℕ)). nowStored (rows t used) o) (cond-yes (eqb (length t % 24) 0) _ _ (rw h (eqb-refl 0)))
+      ∙ ap (λ (o : Outcome (Row ℕ)). nowStored (rows t used) o) (cond-yes (eqb (length t % width) 0) _ _ (rw h (eqb-refl 0)))
       ∙ ap (λ (xs : List (Row ℕ)). nowStored xs (inserted sameValue knownValue names (roomOf t) n xs)) s
 
   -- memory of an odd length is refused, and stays
-  pub odd-call : (names : ℕ) (n : Row ℕ) (a : Answer) (t′ : List ℕ) → length t % 24 ≢ 0 → Gives (insertOutcome t used names n) t used a t′
+  pub odd-call : (names : ℕ) (n : Row ℕ) (a : Answer) (t′ : List ℕ) → length t % width ≢ 0 → Gives (insertOutcome t used names n) t used a t′
       → (a ≡ answer 15 []) × (t′ ≡ t)
   unfolding insertOutcome memoryAfter outcomeAnswer
   odd-call names n a t′ h g =
-      let e : insertOutcome t used names n ≡ refusedBy 15 = cond-no (eqb (length t % 24) 0) _ _ (not-T (eqb (length t % 24) 0) (λ x. h (eqb-yes x))) in
+      let e : insertOutcome t used names n ≡ refusedBy 15 = cond-no (eqb (length t % width) 0) _ _ (not-T (eqb (length t % width) 0) (λ x. h (eqb-yes x))) in
       (g .answers ∙ ap outcomeAnswer e, g .memory ∙ ap (memoryAfter t used) e)
 
   -- it is in order at any time, so that the promise on lookups holds

@@ -21,13 +21,17 @@ use Rattle.tables.specs.Groups.{Sorted, formed-iff}
 use Rattle.tables.specs.Cuts.{Behind, behind, row-some}
 use Rattle.tables.specs.Lookup.{Finding, says, seen, started, arrive, orElse, lookup, lookupRows}
 use Rattle.tables.specs.Places.{own, own-yes, own-no, lower, upper, group-place, started-place, lower-is, upper-is}
-use Rattle.tables.specs.Memory.{sameValue, rowAt, rows, badTable}
+use Rattle.tables.specs.Memory.{width, sameValue, rowAt, rows, badTable}
 use Rattle.tables.specs.MemoryLaws.{blank, length-rows}
 use Rattle.tables.specs.Pieces.{symbols}
 use Rattle.tables.specs.Outcomes.{Lent, table-lent}
 use Rattle.tables.specs.Search.{sideOf, Found, at-row, Side, lies-before, lies-on, lies-after, side-is}
 
 -- ---- definitions
+
+-- document 01's number of an answer
+abbrev pub numberIn : Answer → ℕ
+numberIn (answer c vs) = c
 
 -- what a lookup answers: the new hint, and the symbol if there is one
 unfoldable pub saidAnswer : ℕ → Option ℕ → Answer
@@ -366,14 +370,14 @@ module _ (t : List ℕ) (used i m h : ℕ) {b : Bool} (e : b ≡ badTable (lengt
       (s .answers ∙ sym (cond-no (badTable (length t) used) _ _ t′), s .hints ∙ sym (cond-no (badTable (length t) used) _ _ t′))
 
 -- what the code asks of the memory
-pub table-fits : {b : Bool} (long used : ℕ) → b ≡ badTable long used → b ≡ false → used * 24 ≤ long
+pub table-fits : {b : Bool} (long used : ℕ) → b ≡ badTable long used → b ≡ false → used * width ≤ long
 table-fits long used e f = let l : Lent long used = table-lent long used (sym e ∙ f) in omega (arith, l .whole, l .in-use)
 
 pub table-limit : {b : Bool} (long used : ℕ) → b ≡ badTable long used → b ≡ false → used ≤ 65536
 table-limit long used e f = let l : Lent long used = table-lent long used (sym e ∙ f) in omega (arith, l .limit, l .in-use)
 
 -- a place whose row covers the moment is one of those in use
-pub covers-fits : {b : Bool} (t : List ℕ) (used k i m : ℕ) → b ≡ coversAt t used k i m → b ≡ true → used * 24 ≤ length t → k * 24 + 24 ≤ length t
+pub covers-fits : {b : Bool} (t : List ℕ) (used k i m : ℕ) → b ≡ coversAt t used k i m → b ≡ true → used * width ≤ length t → k * width + width ≤ length t
 unfolding coversAt
 covers-fits t used k i m e f l =
     let p : Bool = eqb (rowAt t k .instrument) i && (leb (rowAt t k .start) m && ltb m (rowAt t k .end)) in
@@ -383,3 +387,6 @@ covers-fits t used k i m e f l =
 -- what is compared with is the stretch up to the moment
 pub found-at : {t : List ℕ} {used i m c r : ℕ} {n : Row ℕ} → n ≡ atMoment i m → Found t used n c r → Found t used (atMoment i m) c r
 found-at e f = rw e at f
+
+pub bad-not : {b : Bool} (long used : ℕ) → b ≡ badTable long used → b ≡ true → badTable long used ≡ false → ⊥
+bad-not long used e f g = never (badTable long used) (true-T (badTable long used) (sym e ∙ f)) g

@@ -33,7 +33,7 @@ rows-eq t t′ k k′ zero h = refl
 rows-eq t t′ k k′ (suc n) h =
     cc (
       simp add-zero at (h 0 (omega arith)),
-      rows-eq t t′ (suc k) (suc k′) n (λ j l. rw (suc-add, suc-add, ← add-suc k, ← add-suc k′) (h (suc j) (omega arith))),
+      rows-eq t t′ (suc k) (suc k′) n (λ j l. rw (suc-add k′ j, suc-add k j, ← add-suc k, ← add-suc k′) (h (suc j) (omega arith))),
     )
 
 pub rows-add : (t : List ℕ) (k a b : ℕ) → rowsFrom t k (a + b) ≡ rowsFrom t k a ++ rowsFrom t (k + a) b

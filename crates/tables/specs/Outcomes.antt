@@ -15,7 +15,7 @@ use Rattle.theory.specs.RunsTools.{ltb-case, cond-lt, cond-ge, cond-yes, cond-n
 use Rattle.tables.specs.Table.{Row, Ordered, Outcome, refusedBy, stored, nowStored, ifRoom, badRoom, badNames, wellFormed, insertRows, entered, inserted}
 use Rattle.tables.specs.Tests.{Good, room-good, good-room, bad-limit, formed-parts}
 use Rattle.tables.specs.Rules.{rows-ok}
-use Rattle.tables.specs.Memory.{sameValue, knownValue, rows, badTable, insertOutcome, checkAnswer, written, memoryAfter, outcomeAnswer, usedAfter, Gives}
+use Rattle.tables.specs.Memory.{width, sameValue, knownValue, rows, badTable, insertOutcome, checkAnswer, written, memoryAfter, outcomeAnswer, usedAfter, Gives}
 use Rattle.tables.specs.MemoryLaws.{length-rows, written-same}
 use Rattle.tables.specs.Pieces.{symbols}
 
@@ -43,27 +43,27 @@ odd : (n : ℕ) → n ≢ 0 → eqb n 0 ≡ false
 odd n d = sym (is-false (eqb n 0) (not-T (eqb n 0) (λ t. d (eqb-yes t))))
 
 module _ (long used : ℕ) where
-  pub table-odd : long % 24 ≢ 0 → true ≡ badTable long used
+  pub table-odd : long % width ≢ 0 → true ≡ badTable long used
   unfolding badTable
-  table-odd h = or-true (not (eqb (long % 24) 0)) (badRoom (long / 24) used) (sym (ap not (odd (long % 24) h)))
+  table-odd h = or-true (not (eqb (long % width) 0)) (badRoom (long / width) used) (sym (ap not (odd (long % width) h)))
 
-  pub table-big : 65536 < long / 24 → true ≡ badTable long used
+  pub table-big : 65536 < long / width → true ≡ badTable long used
   unfolding badTable
-  table-big h = or-right (not (eqb (long % 24) 0)) (badRoom (long / 24) used) (is-true (badRoom (long / 24) used) (bad-limit (long / 24) used h))
+  table-big h = or-right (not (eqb (long % width) 0)) (badRoom (long / width) used) (is-true (badRoom (long / width) used) (bad-limit (long / width) used h))
 
-  pub table-rest : long % 24 ≡ 0 → long / 24 ≤ 65536 → ltb (long / 24) used ≡ badTable long used
+  pub table-rest : long % width ≡ 0 → long / width ≤ 65536 → ltb (long / width) used ≡ badTable long used
   unfolding badTable badRoom
   table-rest h k =
-      let e : eqb (long % 24) 0 ≡ true = even (long % 24) h in
-      let d : ltb 65536 (long / 24) ≡ false = sym (is-false (ltb 65536 (long / 24)) (le→nltb 65536 (long / 24) k)) in
-      sym (λ i. not (e i) || (d i || ltb (long / 24) used))
+      let e : eqb (long % width) 0 ≡ true = even (long % width) h in
+      let d : ltb 65536 (long / width) ≡ false = sym (is-false (ltb 65536 (long / width)) (le→nltb 65536 (long / width) k)) in
+      sym (λ i. not (e i) || (d i || ltb (long / width) used))
 
 -- what a good table's memory is, as numbers
 pub record Lent (long used : ℕ) : Type 0 where
-  pub whole : long ≡ long / 24 * 24
-  pub even : long % 24 ≡ 0
-  pub limit : long / 24 ≤ 65536
-  pub in-use : used ≤ long / 24
+  pub whole : long ≡ long / width * width
+  pub even : long % width ≡ 0
+  pub limit : long / width ≤ 65536
+  pub in-use : used ≤ long / width
 
 not-or : (a b : Bool) → a || b ≡ false → (a ≡ false) × (b ≡ false)
 not-or true b e = absurd (let z : _≡_ {A = ℕ} 0 1 = cc in omega arith)
@@ -79,9 +79,9 @@ not-not false e = absurd (let z : _≡_ {A = ℕ} 0 1 = cc in omega arith)
 pub table-lent : (long used : ℕ) → badTable long used ≡ false → Lent long used
 unfolding badTable
 table-lent long used e =
-    let p : (not (eqb (long % 24) 0) ≡ false) × (badRoom (long / 24) used ≡ false) = not-or (not (eqb (long % 24) 0)) (badRoom (long / 24) used) e in
-    let z : long % 24 ≡ 0 = eqb-yes (not-not (eqb (long % 24) 0) (p .0)) in
-    let g : Good (long / 24) used = room-good (long / 24) used (false-T (badRoom (long / 24) used) (p .1)) in
+    let p : (not (eqb (long % width) 0) ≡ false) × (badRoom (long / width) used ≡ false) = not-or (not (eqb (long % width) 0)) (badRoom (long / width) used) e in
+    let z : long % width ≡ 0 = eqb-yes (not-not (eqb (long % width) 0) (p .0)) in
+    let g : Good (long / width) used = room-good (long / width) used (false-T (badRoom (long / width) used) (p .1)) in
     record { whole = omega arith; even = z; limit = g .limit; in-use = g .in-use }
 
 -- with the names
@@ -97,13 +97,13 @@ module _ (long used names : ℕ) where
   memory-lent {b} e f = table-lent long used (not-or (badTable long used) (badNames names) (sym e ∙ f) .0)
 
   -- what the code asks of it
-  pub memory-fits : {b : Bool} → b ≡ badTable long used || badNames names → b ≡ false → used * 24 ≤ long
+  pub memory-fits : {b : Bool} → b ≡ badTable long used || badNames names → b ≡ false → used * width ≤ long
   memory-fits e f = let l : Lent long used = memory-lent e f in omega (arith, l .whole, l .in-use)
 
-  pub memory-whole : {b : Bool} → b ≡ badTable long used || badNames names → b ≡ false → long ≡ long / 24 * 24
+  pub memory-whole : {b : Bool} → b ≡ badTable long used || badNames names → b ≡ false → long ≡ long / width * width
   memory-whole e f = memory-lent e f .whole
 
-  pub memory-use : {b : Bool} → b ≡ badTable long used || badNames names → b ≡ false → used ≤ long / 24
+  pub memory-use : {b : Bool} → b ≡ badTable long used || badNames names → b ≡ false → used ≤ long / width
   memory-use e f = memory-lent e f .in-use
 
 -- ---- the check
@@ -138,19 +138,19 @@ refusal o t used c e = rw e (record { answers = refl; memory = refl; holds = ref
 
 module _ (t : List ℕ) (used names : ℕ) (n : Row ℕ) where
   abbrev o : Outcome (Row ℕ)
-  o = entered sameValue knownValue names (length t / 24) n (rows t used)
+  o = entered sameValue knownValue names (length t / width) n (rows t used)
 
-  pub entered-back : n .end < n .start → Gives (entered sameValue knownValue names (length t / 24) n (rows t used)) t used (answer 1 []) t
+  pub entered-back : n .end < n .start → Gives (entered sameValue knownValue names (length t / width) n (rows t used)) t used (answer 1 []) t
   unfolding entered
   entered-back h = refusal o t used 1 (cond-lt (n .end) (n .start) _ _ h)
 
   past : n .start ≤ n .end → o ≡ cond (eqb (n .start) (n .end)) (stored (rows t used))
-      (cond (knownValue names (n .value)) (ifRoom (length t / 24) (insertRows sameValue n (rows t used))) (refusedBy 3))
+      (cond (knownValue names (n .value)) (ifRoom (length t / width) (insertRows sameValue n (rows t used))) (refusedBy 3))
   unfolding entered
   past h = cond-ge (n .end) (n .start) _ _ h
 
-  pub entered-empty : n .start ≤ n .end → n .end ≤ n .start → Bytes t → length t ≡ length t / 24 * 24 → used ≤ length t / 24
-      → Gives (entered sameValue knownValue names (length t / 24) n (rows t used)) t used (answer 0 (used ∷ [])) t
+  pub entered-empty : n .start ≤ n .end → n .end ≤ n .start → Bytes t → length t ≡ length t / width * width → used ≤ length t / width
+      → Gives (entered sameValue knownValue names (length t / width) n (rows t used)) t used (answer 0 (used ∷ [])) t
   unfolding outcomeAnswer memoryAfter usedAfter nowStored
   entered-empty h k b l u =
       let e : n .start ≡ n .end = omega arith in
@@ -158,51 +158,51 @@ module _ (t : List ℕ) (used names : ℕ) (n : Row ℕ) where
       let d : o ≡ stored (rows t used) = past h ∙ cond-yes (eqb (n .start) (n .end)) _ _ (rw e (eqb-refl (n .end))) in
       rw d (record {
         answers = ap (λ (c : ℕ). answer 0 (c ∷ [])) (sym m);
-        memory = written-same t (length t / 24) used b l u;
+        memory = written-same t (length t / width) used b l u;
         holds = ap (λ (c : ℕ). rows t c) m;
       })
 
-  on : n .start < n .end → o ≡ cond (knownValue names (n .value)) (ifRoom (length t / 24) (insertRows sameValue n (rows t used))) (refusedBy 3)
+  on : n .start < n .end → o ≡ cond (knownValue names (n .value)) (ifRoom (length t / width) (insertRows sameValue n (rows t used))) (refusedBy 3)
   on h =
       let d : n .start ≢ n .end = omega arith in
       past (omega arith) ∙ cond-no (eqb (n .start) (n .end)) _ _ (not-T (eqb (n .start) (n .end)) (λ t. d (eqb-yes t)))
 
   pub entered-unknown : n .start < n .end → names ≤ n .value
-      → Gives (entered sameValue knownValue names (length t / 24) n (rows t used)) t used (answer 3 []) t
+      → Gives (entered sameValue knownValue names (length t / width) n (rows t used)) t used (answer 3 []) t
   entered-unknown h k = refusal o t used 3 (on h ∙ cond-ge (n .value) names _ _ k)
 
   pub entered-placed : {a : Answer} {t′ : List ℕ} → n .start < n .end → n .value < names
-      → Gives (ifRoom (length t / 24) (insertRows sameValue n (rows t used))) t used a t′
-      → Gives (entered sameValue knownValue names (length t / 24) n (rows t used)) t used a t′
+      → Gives (ifRoom (length t / width) (insertRows sameValue n (rows t used))) t used a t′
+      → Gives (entered sameValue knownValue names (length t / width) n (rows t used)) t used a t′
   entered-placed h k g = rw (on h ∙ cond-lt (n .value) names _ _ k) g
 
   -- the whole, in order
   abbrev i : Outcome (Row ℕ)
   i = insertOutcome t used names n
 
-  same-room : badRoom (length t / 24) (length (rows t used)) ≡ badRoom (length t / 24) used
-  same-room = ap (λ (c : ℕ). badRoom (length t / 24) c) (length-rows t 0 used)
+  same-room : badRoom (length t / width) (length (rows t used)) ≡ badRoom (length t / width) used
+  same-room = ap (λ (c : ℕ). badRoom (length t / width) c) (length-rows t 0 used)
 
   pub inserted-bad : {b : Bool} → b ≡ badTable (length t) used || badNames names → b ≡ true → Gives (insertOutcome t used names n) t used (answer 15 []) t
   unfolding insertOutcome badTable inserted
-  inserted-bad e f = refusal i t used 15 (go (eqb (length t % 24) 0) refl (sym e ∙ f))
+  inserted-bad e f = refusal i t used 15 (go (eqb (length t % width) 0) refl (sym e ∙ f))
     where
-      go : (p : Bool) → eqb (length t % 24) 0 ≡ p → badTable (length t) used || badNames names ≡ true → i ≡ refusedBy 15
+      go : (p : Bool) → eqb (length t % width) 0 ≡ p → badTable (length t) used || badNames names ≡ true → i ≡ refusedBy 15
       go true d c =
-          ap (λ (q : Bool). cond q (inserted sameValue knownValue names (length t / 24) n (rows t used)) (refusedBy 15)) d
-          ∙ cond-yes (badRoom (length t / 24) (length (rows t used)) || badNames names) _ _
-          (rw (ap (λ (q : Bool). q || badNames names) same-room ∙ sym (ap (λ (q : Bool). (not q || badRoom (length t / 24) used) || badNames names) d) ∙ c) tt)
-      go false d c = ap (λ (q : Bool). cond q (inserted sameValue knownValue names (length t / 24) n (rows t used)) (refusedBy 15)) d
+          ap (λ (q : Bool). cond q (inserted sameValue knownValue names (length t / width) n (rows t used)) (refusedBy 15)) d
+          ∙ cond-yes (badRoom (length t / width) (length (rows t used)) || badNames names) _ _
+          (rw (ap (λ (q : Bool). q || badNames names) same-room ∙ sym (ap (λ (q : Bool). (not q || badRoom (length t / width) used) || badNames names) d) ∙ c) tt)
+      go false d c = ap (λ (q : Bool). cond q (inserted sameValue knownValue names (length t / width) n (rows t used)) (refusedBy 15)) d
 
   good : {b : Bool} → b ≡ badTable (length t) used || badNames names → b ≡ false
-      → i ≡ cond (wellFormed sameValue knownValue names (rows t used)) (entered sameValue knownValue names (length t / 24) n (rows t used)) (refusedBy 14)
+      → i ≡ cond (wellFormed sameValue knownValue names (rows t used)) (entered sameValue knownValue names (length t / width) n (rows t used)) (refusedBy 14)
   unfolding insertOutcome inserted
   good e f =
       let p : (badTable (length t) used ≡ false) × (badNames names ≡ false) = not-or (badTable (length t) used) (badNames names) (sym e ∙ f) in
       let l : Lent (length t) used = table-lent (length t) used (p .0) in
-      ap (λ (q : Bool). cond q (inserted sameValue knownValue names (length t / 24) n (rows t used)) (refusedBy 15)) (even (length t % 24) (l .even))
-      ∙ cond-no (badRoom (length t / 24) (length (rows t used)) || badNames names) _ _
-      (rw (same-room, p .1) (no (badRoom (length t / 24) used) (good-room (length t / 24) used (record { limit = l .limit; in-use = l .in-use }))))
+      ap (λ (q : Bool). cond q (inserted sameValue knownValue names (length t / width) n (rows t used)) (refusedBy 15)) (even (length t % width) (l .even))
+      ∙ cond-no (badRoom (length t / width) (length (rows t used)) || badNames names) _ _
+      (rw (same-room, p .1) (no (badRoom (length t / width) used) (good-room (length t / width) used (record { limit = l .limit; in-use = l .in-use }))))
     where
       no : (b : Bool) → T (not b) → T (not (b || false))
       no true t = t
@@ -214,7 +214,7 @@ module _ (t : List ℕ) (used names : ℕ) (n : Row ℕ) where
 
   pub inserted-enters : {b w : Bool} {a : Answer} {t′ : List ℕ} → b ≡ badTable (length t) used || badNames names → b ≡ false
       → w ≡ wellFormed sameValue knownValue names (rows t used) → w ≡ true
-      → Gives (entered sameValue knownValue names (length t / 24) n (rows t used)) t used a t′
+      → Gives (entered sameValue knownValue names (length t / width) n (rows t used)) t used a t′
       → Gives (insertOutcome t used names n) t used a t′
   inserted-enters e f g h k = rw (good e f ∙ cond-yes (wellFormed sameValue knownValue names (rows t used)) _ _ (rw (sym g ∙ h) tt)) k
 

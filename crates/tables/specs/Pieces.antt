@@ -18,7 +18,7 @@ use Rattle.theory.specs.RunsTools.{cond-lt, cond-ge, cond-yes, cond-no, T-and, 
 use Rattle.tables.specs.Table.{Row, rowOf, tagged, Ordered, insertRows, refusedBy, stored, nowStored, ifRoom}
 use Rattle.tables.specs.Splice.{leftOf, rightOf, core, coreStart, coreEnd}
 use Rattle.tables.specs.RowSplice.{Cut, between, spliced-by}
-use Rattle.tables.specs.Memory.{sameValue, rowAt, rowsFrom, rows, written, memoryAfter, outcomeAnswer, usedAfter, Gives}
+use Rattle.tables.specs.Memory.{width, sameValue, rowAt, rowsFrom, rows, written, memoryAfter, outcomeAnswer, usedAfter, Gives}
 use Rattle.tables.specs.MemoryLaws.{blank, length-rows, rows-eq, rows-add, rows-take, rows-drop, memory-is}
 use Rattle.tables.specs.Moves.{Replaced, Cleared}
 use Rattle.tables.specs.Search.{Found, at-row, cuts}
@@ -251,21 +251,21 @@ module _ {t : List ℕ} {used : ℕ} {n : Row ℕ} (h : n .start < n .end) (w : 
       ∙ sym spliced
 
   -- where the outcome does not fit
-  pub unplaced : {left right : ℕ} → left ≡ leftCount n x → right ≡ rightCount n z → length t / 24 < lo + left + 1 + right + (used - hi)
-      → Gives (ifRoom (length t / 24) (insertRows sameValue n (rows t used))) t used (answer 2 []) t
+  pub unplaced : {left right : ℕ} → left ≡ leftCount n x → right ≡ rightCount n z → length t / width < lo + left + 1 + right + (used - hi)
+      → Gives (ifRoom (length t / width) (insertRows sameValue n (rows t used))) t used (answer 2 []) t
   unfolding ifRoom outcomeAnswer memoryAfter usedAfter nowStored
   unplaced el er k =
-      let l : length t / 24 < length (insertRows sameValue n (rows t used)) = rw (outcome-length el er) k in
-      rw (cond-lt (length t / 24) (length (insertRows sameValue n (rows t used))) (refusedBy 2) (stored (insertRows sameValue n (rows t used))) l)
+      let l : length t / width < length (insertRows sameValue n (rows t used)) = rw (outcome-length el er) k in
+      rw (cond-lt (length t / width) (length (insertRows sameValue n (rows t used))) (refusedBy 2) (stored (insertRows sameValue n (rows t used))) l)
       (record { answers = refl; memory = refl; holds = refl })
 
   -- where it fits: the stretch replaced, and the freed places cleared
   pub placed : {left right s e : ℕ} {t₁ t′ : List ℕ} → left ≡ leftCount n x → right ≡ rightCount n z → s ≡ startOf n x → e ≡ endOf n z
-      → Bytes t → Bytes t′ → length t ≡ length t / 24 * 24 → length t′ ≡ length t → used ≤ length t / 24
-      → lo + left + 1 + right + (used - hi) ≤ length t / 24
+      → Bytes t → Bytes t′ → length t ≡ length t / width * width → length t′ ≡ length t → used ≤ length t / width
+      → lo + left + 1 + right + (used - hi) ≤ length t / width
       → Replaced t used lo hi (leftRow n x) (midRow n s e) (rightRow n z) left right t₁
       → Cleared t₁ (lo + left + 1 + right + (used - hi)) used t′
-      → Gives (ifRoom (length t / 24) (insertRows sameValue n (rows t used))) t used (answer 0 ((lo + left + 1 + right + (used - hi)) ∷ [])) t′
+      → Gives (ifRoom (length t / width) (insertRows sameValue n (rows t used))) t used (answer 0 ((lo + left + 1 + right + (used - hi)) ∷ [])) t′
   unfolding ifRoom outcomeAnswer memoryAfter usedAfter nowStored
   placed {left} {right} {s} {e} {t₁} {t′} el er es ee b b′ m l u k p q =
       let ys : List (Row ℕ) = insertRows sameValue n (rows t used) in
@@ -275,9 +275,9 @@ module _ {t : List ℕ} {used : ℕ} {n : Row ℕ} (h : n .start < n .end) (w : 
       rows-eq t₁ t′ 0 0 total (λ j i. q .kept (0 + j) (λ c d. omega arith)) in
       let rs : rows t′ total ≡ ys = same ∙ outcome-rows el er es ee p in
       let all : t′ ≡ written t used ys =
-      memory-is t t′ (length t / 24) used total ys b b′ m l u k rs (λ j i d. q .zero j i d)
+      memory-is t t′ (length t / width) used total ys b b′ m l u k rs (λ j i d. q .zero j i d)
       (λ j i d. q .kept j (λ c f. omega arith) ∙ p .beyond j d i) in
-      rw (cond-ge (length t / 24) (length ys) (refusedBy 2) (stored ys) (omega arith))
+      rw (cond-ge (length t / width) (length ys) (refusedBy 2) (stored ys) (omega arith))
       (record {
         answers = ap (λ (c : ℕ). answer 0 (c ∷ [])) (sym long);
         memory = all;

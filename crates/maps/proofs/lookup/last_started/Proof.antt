@@ -1,5 +1,6 @@
 -- What the search finds, in an ordered table, is how far the moment reaches. Assumes nothing.
-use Rattle.tables.specs.Looks.{found-at, arrive-covers, arrive-gap, arrive-none}
+use mathlib.Core.Path.{refl, ap}
+use Rattle.tables.specs.Looks.{numberIn, found-at, arrive-covers, arrive-gap, arrive-none}
 use borrow.Author.Needs.{needs}
 use Rattle.maps.proofs.lookup.last_started.Statement.{statement}
 use Rattle.maps.proofs.lookup.last_started.Tie as tie
@@ -23,13 +24,13 @@ seen-at-requires : tie.Need-seen-at-requires
 seen-at-requires c κs = search needs
 
 returns : tie.Need-returns
-returns c = λ w a. arrive-covers w a _ (found-at (c .before .before .before .before .before .at-moment .ensures) (c .before .before .before .before .find .ensures)) (search needs) (c .before .before .covers-at .ensures) (search needs) (c .seen-at .ensures .0) (c .seen-at .ensures .1)
+returns c = (λ w a. arrive-covers w a _ (found-at (c .before .before .before .before .before .at-moment .ensures) (c .before .before .before .before .find .ensures)) (search needs) (c .before .before .covers-at .ensures) (search needs) (c .seen-at .ensures .0) (c .seen-at .ensures .1), ap numberIn (c .seen-at .ensures .0))
 
 returns-2 : tie.Need-returns-2
-returns-2 c = λ w a. search (needs, found-at, arrive-gap)
+returns-2 c = (λ w a. search (needs, found-at, arrive-gap), refl)
 
 returns-3 : tie.Need-returns-3
-returns-3 c = λ w a. search (needs, found-at, arrive-none)
+returns-3 c = (λ w a. search (needs, found-at, arrive-none), refl)
 
 pub last-started-spec : {M : Type 1} → statement M
 last-started-spec =

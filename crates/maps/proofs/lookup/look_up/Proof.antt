@@ -1,5 +1,6 @@
 -- The three looks, each one law. Assumes nothing.
-use Rattle.tables.specs.Looks.{found-at, covers-fits, look-first, look-second, look-third, look-far}
+use mathlib.Core.Path.{ap}
+use Rattle.tables.specs.Looks.{numberIn, found-at, covers-fits, look-first, look-second, look-third, look-far}
 use borrow.Author.Needs.{needs}
 use Rattle.maps.proofs.lookup.look_up.Statement.{statement}
 use Rattle.maps.proofs.lookup.look_up.Tie as tie
@@ -41,16 +42,16 @@ last-started-requires-2 : tie.Need-last-started-requires-2
 last-started-requires-2 c κs = search needs
 
 returns : tie.Need-returns
-returns c = λ w. look-first w (found-at (c .before .before .before .before .before .at-moment .ensures) (c .before .before .before .before .find .ensures)) _ (c .before .before .covers-at .ensures) (search needs) (c .seen-at .ensures .0) (c .seen-at .ensures .1)
+returns c = (λ w. look-first w (found-at (c .before .before .before .before .before .at-moment .ensures) (c .before .before .before .before .find .ensures)) _ (c .before .before .covers-at .ensures) (search needs) (c .seen-at .ensures .0) (c .seen-at .ensures .1), ap numberIn (c .seen-at .ensures .0))
 
 returns-2 : tie.Need-returns-2
-returns-2 c = λ w. look-second w (found-at (c .before .before .before .before .before .before .before .at-moment .ensures) (c .before .before .before .before .before .before .find .ensures)) _ (c .before .before .before .before .covers-at .ensures) (search needs) (c .before .before .covers-at2 .ensures) (search needs) (c .seen-at2 .ensures .0) (c .seen-at2 .ensures .1)
+returns-2 c = (λ w. look-second w (found-at (c .before .before .before .before .before .before .before .at-moment .ensures) (c .before .before .before .before .before .before .find .ensures)) _ (c .before .before .before .before .covers-at .ensures) (search needs) (c .before .before .covers-at2 .ensures) (search needs) (c .seen-at2 .ensures .0) (c .seen-at2 .ensures .1), ap numberIn (c .seen-at2 .ensures .0))
 
 returns-3 : tie.Need-returns-3
-returns-3 c = λ w. let a = found-at (c .before .before .before .before .before .before .before .at-moment .ensures) (c .before .before .before .before .before .before .find .ensures) in look-third w a _ (c .before .before .before .before .covers-at .ensures) (search needs) (c .before .before .covers-at2 .ensures) (search needs) (c .last-started .ensures w a)
+returns-3 c = (λ w. let a = found-at (c .before .before .before .before .before .before .before .at-moment .ensures) (c .before .before .before .before .before .before .find .ensures) in look-third w a _ (c .before .before .before .before .covers-at .ensures) (search needs) (c .before .before .covers-at2 .ensures) (search needs) (c .last-started .ensures .0 w a), c .last-started .ensures .1)
 
 returns-4 : tie.Need-returns-4
-returns-4 c = λ w. let a = found-at (c .before .before .before .at-moment .ensures) (c .before .before .find .ensures) in look-far w a _ (search needs) (c .last-started2 .ensures w a)
+returns-4 c = (λ w. let a = found-at (c .before .before .before .at-moment .ensures) (c .before .before .find .ensures) in look-far w a _ (search needs) (c .last-started2 .ensures .0 w a), c .last-started2 .ensures .1)
 
 pub look-up-spec : {M : Type 1} → statement M
 look-up-spec =
