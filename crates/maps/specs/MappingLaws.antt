@@ -19,6 +19,7 @@ use Rattle.leaves.specs.FrameLaws.{mapped-other, mapped-symbol, mapped-refused,
 use Rattle.leaves.specs.declared.frame.Mapping.{Mapping}
 use Rattle.leaves.specs.declared.frame.Mapping.the-variants.{Other, Symbol, Refused as NotRead}
 use Rattle.leaves.specs.Names.{memoryOk, wellFormed as wellFormedNames, namesOf, least, isName, written, hasRoom as hasNameRoom}
+use Rattle.leaves.specs.declared.names.Naming.the-variants.{New, Refused as NotNamed}
 use Rattle.leaves.specs.NamesLaws.{holds, fails, Memory, memory, Ordered as OrderedNames, formed, ordered, numbered-old, numbered-fresh}
 use Rattle.maps.specs.Entries.{entries}
 use Rattle.maps.specs.declared.entries.Entry.{Entry}
@@ -125,13 +126,18 @@ module _ (bytes ends rec : List ℕ) (names size from to : ℕ) (m : memoryOk (l
       judged : {v : Bool} → b ≡ v → hasNameRoom (length bytes) (length ends) names size (length (nameIn rec)) ≡ v
       judged g = ap (hasNameRoom (length bytes) (length ends) names size) (part-length rec from to p) ∙ sym f ∙ g
 
-      pub plan-new : (i s t : ℕ) → b ≡ true → stores i s t names true ≡ numbered i s t (numberingIn bytes ends names size (nameIn rec))
+      -- a name that the list has not: the next new number, or 5
+      fresh : {v : Bool} → b ≡ v → numberingIn bytes ends names size (nameIn rec) ≡ cond v (New names) (NotNamed NoNameRoom)
       unfolding numberingIn
-      plan-new i s t g = ap (numbered i s t) (sym (numbered-fresh _ _ _ _ _ _ least-is h ∙ rw (judged g)))
+      fresh g =
+          numbered-fresh _ _ _ _ _ _ least-is h
+          ∙ ap (λ (v : Bool). cond v (New names) (NotNamed NoNameRoom)) (judged g)
+
+      pub plan-new : (i s t : ℕ) → b ≡ true → stores i s t names true ≡ numbered i s t (numberingIn bytes ends names size (nameIn rec))
+      plan-new i s t g = ap (numbered i s t) (sym (fresh g))
 
       pub plan-none : (i s t : ℕ) → b ≡ false → refuses (refused NoNameRoom) ≡ numbered i s t (numberingIn bytes ends names size (nameIn rec))
-      unfolding numberingIn
-      plan-none i s t g = ap (numbered i s t) (sym (numbered-fresh _ _ _ _ _ _ least-is h ∙ rw (judged g)))
+      plan-none i s t g = ap (numbered i s t) (sym (fresh g))
 
   pub lies-old : Lies bytes ends names size rec from to false
   lies-old = record {

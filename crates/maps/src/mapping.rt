@@ -1,6 +1,5 @@
 // The mapping call (document 01, "The map over time" and "Merging records"): a record's bytes, a name list and a table. All is
 // read and judged before anything is stored, and the name joins the list last.
-use crate::table::bad_table;
 use crate::entries::Entry;
 use crate::insert::Inserted;
 use crate::insert::place;
@@ -9,6 +8,7 @@ use crate::points::Stored;
 use crate::points::points_fit;
 use crate::points::set_entry;
 use crate::points::well_formed;
+use crate::table::bad_table;
 use leaves::frame::Mapping;
 use leaves::frame::read_mapping;
 use leaves::names::add_name;

@@ -1,14 +1,14 @@
 // The point-in-time table of document 01, "The map over time": one entry an instrument, sorted by instrument, in lent bytes
 // of which `used` entries are in use from the front. Its length is `used`.
-use crate::table::Checked;
-use crate::table::NAME_LIMIT;
-use crate::table::ROOM_LIMIT;
 use crate::entries::Entry;
 use crate::entries::WIDTH;
 use crate::entries::entry_at;
 use crate::entries::move_up;
 use crate::entries::put_entry;
 use crate::lookup::Found;
+use crate::table::Checked;
+use crate::table::NAME_LIMIT;
+use crate::table::ROOM_LIMIT;
 use leaves::refusal::Refusal;
 ghost use mathlib.Core.Path.{_≡_};
 ghost use mathlib.Core.Bool.{false};

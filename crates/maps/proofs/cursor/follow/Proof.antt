@@ -42,12 +42,12 @@ use denote.Triple.Spec.{Meets, tripleOf}
 use denote.Triple.Table.{entered, cited}
 use denote.Triple.Walked.{says, Stays, stay-ref, stay-none, stay-none-slice, walkOf, AllGo, goes-none, goes-none-slice, goes-ref, Walks, ends-at, walked, walk-meets}
 use denote.Exit.{yes}
-use mathlib.Core.Bool.{_||_}
+use mathlib.Core.Bool.{false, _||_}
 use lib.Dec.{T}
 use Rattle.tables.specs.Table.{ordered}
 use Rattle.tables.specs.Memory.{sameValue, rows, badTable}
-use Rattle.tables.specs.Looks.{lookupAnswer, lookupHint}
-use Rattle.maps.specs.Lookup.{foundOf}
+use Rattle.tables.specs.Looks.{numberIn, lookupAnswer, lookupHint}
+use Rattle.maps.specs.Lookup.{foundOf, lookedOf}
 use Rattle.maps.specs.declared.cursor.Cursor.{Cursor}
 use Rattle.maps.specs.declared.lookup.Looked.{Looked}
 use Rattle.maps.proofs.cursor.Cursor as Cur
@@ -83,7 +83,11 @@ module _ {M : Type 1} (𝓤 : URA M) (H : Heap 𝓤) (A : Atoms 𝓤) (W : Given
   abbrev at : Vals f.signature (κ, (κ′, tt))
   at = (vptr b o ∷ [], (v ∷ [], (vint w64 n ∷ [], (vint w32 i ∷ [], (vint w64 m ∷ [], tt)))))
 
-  -- what `get_for_ts` says of what it found and of the new hint
+  -- what `get_for_ts` says of a table that gets no 15
+  abbrev Number : Looked → Type 0
+  Number r = badTable (length (now s)) n ≡ false → numberIn (lookedOf r) ≡ 0
+
+  -- what it says of what it found and of the new hint
   abbrev Says : Looked → Type 0
   Says r =
       T (badTable (length (now s)) n || ordered sameValue (rows (now s) n))
@@ -118,9 +122,9 @@ module _ {M : Type 1} (𝓤 : URA M) (H : Heap 𝓤) (A : Atoms 𝓤) (W : Given
       -- [what the callee's parameters own; what the table owns; the token]
       move ! (2 ∷ 0 ∷ []) $ use2 W (raw (GetForTs 𝓤 H A at-mem run .pre to)) (qed W ((‵ (flft κ′ q′) ⊛ ‵ ftrue) ∷ ‵ (owns (ShrSlice (named 0) κ′ u8 ∷ usize ∷ u32 ∷ u64 ∷ u64 ∷ []) a′ at′) ∷ []) ∵ join ! $ frame ! $ done !) $ frame ! $ done !
 
-  -- of the callee's `ensured`, the clause alone: it has no `&mut`
+  -- of the callee's `ensured`, its first clause alone: it has no `&mut`
   said : (r : Looked) → ent 𝓤 (ensured 𝓤 H A lookup.ended (lookup.clauses 𝓤 H A at-mem run) (κ′, tt) a′ tt r) (fact 𝓤 (Says r))
-  said r = exE 𝓤 _ (λ ws. snd∗ 𝓤 (sem 𝓤 H A (lasts lookup.ended (κ′, tt) a′ ws)) (fact 𝓤 (Says r)))
+  said r = exE 𝓤 _ (λ ws. via 𝓤 _ (snd∗ 𝓤 (sem 𝓤 H A (lasts lookup.ended (κ′, tt) a′ ws)) _) (fst∗ 𝓤 (fact 𝓤 (Says r)) (fact 𝓤 (Number r))))
 
   -- the machine value of what is found
   abbrev w : Looked → Val
