@@ -9,7 +9,7 @@ use Rattle.theory.specs.Answer.{Answer, answer}
 use Rattle.leaves.specs.Refusal.{numberOf, valuesOf, refused}
 use Rattle.leaves.specs.declared.refusal.Refusal.{Refusal}
 use Rattle.leaves.specs.declared.refusal.Refusal.the-variants.{Reversed, NoRoom, UnknownSymbol, BadName, NoNameRoom, Differ, Conflict, NotNumber, NoInstrumentId, OutsideQuery, NoDate, BadStreams, Damaged, IllFormed, BadMemory}
-use Rattle.door.specs.Answers.{numberIn, valueIn, givenIn}
+use Rattle.door.specs.Answers.{numberIn, valueIn, givenIn, damageIn, eitherIn}
 
 -- ---- a refusal
 
@@ -80,3 +80,20 @@ module _ {a : Answer} where
 
   pub not-given : (r : Refusal) (held k : ℕ) → refused r ≡ a → held ≡ givenIn held k a
   not-given r held k e = sym (refused-given r held k) ∙ ap (givenIn held k) e
+
+  -- damage: a done call leaves what was held; a refused one hands over what comes with the refusal
+  pub done-damage : {values : List ℕ} (held k : ℕ) → answer 0 values ≡ a → held ≡ damageIn held k a
+  unfolding damageIn
+  done-damage held k e = ap (damageIn held k) e
+
+  pub done-either : {values : List ℕ} (held k : ℕ) → answer 0 values ≡ a → getD values k 0 ≡ eitherIn held k a
+  unfolding valueIn damageIn eitherIn
+  done-either held k e = ap (eitherIn held k) e
+
+  pub not-damage : (r : Refusal) (held k : ℕ) {n : ℕ} → n ≡ damageIn held k (refused r) → refused r ≡ a → n ≡ damageIn held k a
+  not-damage r held k f e = f ∙ ap (damageIn held k) e
+
+  pub not-either : (r : Refusal) (held k : ℕ) {n : ℕ} → n ≡ damageIn held k (refused r) → refused r ≡ a → n ≡ eitherIn held k a
+  unfolding eitherIn
+  not-either r held k f e =
+      f ∙ ap (λ (h : ℕ). damageIn h k (refused r)) (sym (refused-value r held k)) ∙ ap (eitherIn held k) e

@@ -1,28 +1,29 @@
 // The table over time at the C door (01, The map over time): bytes, 24 an interval.
-use leaves::refusal::Refusal;
+use crate::DONE;
+use crate::damage::reason_in;
 use leaves::refusal::number;
-use maps::check::Checked;
 use maps::insert::Inserted;
 use maps::interval::Interval;
 use maps::lookup::Found;
+use maps::mapping::Recorded;
+use maps::table::Checked;
 ghost use mathlib.Core.Path.{_≡_};
-ghost use mathlib.Core.Bool.{_||_};
+ghost use mathlib.Core.Bool.{false, _||_};
 ghost use lib.ListN.{length};
 ghost use lib.Dec.{T};
 ghost use Rattle.tables.specs.Table.{ordered};
 ghost use Rattle.tables.specs.Memory.{sameValue, rows, badTable, checkAnswer, insertOutcome, outcomeAnswer, memoryAfter};
 ghost use Rattle.tables.specs.Looks.{lookupAnswer};
-ghost use Rattle.door.specs.Answers.{numberIn, valueIn, givenIn, row};
-
-// The number of a call that is done.
-const DONE: u32 = 0;
+ghost use Rattle.leaves.specs.Frame.{nameIn};
+ghost use Rattle.maps.specs.Mapping.{timeJudged, timeJoins, timeTable, timeAnswer, bytesThen, endsThen};
+ghost use Rattle.door.specs.Answers.{numberIn, valueIn, givenIn, damageIn, row};
 
 // Whether the table is well-formed: 0, 14 or 15.
 #[no_mangle]
 pub extern "C" fn desk_check(table: &[u8], used: usize, names: usize) -> u32
     ensures { λ r. ⌜ r ≡ numberIn (checkAnswer (now (table .entry)) used names) ⌝ }
 {
-    let checked = maps::check::check(table, used, names);
+    let checked = maps::table::check(table, used, names);
     match checked {
         Checked::WellFormed => DONE,
         Checked::Refused(refusal) => number(refusal),
@@ -71,11 +72,12 @@ pub extern "C" fn desk_get_for_ts(
     found: &mut u32,
     symbol: &mut u32,
 ) -> u32
-    ensures { λ r. ⌜ (T (badTable (length (now (table .entry))) used || ordered sameValue (rows (now (table .entry)) used))
+    ensures right { λ r. ⌜ (T (badTable (length (now (table .entry))) used || ordered sameValue (rows (now (table .entry)) used))
         → (r ≡ numberIn (lookupAnswer (now (table .entry)) used instrument moment (now (hint .entry))))
         × (now (hint .exit) ≡ valueIn (now (hint .entry)) 0 (lookupAnswer (now (table .entry)) used instrument moment (now (hint .entry))))
         × (now (found .exit) ≡ givenIn (now (found .entry)) 1 (lookupAnswer (now (table .entry)) used instrument moment (now (hint .entry))))
         × (now (symbol .exit) ≡ valueIn (now (symbol .entry)) 1 (lookupAnswer (now (table .entry)) used instrument moment (now (hint .entry))))) ⌝ }
+    ensures accepted { λ r. ⌜ (badTable (length (now (table .entry))) used ≡ false → r ≡ 0) ⌝ }
 {
     let looked = maps::lookup::get_for_ts(table, used, instrument, moment, *hint);
     let answer = looked.found;
@@ -93,5 +95,45 @@ pub extern "C" fn desk_get_for_ts(
             DONE
         }
         Found::Refused(refusal) => number(refusal),
+    }
+}
+
+// A record's bytes on a table over time: a symbol mapping inserts its interval, and a new name joins the list: 0, 15, 14, 13, 4, 1, 5 or 2; `reason` is set by 13 alone.
+#[no_mangle]
+pub extern "C" fn desk_on_record(
+    table: &mut [u8],
+    used: &mut usize,
+    bytes: &mut [u8],
+    ends: &mut [u32],
+    names: &mut usize,
+    size: &mut usize,
+    rec: &[u8],
+    reason: &mut u64,
+) -> u32
+    ensures { λ r. ⌜ r ≡ numberIn (timeAnswer (now (table .entry)) (now (used .entry)) (now (names .entry)) (now (size .entry)) (nameIn (now (rec .entry))) (timeJudged (now (table .entry)) (now (used .entry)) (now (bytes .entry)) (now (ends .entry)) (now (names .entry)) (now (size .entry)) (now (rec .entry)))) ⌝ }
+    ensures { λ _. ⌜ now (used .exit) ≡ valueIn (now (used .entry)) 0 (timeAnswer (now (table .entry)) (now (used .entry)) (now (names .entry)) (now (size .entry)) (nameIn (now (rec .entry))) (timeJudged (now (table .entry)) (now (used .entry)) (now (bytes .entry)) (now (ends .entry)) (now (names .entry)) (now (size .entry)) (now (rec .entry)))) ⌝ }
+    ensures { λ _. ⌜ now (names .exit) ≡ valueIn (now (names .entry)) 1 (timeAnswer (now (table .entry)) (now (used .entry)) (now (names .entry)) (now (size .entry)) (nameIn (now (rec .entry))) (timeJudged (now (table .entry)) (now (used .entry)) (now (bytes .entry)) (now (ends .entry)) (now (names .entry)) (now (size .entry)) (now (rec .entry)))) ⌝ }
+    ensures { λ _. ⌜ now (size .exit) ≡ valueIn (now (size .entry)) 2 (timeAnswer (now (table .entry)) (now (used .entry)) (now (names .entry)) (now (size .entry)) (nameIn (now (rec .entry))) (timeJudged (now (table .entry)) (now (used .entry)) (now (bytes .entry)) (now (ends .entry)) (now (names .entry)) (now (size .entry)) (now (rec .entry)))) ⌝ }
+    ensures { λ _. ⌜ now (reason .exit) ≡ damageIn (now (reason .entry)) 2 (timeAnswer (now (table .entry)) (now (used .entry)) (now (names .entry)) (now (size .entry)) (nameIn (now (rec .entry))) (timeJudged (now (table .entry)) (now (used .entry)) (now (bytes .entry)) (now (ends .entry)) (now (names .entry)) (now (size .entry)) (now (rec .entry)))) ⌝ }
+    ensures { λ _. ⌜ now (table .exit) ≡ timeTable (now (table .entry)) (now (used .entry)) (timeJudged (now (table .entry)) (now (used .entry)) (now (bytes .entry)) (now (ends .entry)) (now (names .entry)) (now (size .entry)) (now (rec .entry))) ⌝ }
+    ensures { λ _. ⌜ now (bytes .exit) ≡ bytesThen (timeJoins (now (table .entry)) (now (used .entry)) (timeJudged (now (table .entry)) (now (used .entry)) (now (bytes .entry)) (now (ends .entry)) (now (names .entry)) (now (size .entry)) (now (rec .entry)))) (now (bytes .entry)) (now (size .entry)) (nameIn (now (rec .entry))) ⌝ }
+    ensures { λ _. ⌜ now (ends .exit) ≡ endsThen (timeJoins (now (table .entry)) (now (used .entry)) (timeJudged (now (table .entry)) (now (used .entry)) (now (bytes .entry)) (now (ends .entry)) (now (names .entry)) (now (size .entry)) (now (rec .entry)))) (now (ends .entry)) (now (names .entry)) (now (size .entry)) (nameIn (now (rec .entry))) ⌝ }
+{
+    let recorded = maps::mapping::on_record(table, *used, bytes, ends, *names, *size, rec);
+    match recorded {
+        Recorded::Done {
+            used: rows,
+            names: count,
+            size: filled,
+        } => {
+            *used = rows;
+            *names = count;
+            *size = filled;
+            DONE
+        }
+        Recorded::Refused(refusal) => {
+            *reason = reason_in(refusal, *reason);
+            number(refusal)
+        }
     }
 }

@@ -1,5 +1,5 @@
 -- Each arm of the match is what its case says. Assumes nothing.
-use Rattle.maps.specs.Check.{checkedOf}
+use Rattle.maps.specs.Table.{checkedOf}
 use Rattle.door.specs.AnswersLaws.{told, done-number, not-number}
 use borrow.Author.Needs.{needs}
 use Rattle.door.proofs.map.desk_check.Statement.{statement}

@@ -1,4 +1,6 @@
 -- Each arm of the match is what its case says. Assumes nothing.
+use mathlib.Core.Path.{refl, sym, ap, _∙_}
+use Rattle.tables.specs.Looks.{numberIn as looked-number}
 use Rattle.maps.specs.declared.lookup.Found.{Found}
 use Rattle.maps.specs.Lookup.{foundOf}
 use Rattle.door.specs.AnswersLaws.{told, done-number, done-value, done-given, not-number, not-value, not-given}
@@ -22,20 +24,33 @@ number-requires : tie.Need-number-requires
 number-requires c κs = search needs
 
 returns : tie.Need-returns
-returns c = λ t.
-    let e = told (λ (x : Found). foundOf x (c .before .before .before .get-for-ts .result .hint)) (c .before .before .before .get-for-ts .ensures t .0) (c .before .answer .given .1) in
-    (done-number e, done-value (c .before .before .before .before .before .before .args .hint .now) 0 e, done-given (c .before .before .before .before .before .before .args .found .now) 1 e, done-value (c .before .before .before .before .before .before .args .symbol .now) 1 e)
+returns c =
+    let a = c .before .before .before .before .before .before .args in (
+      λ t.
+          let e = told (λ (x : Found). foundOf x (c .before .before .before .get-for-ts .result .hint)) (c .before .before .before .get-for-ts .ensures .0 t .0) (c .before .answer .given .1) in
+          (done-number e, done-value (a .hint .now) 0 e, done-given (a .found .now) 1 e, done-value (a .symbol .now) 1 e),
+      λ w. refl,
+    )
 
 returns-2 : tie.Need-returns-2
-returns-2 c = λ t.
-    let e = told (λ (x : Found). foundOf x (c .before .before .get-for-ts .result .hint)) (c .before .before .get-for-ts .ensures t .0) (c .enum-told .given .1) in
-    (done-number e, done-value (c .before .before .before .before .before .args .hint .now) 0 e, done-given (c .before .before .before .before .before .args .found .now) 1 e, done-value (c .before .before .before .before .before .args .symbol .now) 1 e)
+returns-2 c =
+    let a = c .before .before .before .before .before .args in (
+      λ t.
+          let e = told (λ (x : Found). foundOf x (c .before .before .get-for-ts .result .hint)) (c .before .before .get-for-ts .ensures .0 t .0) (c .enum-told .given .1) in
+          (done-number e, done-value (a .hint .now) 0 e, done-given (a .found .now) 1 e, done-value (a .symbol .now) 1 e),
+      λ w. refl,
+    )
 
 returns-3 : tie.Need-returns-3
-returns-3 c = λ t.
-    let e = told (λ (x : Found). foundOf x (c .before .before .before .before .get-for-ts .result .hint)) (c .before .before .before .before .get-for-ts .ensures t .0) (c .before .before .answer2 .given .1) in
-    let r = c .before .before .answer2 .given .0 .0 in
-    (not-number r (c .number .ensures) e, not-value r (c .before .before .before .before .before .before .before .args .hint .now) 0 e, not-given r (c .before .before .before .before .before .before .before .args .found .now) 1 e, not-value r (c .before .before .before .before .before .before .before .args .symbol .now) 1 e)
+returns-3 c =
+    let a = c .before .before .before .before .before .before .before .args in
+    let r = c .before .before .answer2 .given .0 .0 in (
+      λ t.
+          let e = told (λ (x : Found). foundOf x (c .before .before .before .before .get-for-ts .result .hint)) (c .before .before .before .before .get-for-ts .ensures .0 t .0) (c .before .before .answer2 .given .1) in
+          (not-number r (c .number .ensures) e, not-value r (a .hint .now) 0 e, not-given r (a .found .now) 1 e, not-value r (a .symbol .now) 1 e),
+      λ w.
+          c .number .ensures ∙ sym (ap (λ (x : Found). looked-number (foundOf x (c .before .before .before .before .get-for-ts .result .hint))) (c .before .before .answer2 .given .1)) ∙ c .before .before .before .before .get-for-ts .ensures .1 w,
+    )
 
 pub desk-get-for-ts-spec : {M : Type 1} → statement M
 desk-get-for-ts-spec =
