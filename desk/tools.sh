@@ -10,18 +10,22 @@ toolchain=$kit/on/$machine/toolchain
 libraries=$kit/toolchain/lib
 archive=target/staticlib/libdoor.a
 strict=(-O2 -Wall -Wextra -pedantic -Werror -Iinclude)
-if [ "$machine" = x86_64 ]; then compiler=cc emulator=(); else compiler=x86_64-linux-gnu-gcc emulator=("$toolchain/bin/qemu-x86_64"); fi
+if [ "$machine" = x86_64 ]; then compiler=(cc) emulator=(); else
+    compiler=(x86_64-linux-gnu-gcc -static) emulator=("$toolchain/bin/qemu-x86_64")
+fi
 if [ -n "${DESK_CC:-}" ]; then how=$DESK_CC; elif [ "$machine" = x86_64 ] && command -v cc >/dev/null; then how=cc; else how=kit; fi
 
+# the archive, unless it is newer than everything that it is made of
 make_archive() {
     mkdir -p target/desk
+    if [ -e "$archive" ] && [ -z "$(find crates crates.txt -newer "$archive" -print -quit)" ]; then return; fi
     rt staticlib door >target/desk/staticlib.log 2>&1 || { tail -20 target/desk/staticlib.log; echo 'desk: the archive failed'; return 1; }
 }
 
 # desk/NAME.c to target/desk/NAME
 build_c() {
     if [ "$how" = cc ]; then
-        "$compiler" -std=c99 "${strict[@]}" -static -o "target/desk/$1" "desk/$1.c" "$archive"
+        "${compiler[@]}" -std=c99 "${strict[@]}" -o "target/desk/$1" "desk/$1.c" "$archive"
     else
         "$toolchain/bin/clang" --target=x86_64-unknown-linux-gnu -std=c99 "${strict[@]}" -nostdinc -isystem desk/bare -fPIE \
             -c "desk/$1.c" -o "target/desk/$1.o"
