@@ -1,0 +1,59 @@
+-- Each arm of the match is what its case says. Assumes nothing.
+use Rattle.door.specs.Answers.{numberIn, valueIn, givenIn}
+use Rattle.maps.specs.Points.{foundOf}
+use Rattle.door.specs.AnswersLaws.{told, done-number, done-value, done-given, not-number, not-value, not-given}
+use borrow.Author.Needs.{needs}
+use Rattle.door.proofs.points.desk_get_point.Statement.{statement}
+use Rattle.door.proofs.points.desk_get_point.Tie as tie
+
+get-requires : tie.Need-get-requires
+get-requires c κs = search needs
+
+enum-known-answer : tie.Need-enum-known-answer
+enum-known-answer c = search needs
+
+enum-told : tie.Need-enum-told
+enum-told c = search needs
+
+enum-known-answer-2 : tie.Need-enum-known-answer-2
+enum-known-answer-2 c = search needs
+
+number-requires : tie.Need-number-requires
+number-requires c κs = search needs
+
+returns : tie.Need-returns
+unfolding numberIn valueIn givenIn
+returns c =
+    let a = c .before .before .before .before .before .args in (
+      λ w. let e = told foundOf (c .before .before .before .get .ensures .0 w) (c .before .answer .given .1) in (done-number e, done-given (a .found .now) 0 e, done-value (a .symbol .now) 0 e),
+      λ t. let e = told foundOf (c .before .before .before .get .ensures .1 t) (c .before .answer .given .1) in (done-number e, done-given (a .found .now) 0 e, done-value (a .symbol .now) 0 e),
+    )
+
+returns-2 : tie.Need-returns-2
+unfolding numberIn valueIn givenIn
+returns-2 c =
+    let a = c .before .before .before .before .args in (
+      λ w. let e = told foundOf (c .before .before .get .ensures .0 w) (c .enum-told .given .1) in (done-number e, done-given (a .found .now) 0 e, done-value (a .symbol .now) 0 e),
+      λ t. let e = told foundOf (c .before .before .get .ensures .1 t) (c .enum-told .given .1) in (done-number e, done-given (a .found .now) 0 e, done-value (a .symbol .now) 0 e),
+    )
+
+returns-3 : tie.Need-returns-3
+unfolding numberIn valueIn givenIn
+returns-3 c =
+    let a = c .before .before .before .before .before .before .args in (
+      λ w. let e = told foundOf (c .before .before .before .before .get .ensures .0 w) (c .before .before .answer2 .given .1) in (not-number (c .before .before .answer2 .given .0 .0) (c .number .ensures) e, not-given (c .before .before .answer2 .given .0 .0) (a .found .now) 0 e, not-value (c .before .before .answer2 .given .0 .0) (a .symbol .now) 0 e),
+      λ t. let e = told foundOf (c .before .before .before .before .get .ensures .1 t) (c .before .before .answer2 .given .1) in (not-number (c .before .before .answer2 .given .0 .0) (c .number .ensures) e, not-given (c .before .before .answer2 .given .0 .0) (a .found .now) 0 e, not-value (c .before .before .answer2 .given .0 .0) (a .symbol .now) 0 e),
+    )
+
+pub desk-get-point-spec : {M : Type 1} → statement M
+desk-get-point-spec =
+    tie.close
+    (tie.spec
+    get-requires
+    enum-known-answer
+    enum-told
+    enum-known-answer-2
+    number-requires
+    returns
+    returns-2
+    returns-3)

@@ -1,0 +1,4 @@
+pub mod Answers
+pub mod AnswersLaws
+pub mod Merge
+pub mod MergeLaws

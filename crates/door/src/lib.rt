@@ -1,0 +1,12 @@
+// The door: what a C program calls. Each function answers document 01's number, 0 where it is done, and hands further results back
+// through lent numbers, which a refusal leaves as they were. `include/desk.h` says the same in C.
+pub mod damage;
+pub mod days;
+pub mod map;
+pub mod merge;
+pub mod names;
+pub mod points;
+pub mod text;
+
+// The number of a call that is done.
+pub const DONE: u32 = 0;

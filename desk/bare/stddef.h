@@ -1,0 +1,4 @@
+/* What desk/ needs of C's headers, for a machine that has no C library of the target's. */
+#pragma once
+typedef __SIZE_TYPE__ size_t;
+#define NULL ((void *)0)

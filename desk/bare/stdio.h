@@ -1,0 +1,10 @@
+#pragma once
+#include <stddef.h>
+typedef struct desk_file FILE;
+extern FILE *stdin;
+extern FILE *stdout;
+int printf(const char *, ...) __attribute__((format(printf, 1, 2)));
+int putchar(int);
+size_t fread(void *, size_t, size_t, FILE *);
+size_t fwrite(const void *, size_t, size_t, FILE *);
+int fflush(FILE *);

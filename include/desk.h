@@ -1,0 +1,173 @@
+/* The replay desk at the C door. "01" is document 01, "Exact rules and what to build".
+ *
+ * Every function returns document 01's number: DESK_DONE (0) or one of the refusals below. Further results come back through
+ * pointers to single numbers. After a refusal everything behind every pointer is as it was at the call, except that 13 hands
+ * its stream, place and reason over where a function has pointers for them, and that 13 from desk_next closes its stream and
+ * keeps what the same call read in others before it. Every call ends, on any content of the memory.
+ *
+ * What a caller owes. None of it can be seen from inside, so nothing tests it:
+ *   - a pointer beside a length points to as many elements as the length says, one to a single number to that number;
+ *   - each pointer is aligned for its type, and none is null, also where its length is 0;
+ *   - nothing that a call may write overlaps anything else that the call is handed;
+ *   - no other thread writes, during a call, what the call is handed; there is no state beside what is handed in, so that
+ *     calls on different memory may run at the same time;
+ *   - DESK_STACK bytes of stack are free.
+ *
+ * Lengths are in elements. Instruments, symbols and dates are 32 bits wide, moments, hints, cuts and places 64. A symbol is a
+ * name's number. A moment is nanoseconds since the start of 1970-01-01. An interval holds its start and not its end. */
+#ifndef DESK_H
+#define DESK_H
+
+#include <stddef.h>
+#include <stdint.h>
+
+#ifdef __cplusplus
+extern "C" {
+#endif
+
+/* The numbers the desk lives by. */
+#define DESK_INTERVAL_BYTES 24    /* of a table over time: instrument 4, symbol 4, start 8, end 8, little-endian */
+#define DESK_POINT_BYTES 8        /* of a point-in-time table: instrument 4, symbol 4, little-endian */
+#define DESK_ROOM 65536           /* the most intervals, or entries, that a table's memory may hold */
+#define DESK_NAMES 4096           /* the most names of a list */
+#define DESK_NAME_LIST_BYTES 65536 /* the most bytes of all names together */
+#define DESK_NAME_BYTES 255       /* the most bytes of one name */
+#define DESK_STREAMS 256          /* the most streams of a merge, and the places of each of its arrays */
+#define DESK_RECORD_HEADER 16     /* a record's least length: whole length 2, kind 2, instrument 4, timestamp 8 */
+#define DESK_RECORD_BYTES 1024    /* a record's greatest length */
+#define DESK_SYMBOL_MAPPING 2     /* the kind of a symbol mapping record: start 8, end 8, then the name */
+#define DESK_MISSING UINT64_MAX   /* a missing start or end of a symbol mapping */
+#define DESK_LAST_DAY 213503      /* 2554-07-21 */
+#define DESK_STACK 4096           /* the stack that a call needs, in bytes */
+
+/* What a call returns. */
+enum desk_number {
+    DESK_DONE = 0,
+    DESK_REVERSED = 1,          /* start comes after end */
+    DESK_NO_ROOM = 2,           /* the outcome would not fit the room */
+    DESK_UNKNOWN_SYMBOL = 3,    /* symbol number never handed out */
+    DESK_BAD_NAME = 4,          /* name over 255 bytes, or not UTF-8 */
+    DESK_NO_NAME_ROOM = 5,      /* a new name would pass 4,096 names, 65,536 bytes or the room lent for names */
+    DESK_DIFFER = 6,            /* metadata differ; the field comes with it */
+    DESK_CONFLICT = 7,          /* intervals conflict */
+    DESK_NOT_NUMBER = 8,        /* text is not a u32 */
+    DESK_NO_INSTRUMENT_ID = 9,  /* neither side is instrument ID */
+    DESK_OUTSIDE_QUERY = 10,    /* date outside the query range */
+    DESK_NO_DATE = 11,          /* no such date, or outside 1970-01-01 to 2554-07-21 */
+    DESK_BAD_STREAMS = 12,      /* stream list wrong */
+    DESK_DAMAGED = 13,          /* stream or mapping record damaged, with stream, place and reason */
+    DESK_ILL_FORMED = 14,       /* table or name list is not well-formed (lookup alone doesn't test it) */
+    DESK_BAD_MEMORY = 15        /* lent memory has unequal lengths or is over a limit, or a number in use is over its room */
+};
+
+/* The reasons of 13. */
+enum desk_reason {
+    DESK_SHORT = 1,             /* fewer than 16 bytes left */
+    DESK_BAD_LENGTH = 2,        /* length outside 16 to 1,024 */
+    DESK_PAST_END = 3,          /* length past the end; of a single record also bytes left over */
+    DESK_SHORT_BODY = 4         /* a symbol mapping with a body under 16 bytes */
+};
+
+/* ---- The map over time. A table is bytes, 24 an interval, of which `used` intervals from the front are in use. */
+
+/* Is the table well-formed? Sorted by instrument; for each instrument the intervals are non-empty, sorted by start, disjoint,
+ * and two that touch have different symbols; every symbol is below `names`, the number of names handed out. 0, 15, 14. */
+uint32_t desk_check(const uint8_t *table, size_t table_len, size_t used, size_t names);
+
+/* From start to before end the instrument has the symbol, whatever it had. Intervals that touch with the same symbol are
+ * joined; *used becomes the new number in use. Places that are freed hold 0, other unused ones keep what they held.
+ * 15, 14, then 1; start = end is done and changes nothing; 3; 2, judged on the whole table after the insert. */
+uint32_t desk_insert(uint8_t *table, size_t table_len, size_t *used, size_t names, uint32_t instrument, uint64_t start,
+                     uint64_t end, uint32_t symbol);
+
+/* The instrument's symbol at the moment: *found is 1 and *symbol the symbol, or both are 0 where there is none. *hint may be
+ * any number, and becomes the interval arrived at, counted from 0 within the instrument; with an unknown instrument or a moment
+ * before the first interval it stays. Kept between lookups of one instrument it is a cursor; start it at 0. 15 only: on a table
+ * that desk_check rejects the answer says nothing. */
+uint32_t desk_get_for_ts(const uint8_t *table, size_t table_len, size_t used, uint32_t instrument, uint64_t moment,
+                         uint64_t *hint, uint32_t *found, uint32_t *symbol);
+
+/* One record's bytes: a symbol mapping inserts its interval, a missing start as 0, a missing end as 18446744073709551615; other
+ * kinds are done and change nothing. A new name joins the name list only when the interval is stored. *reason is set by 13
+ * alone. 15, 14 (table and name list), 13, 4, 1; start = end is done; 5, 2. */
+uint32_t desk_on_record(uint8_t *table, size_t table_len, size_t *used, uint8_t *bytes, size_t bytes_len, uint32_t *ends,
+                        size_t ends_len, size_t *names, size_t *size, const uint8_t *record, size_t record_len,
+                        uint64_t *reason);
+
+/* ---- The point-in-time table: bytes, 8 an entry, of which `used` entries from the front are in use. */
+
+/* Is the table well-formed? Sorted by instrument, each once, every symbol below `names`. 0, 15, 14. */
+uint32_t desk_check_points(const uint8_t *table, size_t table_len, size_t used, size_t names);
+
+/* The instrument's symbol: *found is 1 and *symbol the symbol, or both are 0 where there is none. 15 only: on a table that
+ * desk_check_points rejects the answer says nothing. */
+uint32_t desk_get_point(const uint8_t *table, size_t table_len, size_t used, uint32_t instrument, uint32_t *found,
+                        uint32_t *symbol);
+
+/* One record's bytes: a symbol mapping sets the instrument's entry and ignores both times; other kinds are done and change
+ * nothing. A new name joins the name list only when done. *reason is set by 13 alone. 15, 14 (table and name list), 13, 4, 5, 2. */
+uint32_t desk_on_record_point(uint8_t *table, size_t table_len, size_t *used, uint8_t *bytes, size_t bytes_len,
+                              uint32_t *ends, size_t ends_len, size_t *names, size_t *size, const uint8_t *record,
+                              size_t record_len, uint64_t *reason);
+
+/* ---- Names. A name list is the names' bytes, one name after another, and where each name ends; `names` names and `size` bytes
+ * are in use. Name n lies from the end of the one before it to its own end. Name numbers run from 0 in order of first arrival
+ * and are never taken back. */
+
+/* Is the list well-formed: do valid names (0 to 255 bytes of UTF-8) stand one after another? 0, 15, 14. */
+uint32_t desk_check_names(const uint8_t *bytes, size_t bytes_len, const uint32_t *ends, size_t ends_len, size_t names,
+                          size_t size);
+
+/* The number of a name into *symbol: the least with equal bytes, else the next new one, and the name joins the list.
+ * 15, 14, 4, 5. */
+uint32_t desk_number_of(uint8_t *bytes, size_t bytes_len, uint32_t *ends, size_t ends_len, size_t *names, size_t *size,
+                        const uint8_t *name, size_t name_len, uint32_t *symbol);
+
+/* Where a symbol's name lies among the bytes, its first byte and its end. 15, 14, 3. */
+uint32_t desk_place_of_name(const uint8_t *bytes, size_t bytes_len, const uint32_t *ends, size_t ends_len, size_t names,
+                            size_t size, uint32_t symbol, size_t *first, size_t *end);
+
+/* ---- Numbers, days. A date is the number YYYYMMDD. */
+
+/* The day of a date, since 1970-01-01. 0, 11. */
+uint32_t desk_day_of(uint32_t date, uint32_t *day);
+
+/* The date of a day since 1970-01-01. 0, 11. */
+uint32_t desk_date_of(uint32_t day, uint32_t *date);
+
+/* The moment at which a day since 1970-01-01 starts: days x 86,400,000,000,000 nanoseconds. 0, 11. */
+uint32_t desk_day_start(uint32_t day, uint64_t *moment);
+
+/* The number that a text says: an optional single `+`, then one or more ASCII digits, at most 4294967295. 0, 8. */
+uint32_t desk_number_text(const uint8_t *text, size_t text_len, uint32_t *value);
+
+/* Is a text, of any length, UTF-8 (RFC 3629)? 0, 4. */
+uint32_t desk_utf8(const uint8_t *text, size_t text_len);
+
+/* ---- Merging records. All streams stand in one buffer; cuts, one more than streams, start at 0, never fall, and end at the
+ * buffer's length. The state of a merge stands in five arrays of 256 places and in *held; between desk_open and the last
+ * desk_next on it the caller hands in the same buffer and cuts and changes none of them. */
+
+/* Opens the streams, each at its hint; an empty hint list means all hints 0. Reads none of them. *streams becomes the number of
+ * streams, *held the number of those that the heap holds. 15 where an array has not 256 places; 12 for no stream, over 256, cuts
+ * wrong, or hints given and not one per stream. */
+uint32_t desk_open(const uint8_t *buffer, size_t buffer_len, const uint64_t *cuts, size_t cuts_len, const uint64_t *hints,
+                   size_t hints_len, uint8_t *marks, size_t marks_len, uint64_t *times, size_t times_len, uint64_t *places,
+                   size_t places_len, uint64_t *heads, size_t heads_len, uint8_t *heap, size_t heap_len, size_t *streams,
+                   size_t *held);
+
+/* The next record, by time, then stream: *found is 1, and its stream, place (from the stream's start), length, kind, instrument
+ * and time come back; its bytes stand in the buffer from cuts[*stream] + *place on. At the end, which stays, *found and those
+ * six are 0. 13 sets *stream, *place and *reason alone: the stream is damaged there and closed, the others go on. 15 where an
+ * array has not 256 places or *held is over 256. On a state that desk_open did not make for this buffer and these cuts the
+ * answer says nothing. */
+uint32_t desk_next(const uint8_t *buffer, size_t buffer_len, const uint64_t *cuts, size_t cuts_len, uint8_t *marks,
+                   size_t marks_len, uint64_t *times, size_t times_len, uint64_t *places, size_t places_len, uint64_t *heads,
+                   size_t heads_len, uint8_t *heap, size_t heap_len, size_t *held, uint32_t *found, uint64_t *stream,
+                   uint64_t *place, uint16_t *length, uint16_t *kind, uint32_t *instrument, uint64_t *time, uint64_t *reason);
+
+#ifdef __cplusplus
+}
+#endif
+
+#endif
