@@ -147,7 +147,8 @@ module _ (m v off head : List ℕ) (e : ℕ) where
 
 -- ---- the room: what the names can take together is at most what all mappings have
 
-unfoldable sumNames : List ℕ → List Mapping → ℕ
+-- the intervals of the lists under the names ns
+unfoldable pub sumNames : List ℕ → List Mapping → ℕ
 sumNames [] ms = 0
 sumNames (n ∷ ns) ms = sumLen (listsOf n ms) + sumNames ns ms
 
@@ -177,7 +178,7 @@ unfolding sumNames listsOf sumLen
 sum-nothing [] = refl
 sum-nothing (n ∷ ns) = omega (arith, sum-nothing ns)
 
-sum-bound : (ms : List Mapping) (ns : List ℕ) → Once ns → sumNames ns ms ≤ countIntervals ms
+pub sum-bound : (ms : List Mapping) (ns : List ℕ) → Once ns → sumNames ns ms ≤ countIntervals ms
 unfolding countIntervals
 sum-bound [] ns o = omega (arith, sum-nothing ns)
 sum-bound (k ∷ ms) ns o = omega (arith, sum-one ns k ms o, sum-bound ms ns o)

@@ -5,5 +5,6 @@ pub mod Metadata
 pub mod Names
 pub mod Fold
 pub mod Cover
+pub mod Laws
 pub mod Words
 pub mod Examples

@@ -6,7 +6,7 @@ use native.Mathlib.Omega.{arith}
 use mathlib.Core.Bool.{Bool, true, false, _&&_, cond}
 use mathlib.Core.List.{List, [], _∷_}
 use lib.ListN.{length, take}
-use lib.Seq.{length-take-le}
+use lib.Seq.{length-take-le, take-append-seam}
 use lib.Dec.{leb}
 use borrow.Author.Tests.{leb-true}
 use Rattle.theory.specs.Answer.{Answer, answer}
@@ -15,7 +15,7 @@ use Rattle.leaves.specs.declared.refusal.Refusal.{Refusal}
 use Rattle.leaves.specs.declared.refusal.Refusal.the-variants.{Differ, BadMemory}
 use Rattle.merging.specs.Metadata.{Metadata, Fields, Mapping, opened, once, addAll, namesOf, enterAll, merge, mergeOpened, ifSame, agreedMerge, differsAt, fieldsOf, countIntervals, Outcome, done}
 use Rattle.merging.specs.Metadata.{refused as stopped}
-use Rattle.merging.specs.Words.{before, countAt, mappingsFrom, mappingWords, intervalWords, mapping-length, interval-length}
+use Rattle.merging.specs.Words.{before, countAt, mappingsFrom, mappingWords, intervalWords, mapping-length, interval-length, read-back}
 use Rattle.merging.specs.Names.{enterAll-names}
 use Rattle.lay.specs.Names.{placed, layAll}
 use Rattle.lay.specs.NamesWords.{Stands, stands}
@@ -358,3 +358,11 @@ module _ (h : Header) (l : Lists) where
             answers = rw f (ap (λ (o : Header). answer 0 (numbersOf o)) x ∙ rw (a .how-many, u .how-many, w .how-many, s .how-many) refl);
             holds = rw f (z ∙ rw (a .stand, u .stand, w .stand, g0, g1, y) refl);
           }
+
+-- ---- what is laid is read back: with the metadata's own fields and counts in the header, header and lists are that metadata
+
+pub laid-read : (h : Header) (l : Lists) (m : Metadata) (k : Header) → headerFields k ≡ m .fields → k .symbols ≡ length (m .symbols) → k .partial ≡ length (m .partial)
+    → k .«not_found» ≡ length (m .not-found) → k .mappings ≡ length (m .mappings) → metadataOf k (laidOver h l m) ≡ m
+unfolding metadataOf laidOver over
+laid-read h l m k f a b c d =
+    rw (f, a, b, c, d, take-append-seam (m .symbols), take-append-seam (m .partial), take-append-seam (m .not-found), read-back (m .mappings)) refl

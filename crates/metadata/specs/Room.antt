@@ -1,18 +1,16 @@
 -- A merge by name has no more mappings, and no more intervals, than both sides together. Assumes nothing.
 use mathlib.Core.Path.{_≡_, refl, sym, ap, _∙_, subst}
-use mathlib.Core.Logic.{_≢_, inl, inr}
 use Prim.Native.Nat.{ℕ, zero, suc, _+_, _≤_, _<_}
 use native.Mathlib.Omega.{arith}
 use mathlib.Core.List.{List, [], _∷_, _++_}
 use lib.ListN.{length}
-use Rattle.theory.specs.Runs.{Mem}
 use Rattle.merging.specs.declared.Interval.{Interval}
-use Rattle.merging.specs.Cases.{Once, eqb-case, cond-eq, cond-ne}
 use Rattle.merging.specs.Walk.{Walked, conflict, laid, walkAll}
 use Rattle.merging.specs.Metadata.{Mapping, mapping, Merged, clash, merged, once, namesOf, listsOf, under, inFront, collect, outcome, byName, countIntervals}
 use Rattle.merging.specs.Names.{merged-names, once-once}
 use Rattle.lay.specs.Flat.{sumLen}
 use Rattle.lay.specs.Names.{walkAll-length}
+use Rattle.lay.specs.NamesWhole.{sumNames, sum-bound}
 use Rattle.gather.specs.Arrivals.{addAll-small}
 
 pub names-length : (ms : List Mapping) → length (namesOf ms) ≡ length ms
@@ -27,42 +25,6 @@ merged-few ms r e =
     let b = addAll-small (namesOf ms) [] in
     let c = names-length ms in
     omega arith
-
--- the intervals of the lists under the names ns
-unfoldable sumNames : List ℕ → List Mapping → ℕ
-sumNames [] ms = 0
-sumNames (n ∷ ns) ms = sumLen (listsOf n ms) + sumNames ns ms
-
-lists-yes : (k : Mapping) (ms : List Mapping) (n : ℕ) → k .name ≡ n → sumLen (listsOf n (k ∷ ms)) ≡ length (k .intervals) + sumLen (listsOf n ms)
-unfolding listsOf sumLen
-lists-yes k ms n d = ap sumLen (cond-eq (k .name) n (k .intervals ∷ listsOf n ms) (listsOf n ms) d)
-
-lists-no : (k : Mapping) (ms : List Mapping) (n : ℕ) → k .name ≢ n → sumLen (listsOf n (k ∷ ms)) ≡ sumLen (listsOf n ms)
-unfolding listsOf
-lists-no k ms n d = ap sumLen (cond-ne (k .name) n (k .intervals ∷ listsOf n ms) (listsOf n ms) d)
-
-sum-none : (ns : List ℕ) (k : Mapping) (ms : List Mapping) → (Mem (k .name) ns → ⊥) → sumNames ns (k ∷ ms) ≡ sumNames ns ms
-unfolding sumNames
-sum-none [] k ms h = refl
-sum-none (n ∷ ns) k ms h = omega (arith, lists-no k ms n (λ d. h (inl d)), sum-none ns k ms (λ j. h (inr j)))
-
-sum-one : (ns : List ℕ) (k : Mapping) (ms : List Mapping) → Once ns → sumNames ns (k ∷ ms) ≤ length (k .intervals) + sumNames ns ms
-unfolding sumNames
-sum-one [] k ms o = omega arith
-sum-one (n ∷ ns) k ms o =
-    eqb-case (λ (b : ℕ). sumLen (listsOf n (k ∷ ms)) + sumNames ns (k ∷ ms) ≤ length (k .intervals) + (sumLen (listsOf n ms) + sumNames ns ms)) (k .name) n 0 0
-    (λ d. omega (arith, lists-yes k ms n d, sum-none ns k ms (λ j. o .0 (subst (λ (x : ℕ). Mem x ns) d j))))
-    (λ d. omega (arith, lists-no k ms n d, sum-one ns k ms (o .1)))
-
-sum-nothing : (ns : List ℕ) → sumNames ns [] ≡ 0
-unfolding sumNames listsOf sumLen
-sum-nothing [] = refl
-sum-nothing (n ∷ ns) = omega (arith, sum-nothing ns)
-
-sum-bound : (ms : List Mapping) (ns : List ℕ) → Once ns → sumNames ns ms ≤ countIntervals ms
-unfolding countIntervals
-sum-bound [] ns o = omega (arith, sum-nothing ns)
-sum-bound (k ∷ ms) ns o = omega (arith, sum-one ns k ms o, sum-bound ms ns o)
 
 clash-none : (r : List Mapping) → clash ≡ merged r → _≡_ {A = ℕ} 0 1
 clash-none r e = cc
