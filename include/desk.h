@@ -12,6 +12,7 @@
  *   - no other thread writes, during a call, what the call is handed; there is no state beside what is handed in, so that
  *     calls on different memory may run at the same time;
  *   - DESK_STACK bytes of stack are free.
+ * Of the C library the archive needs memset alone.
  *
  * Lengths are in elements. Instruments, symbols and dates are 32 bits wide, moments, hints, cuts and places 64. A symbol is a
  * name's number. A moment is nanoseconds since the start of 1970-01-01. An interval holds its start and not its end. */
