@@ -232,3 +232,26 @@ pub fn print_wrong(text: &[u8], at: usize) {
     }
     io::write_all(1, b"\n");
 }
+
+// How many cases were tried, and how many of them were answered otherwise than expected.
+pub struct Tally {
+    pub cases: u64,
+    pub wrong: u64,
+}
+
+// One case more; its name is printed where it is wrong.
+pub fn tried(tally: Tally, name: &[u8], right: bool) -> Tally {
+    if right {
+        return Tally {
+            cases: one_more(tally.cases),
+            wrong: tally.wrong,
+        };
+    }
+    io::write_all(1, b"wrong: ");
+    io::write_all(1, name);
+    io::write_all(1, b"\n");
+    Tally {
+        cases: one_more(tally.cases),
+        wrong: one_more(tally.wrong),
+    }
+}

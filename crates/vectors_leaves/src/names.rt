@@ -1,32 +1,11 @@
 // Cases of names, each a call: full lists, bad names, bad lists, memory over its limits.
+use cases::Tally;
+use cases::tried;
 use leaves::names::Checked;
 use leaves::names::Named;
 use leaves::names::Placed;
 ghost use mathlib.Core.Path.{_≡_};
 ghost use lib.ListN.{length};
-
-// How many cases were tried, and how many of them were answered otherwise than expected.
-struct Tally {
-    cases: u64,
-    wrong: u64,
-}
-
-// One case more; it is printed where it is wrong.
-fn tried(tally: Tally, name: &[u8], right: bool) -> Tally {
-    if right {
-        return Tally {
-            cases: cases::one_more(tally.cases),
-            wrong: tally.wrong,
-        };
-    }
-    io::write_all(1, b"wrong: ");
-    io::write_all(1, name);
-    io::write_all(1, b"\n");
-    Tally {
-        cases: cases::one_more(tally.cases),
-        wrong: cases::one_more(tally.wrong),
-    }
-}
 
 // Whether naming was refused by this number.
 fn is_refused(named: Named, number: u32) -> bool {

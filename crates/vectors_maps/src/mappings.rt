@@ -1,4 +1,6 @@
 // Cases of the mapping call, each a call: what it answers, and what it leaves of table and name list.
+use cases::Tally;
+use cases::tried;
 use maps::mapping::Recorded;
 
 // A time that is missing, in a case.
@@ -6,29 +8,6 @@ const MISSING: u8 = 255;
 
 // The instrument of every record here.
 const INSTRUMENT: u8 = 7;
-
-// How many cases were tried, and how many of them were answered otherwise than expected.
-pub struct Tally {
-    pub cases: u64,
-    pub wrong: u64,
-}
-
-// One case more; it is printed where it is wrong.
-fn tried(tally: Tally, name: &[u8], right: bool) -> Tally {
-    if right {
-        return Tally {
-            cases: cases::one_more(tally.cases),
-            wrong: tally.wrong,
-        };
-    }
-    io::write_all(1, b"wrong: ");
-    io::write_all(1, name);
-    io::write_all(1, b"\n");
-    Tally {
-        cases: cases::one_more(tally.cases),
-        wrong: cases::one_more(tally.wrong),
-    }
-}
 
 // The bytes of a time, the lowest first: all of a missing one are 255.
 fn high(time: u8) -> u8 {

@@ -1,4 +1,5 @@
-use Prim.Native.Nat.{_≤_, _<_, _+_, _-_, _*_}
+-- `vectors_leaves::run` meets its contract: it is safe and ends; the measure is what is left of the text, and each line takes some of it. Assumes nothing.
+use Prim.Native.Nat.{_-_}
 use lib.ListN.{length}
 use native.Mathlib.Omega.{arith}
 use borrow.Author.Needs.{needs}
