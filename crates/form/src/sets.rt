@@ -10,6 +10,9 @@ ghost use Rattle.merging.specs.Metadata.{every};
 ghost use Rattle.judge.specs.Judge.{below};
 ghost use Rattle.form.specs.Sets.{IsUnited, AllUnited};
 
+// Numbers that an index finds: document 01's limit of names.
+const NAMES: usize = 4096;
+
 // Whether each entry was handed out, and how many the outcome has.
 pub struct United {
     pub known: bool,
@@ -21,7 +24,7 @@ pub fn together(a: &[u32], n: usize, b: &[u32], m: usize, t: &mut [u32]) -> usiz
     requires { ⌜ (n ≤ length (now a)) × (m ≤ length (now b)) × (n + m ≤ length (now t)) × (length (now t) < 4294967296) ⌝ }
     ensures { λ r. ⌜ AllUnited (take n (now (a .entry))) (take m (now (b .entry))) r (now (t .exit)) ⌝ }
 {
-    let mut at = [0u32; 4096];
+    let mut at = [0u32; NAMES];
     let c = add_all(t, 0, &mut at, a, n);
     add_all(t, c, &mut at, b, m)
 }
@@ -31,7 +34,7 @@ pub fn alone(a: &[u32], n: usize, t: &mut [u32]) -> usize
     requires { ⌜ (n ≤ length (now a)) × (n ≤ length (now t)) × (length (now t) < 4294967296) ⌝ }
     ensures { λ r. ⌜ AllUnited (take n (now (a .entry))) [] r (now (t .exit)) ⌝ }
 {
-    let mut at = [0u32; 4096];
+    let mut at = [0u32; NAMES];
     add_all(t, 0, &mut at, a, n)
 }
 

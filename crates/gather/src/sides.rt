@@ -18,6 +18,9 @@ ghost use Rattle.lay.specs.Flat.{listAt};
 ghost use Rattle.lay.specs.Names.{placed, layAll};
 ghost use Rattle.gather.specs.Sides.{Within, Layable, pickedTo, Sound};
 
+// Document 01's limit of mappings, and so of names that an index finds.
+const MAPPINGS: usize = 4096;
+
 // How many mappings and intervals are laid.
 pub struct Laid {
     pub mappings: usize,
@@ -88,10 +91,10 @@ pub fn lose_repeats(m: &[u32], n: usize, v: &[u32], gm: &mut [u32], gv: &mut [u3
     requires { ⌜ Sound (now m) n (now v) (length (now gm)) 0 (length (now gv)) 0 ⌝ }
     ensures { λ r. ⌜ placed (now (gm .exit)) (r .mappings) (now (gv .exit)) (r .intervals) ≡ layAll (now (gm .entry)) 0 (now (gv .entry)) 0 (enterAll [] (mappingsFrom (now (m .entry)) (now (v .entry)) 0 0 n)) ⌝ }
 {
-    let mut off = [0usize; 4096];
-    let mut names = [0u32; 4096];
-    let mut at = [0u32; 4096];
-    let mut last = [0usize; 4096];
+    let mut off = [0usize; MAPPINGS];
+    let mut names = [0u32; MAPPINGS];
+    let mut at = [0u32; MAPPINGS];
+    let mut last = [0usize; MAPPINGS];
     offsets(m, n, &mut off);
     let p = picks(m, n, &mut names, &mut at, &mut last);
     let e = lay_places(m, v, &off, &last, p, gm, 0, gv, 0);
@@ -114,8 +117,8 @@ pub fn follow(
     requires { ⌜ Sound (now m) n (now v) (length (now gm)) q (length (now gv)) k ⌝ }
     ensures { λ r. ⌜ placed (now (gm .exit)) (q + n) (now (gv .exit)) r ≡ layAll (now (gm .entry)) q (now (gv .entry)) k (mappingsFrom (now (m .entry)) (now (v .entry)) 0 0 n) ⌝ }
 {
-    let mut off = [0usize; 4096];
-    let mut places = [0usize; 4096];
+    let mut off = [0usize; MAPPINGS];
+    let mut places = [0usize; MAPPINGS];
     offsets(m, n, &mut off);
     count_up(&mut places, n);
     lay_places(m, v, &off, &places, n, gm, q, gv, k)

@@ -42,6 +42,20 @@ pub enum Finished {
 // Document 01's limit of names.
 const NAMES: usize = 4096;
 
+// Scratch for one metadata at document 01's limits: entries of a set, words of its mappings and of its intervals.
+const ENTRIES: usize = 4096;
+
+const MAPPING_WORDS: usize = 8192;
+
+const INTERVAL_WORDS: usize = 196608;
+
+// And for two.
+const BOTH_ENTRIES: usize = 8192;
+
+const BOTH_MAPPING_WORDS: usize = 16384;
+
+const BOTH_INTERVAL_WORDS: usize = 393216;
+
 // The lengths of five lists.
 fn lengths(
     symbols: usize,
@@ -105,11 +119,11 @@ pub fn open(
     if !sized(h, l, mappings) {
         return Opened::Refused(Refusal::BadMemory);
     }
-    let mut s = [0u32; 4096];
-    let mut p = [0u32; 4096];
-    let mut n = [0u32; 4096];
-    let mut m = [0u32; 8192];
-    let mut v = [0u32; 196608];
+    let mut s = [0u32; ENTRIES];
+    let mut p = [0u32; ENTRIES];
+    let mut n = [0u32; ENTRIES];
+    let mut m = [0u32; MAPPING_WORDS];
+    let mut v = [0u32; INTERVAL_WORDS];
     let used = total(mappings, h.mappings);
     let a = alone(symbols, h.symbols, &mut s);
     let b = alone(partial, h.partial, &mut p);
@@ -181,11 +195,11 @@ pub fn merge(
     if field != 0 {
         return Merged::Refused(Refusal::Differ(field));
     }
-    let mut s = [0u32; 8192];
-    let mut p = [0u32; 8192];
-    let mut n = [0u32; 8192];
-    let mut m = [0u32; 16384];
-    let mut v = [0u32; 393216];
+    let mut s = [0u32; BOTH_ENTRIES];
+    let mut p = [0u32; BOTH_ENTRIES];
+    let mut n = [0u32; BOTH_ENTRIES];
+    let mut m = [0u32; BOTH_MAPPING_WORDS];
+    let mut v = [0u32; BOTH_INTERVAL_WORDS];
     let verdict = outcome(
         names,
         h,

@@ -31,6 +31,15 @@ const REVERSED: u32 = 1;
 
 const CONFLICT: u32 = 7;
 
+// Scratch holds both sides together: twice 4,096 mappings of two words, twice 65,536 intervals of three.
+const NAMES: usize = 4096;
+
+const BOTH_MAPPINGS: usize = 8192;
+
+const BOTH_MAPPING_WORDS: usize = 16384;
+
+const BOTH_INTERVAL_WORDS: usize = 393216;
+
 // What comes of a plan: a refusal's number, or the mappings and the intervals laid.
 pub enum Planned {
     Fault(u32),
@@ -97,9 +106,9 @@ fn merge_names(
     requires { ⌜ Linkable (now gm) q (now gv) (length (now temp)) (length (now om)) (length (now out)) ⌝ }
     ensures { λ r. ⌜ endNames r (now (om .exit)) (now (out .exit)) ≡ finishNames (now (om .entry)) 0 (now (out .entry)) 0 (byName (mappingsFrom (now (gm .entry)) (now (gv .entry)) 0 0 q)) ⌝ }
 {
-    let mut off = [0usize; 8192];
-    let mut nx = [0usize; 8192];
-    let mut head = [q; 4096];
+    let mut off = [0usize; BOTH_MAPPINGS];
+    let mut nx = [0usize; BOTH_MAPPINGS];
+    let mut head = [q; NAMES];
     offsets(gm, q, &mut off);
     link(gm, q, &mut nx, &mut head);
     lay_names(gm, q, gv, &off, &nx, &head, temp, om, out)
@@ -122,8 +131,8 @@ pub fn plan(
     requires { ⌜ Planable (now lm) n (now lv) (now rm) k (now rv) names (length (now om)) (length (now out)) ⌝ }
     ensures { λ r. ⌜ endPlan r (now (om .exit)) (now (out .exit)) ≡ planOf names rest (bothSides (now (lm .entry)) n (now (lv .entry)) (now (rm .entry)) k (now (rv .entry))) (now (om .entry)) (now (out .entry)) ⌝ }
 {
-    let mut gm = [0u32; 16384];
-    let mut gv = [0u32; 393216];
+    let mut gm = [0u32; BOTH_MAPPING_WORDS];
+    let mut gv = [0u32; BOTH_INTERVAL_WORDS];
     let g = gather_sides(lm, n, lv, rm, k, rv, &mut gm, &mut gv);
     let q = g.mappings;
     let e = g.intervals;
@@ -131,7 +140,7 @@ pub fn plan(
     if fault != 0 {
         return Planned::Fault(fault);
     }
-    let mut temp = [0u32; 393216];
+    let mut temp = [0u32; BOTH_INTERVAL_WORDS];
     let r = merge_names(&gm, q, &gv, &mut temp, om, out);
     match r {
         Names::Clash => Planned::Fault(CONFLICT),
