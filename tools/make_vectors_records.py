@@ -1,18 +1,20 @@
 #!/usr/bin/env python3
 """Writes the data of vectors_records: python3 tools/make_vectors_records.py
 
-crates/vectors_records/stdin has the cases, crates/vectors_records/stdout what the program must write. The answers come from
-tools/replay_model.py, which is written from document 01 alone; those of the traps and borders also stand below, by hand.
+crates/vectors_records/stdin has the cases, crates/vectors_records/stdout what the program must write. The answers come from the
+plain model of document 01 (oracle/model.py); those of the traps and borders also stand below, by hand.
 """
 import os
 import random
 import sys
 
+ROOT = os.path.join(os.path.dirname(os.path.abspath(__file__)), "..")
 sys.dont_write_bytecode = True
+sys.path.insert(0, os.path.join(ROOT, "oracle"))
 from make_bundle import bundle, record, section
-from replay_model import answers, replay
+from model import RecordMerge, Refused, replay
 
-HERE = os.path.join(os.path.dirname(os.path.abspath(__file__)), "..", "crates", "vectors_records")
+HERE = os.path.join(ROOT, "crates", "vectors_records")
 LATEST = 2**64 - 1
 
 cases, written = [], []
@@ -32,24 +34,30 @@ def replayed(name, made, by_hand=None):
     written.append(text)
 
 
-def lines(given):
+def told(buffer, cuts, hints):
+    """The answers of a merge to its first end and of one call more, a line each; or a refused opening."""
+    try:
+        merge = RecordMerge(buffer, cuts, hints)
+    except Refused as refused:
+        return f"{refused.answer[0]}\n"
     text = ""
-    for answer in given:
-        if answer[0] == "record":
-            text += "record " + " ".join(str(number) for number in answer[1:]) + "\n"
-        elif answer[0] == "damage":
-            text += "13 " + " ".join(str(number) for number in answer[1:]) + "\n"
-        else:
-            text += "end\n"
-    return text
+    while True:
+        try:
+            handed = merge.next()
+        except Refused as refused:
+            text += " ".join(str(number) for number in refused.answer) + "\n"
+            continue
+        if handed is None:
+            return text + "end\nend\n"
+        text += "record " + " ".join(str(number) for number in handed) + "\n"
 
 
-def merged(name, streams, hints, by_hand, cuts=None, refused=None):
+def merged(name, streams, hints, by_hand, cuts=None):
     """Streams and hints, merged to the first end and asked once more; or a refused opening."""
     buffer = b"".join(streams)
     if cuts is None:
         cuts = [sum(len(stream) for stream in streams[:i]) for i in range(len(streams) + 1)]
-    text = f"{refused}\n" if refused else lines(answers(streams, hints or [0] * len(streams))) + "end\n"
+    text = told(buffer, cuts, hints)
     assert by_hand == text, (name, text)
     title(name)
     numbers = [len(hints), *hints, len(cuts), *cuts]
@@ -74,13 +82,13 @@ def traps():
     replayed("a record of 1,024 bytes", bundle([record(5, 7, body=bytes(1008)) + record(6, 7)]), "0 5 7\n0 6 7\nend\n")
     merged("and one of 1,025", [record(5, 7, body=bytes(1009))], [], "13 0 0 2\nend\nend\n")
     merged("one empty stream", [b""], [], "end\nend\n")
-    merged("cuts 0 alone", [], [], "12\n", cuts=[0], refused=12)
-    merged("no cuts", [], [], "12\n", cuts=[], refused=12)
+    merged("cuts 0 alone", [], [], "12\n", cuts=[0])
+    merged("no cuts", [], [], "12\n", cuts=[])
     merged("no hints for two streams", [record(5, 7), b""], [], "record 0 0 16 1 7 5\nend\nend\n")
-    merged("one hint for two streams", [record(5, 7), b""], [0], "12\n", refused=12)
-    merged("cuts that fall", [record(5, 7)], [], "12\n", cuts=[0, 16, 8, 16], refused=12)
-    merged("cuts that end before the buffer does", [record(5, 7)], [], "12\n", cuts=[0, 15], refused=12)
-    merged("cuts that do not start at 0", [record(5, 7)], [], "12\n", cuts=[1, 16], refused=12)
+    merged("one hint for two streams", [record(5, 7), b""], [0], "12\n")
+    merged("cuts that fall", [record(5, 7)], [], "12\n", cuts=[0, 16, 8, 16])
+    merged("cuts that end before the buffer does", [record(5, 7)], [], "12\n", cuts=[0, 15])
+    merged("cuts that do not start at 0", [record(5, 7)], [], "12\n", cuts=[1, 16])
     merged("16 bytes left, length 17", [record(5, 7, length=17)], [], "13 0 0 3\nend\nend\n")
     merged("15 bytes left, length 0", [record(5, 7, length=0)[:15]], [], "13 0 0 1\nend\nend\n")
     merged("0 bytes left", [record(5, 7)], [], "record 0 0 16 1 7 5\nend\nend\n")
