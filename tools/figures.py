@@ -17,8 +17,8 @@ def lines(pattern, comment):
     return count
 
 
-log = open(sys.argv[1], encoding="utf-8").read()
-crates = [line.split(":")[0] for line in open("crates.txt", encoding="utf-8") if ":" in line and not line.startswith("#")]
+log = open(sys.argv[1], encoding="utf-8", errors="replace").read()
+crates = [line.split(":")[0] for line in open("crates.txt", encoding="utf-8") if ":" in line.split("#")[0]]
 print("| crate | seconds | code | definitions and laws | proofs | must-fail edits |")
 print("|---|---|---|---|---|---|")
 total = [0, 0, 0, 0, 0]

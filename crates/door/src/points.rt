@@ -6,10 +6,9 @@ use maps::lookup::Found;
 use maps::mapping::Recorded;
 use maps::table::Checked;
 ghost use mathlib.Core.Path.{_≡_};
-ghost use mathlib.Core.Bool.{false};
+ghost use mathlib.Core.Bool.{true, not, _||_};
 ghost use lib.ListN.{length};
 ghost use lib.Dec.{T};
-ghost use Rattle.leaves.specs.Refusal.{refused};
 ghost use Rattle.leaves.specs.Frame.{nameIn};
 ghost use Rattle.maps.specs.Entries.{entries};
 ghost use Rattle.maps.specs.Points.{rising, pointsFit, pointsChecked, pointFound};
@@ -37,12 +36,11 @@ pub extern "C" fn desk_get_point(
     found: &mut u32,
     symbol: &mut u32,
 ) -> u32
-    ensures memory { λ r. ⌜ (pointsFit (length (now (table .entry))) used ≡ false
-        → (r ≡ 15) × (now (found .exit) ≡ now (found .entry)) × (now (symbol .exit) ≡ now (symbol .entry))) ⌝ }
-    ensures sorted { λ r. ⌜ (T (rising (entries (now (table .entry)) used))
+    ensures right { λ r. ⌜ (T (not (pointsFit (length (now (table .entry))) used) || rising (entries (now (table .entry)) used))
         → (r ≡ numberIn (pointFound (now (table .entry)) used instrument))
         × (now (found .exit) ≡ givenIn (now (found .entry)) 0 (pointFound (now (table .entry)) used instrument))
         × (now (symbol .exit) ≡ valueIn (now (symbol .entry)) 0 (pointFound (now (table .entry)) used instrument))) ⌝ }
+    ensures accepted { λ r. ⌜ (pointsFit (length (now (table .entry))) used ≡ true → r ≡ 0) ⌝ }
 {
     let answer = maps::points::get(table, used, instrument);
     match answer {

@@ -1,5 +1,7 @@
 -- Each arm of the match is what its case says. Assumes nothing.
-use Rattle.door.specs.Answers.{numberIn, valueIn, givenIn}
+use mathlib.Core.Path.{refl, sym, ap, _∙_}
+use Rattle.tables.specs.Looks.{numberIn as looked-number}
+use Rattle.maps.specs.declared.lookup.Found.{Found}
 use Rattle.maps.specs.Points.{foundOf}
 use Rattle.door.specs.AnswersLaws.{told, done-number, done-value, done-given, not-number, not-value, not-given}
 use borrow.Author.Needs.{needs}
@@ -22,27 +24,32 @@ number-requires : tie.Need-number-requires
 number-requires c κs = search needs
 
 returns : tie.Need-returns
-unfolding numberIn valueIn givenIn
 returns c =
     let a = c .before .before .before .before .before .args in (
-      λ w. let e = told foundOf (c .before .before .before .get .ensures .0 w) (c .before .answer .given .1) in (done-number e, done-given (a .found .now) 0 e, done-value (a .symbol .now) 0 e),
-      λ t. let e = told foundOf (c .before .before .before .get .ensures .1 t) (c .before .answer .given .1) in (done-number e, done-given (a .found .now) 0 e, done-value (a .symbol .now) 0 e),
+      λ t.
+          let e = told foundOf (c .before .before .before .get .ensures .0 t) (c .before .answer .given .1) in
+          (done-number e, done-given (a .found .now) 0 e, done-value (a .symbol .now) 0 e),
+      λ w. refl,
     )
 
 returns-2 : tie.Need-returns-2
-unfolding numberIn valueIn givenIn
 returns-2 c =
     let a = c .before .before .before .before .args in (
-      λ w. let e = told foundOf (c .before .before .get .ensures .0 w) (c .enum-told .given .1) in (done-number e, done-given (a .found .now) 0 e, done-value (a .symbol .now) 0 e),
-      λ t. let e = told foundOf (c .before .before .get .ensures .1 t) (c .enum-told .given .1) in (done-number e, done-given (a .found .now) 0 e, done-value (a .symbol .now) 0 e),
+      λ t.
+          let e = told foundOf (c .before .before .get .ensures .0 t) (c .enum-told .given .1) in
+          (done-number e, done-given (a .found .now) 0 e, done-value (a .symbol .now) 0 e),
+      λ w. refl,
     )
 
 returns-3 : tie.Need-returns-3
-unfolding numberIn valueIn givenIn
 returns-3 c =
-    let a = c .before .before .before .before .before .before .args in (
-      λ w. let e = told foundOf (c .before .before .before .before .get .ensures .0 w) (c .before .before .answer2 .given .1) in (not-number (c .before .before .answer2 .given .0 .0) (c .number .ensures) e, not-given (c .before .before .answer2 .given .0 .0) (a .found .now) 0 e, not-value (c .before .before .answer2 .given .0 .0) (a .symbol .now) 0 e),
-      λ t. let e = told foundOf (c .before .before .before .before .get .ensures .1 t) (c .before .before .answer2 .given .1) in (not-number (c .before .before .answer2 .given .0 .0) (c .number .ensures) e, not-given (c .before .before .answer2 .given .0 .0) (a .found .now) 0 e, not-value (c .before .before .answer2 .given .0 .0) (a .symbol .now) 0 e),
+    let a = c .before .before .before .before .before .before .args in
+    let r = c .before .before .answer2 .given .0 .0 in (
+      λ t.
+          let e = told foundOf (c .before .before .before .before .get .ensures .0 t) (c .before .before .answer2 .given .1) in
+          (not-number r (c .number .ensures) e, not-given r (a .found .now) 0 e, not-value r (a .symbol .now) 0 e),
+      λ w.
+          c .number .ensures ∙ sym (ap (λ (x : Found). looked-number (foundOf x)) (c .before .before .answer2 .given .1)) ∙ c .before .before .before .before .get .ensures .1 w,
     )
 
 pub desk-get-point-spec : {M : Type 1} → statement M
