@@ -62,11 +62,11 @@ pub within-end : (xs bs : List ℕ) (i : ℕ) → length xs ≡ length bs → le
 unfolding within
 within-end xs bs i e h = let g : length xs ≤ i = omega arith in rw (drop-of-length-le xs g, drop-of-length-le bs h) refl
 
-and-left : (a b : Bool) → (a && b) ≡ true → a ≡ true
+pub and-left : (a b : Bool) → (a && b) ≡ true → a ≡ true
 and-left true b e = refl
 and-left false b e = e
 
-and-right : (a b : Bool) → (a && b) ≡ true → b ≡ true
+pub and-right : (a b : Bool) → (a && b) ≡ true → b ≡ true
 and-right true b e = e
 and-right false true e = refl
 and-right false false e = e

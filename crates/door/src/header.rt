@@ -15,7 +15,20 @@ fn field_widths() -> [u64; 14]
     ensures { λ r. ⌜ r ≡ widths ⌝ }
 {
     [
-        255, 4294967295, 65535, TOP, TOP, TOP, 255, 255, 1, TOP, TOP, TOP, TOP, TOP,
+        255,
+        4294967295,
+        65535,
+        TOP,
+        TOP,
+        TOP,
+        255,
+        255,
+        1,
+        TOP,
+        TOP,
+        TOP,
+        TOP,
+        TOP,
     ]
 }
 
