@@ -15,8 +15,9 @@ use borrow.Author.Tests.{lt-ltb, le-ltb, le-leb, lt-leb, ltb-true, ltb-false}
 use Rattle.theory.specs.Answer.{Answer, answer}
 use Rattle.theory.specs.Fields.{putField, length-put, put-byte}
 use Rattle.theory.specs.RunsTools.{cond-case, ltb-case}
-use Rattle.leaves.specs.NumberText.{numberText, someDigits, digits}
-use Rattle.leaves.specs.Days.{dayOf}
+use Rattle.leaves.specs.NumberText.{numberText, someDigits, digits, isDigit}
+use Rattle.leaves.specs.Calendar.{isDate, dayNumber}
+use Rattle.leaves.specs.Days.{dayOf, inRange}
 use Rattle.leaves.specs.Refusal.{numberOf, valuesOf, refused}
 use Rattle.leaves.specs.declared.refusal.Refusal.{Refusal}
 use Rattle.leaves.specs.declared.refusal.Refusal.the-variants.{Reversed, NoRoom, UnknownSymbol, BadName, NoNameRoom, Differ, Conflict, NotNumber, NoInstrumentId, OutsideQuery, NoDate, BadStreams, Damaged, IllFormed, BadMemory}
@@ -219,3 +220,200 @@ module _ (room : ℕ) (es : List Entry) where
   pub taken-full : (e : Entry) → room < length (setEntry e es) → pointTaken room (setTo e) es ≡ refusedBy 2
   unfolding pointTaken ifRoom
   taken-full e h = rw (lt-ltb room (length (setEntry e es)) h) refl
+
+-- ---- what a build gives: a sorted table with known symbols that fits its room, or one of the refusals that document 01 has for it
+
+unfoldable pub pointRefusal : ℕ → Bool
+pointRefusal c = eqb c 2 || (eqb c 3 || (eqb c 8 || (eqb c 9 || (eqb c 10 || eqb c 11))))
+
+pub record Sorted (room names : ℕ) (es : List Entry) : Type 0 where
+  pub sorted : T (rising es)
+  pub known : T (allKnown names es)
+  pub fits : length es ≤ room
+
+abbrev pub Sound : ℕ → ℕ → Build Entry → Type 0
+Sound room names (stopped c t k) = T (pointRefusal c)
+Sound room names (built es) = Sorted room names es
+
+abbrev OutcomeSound : ℕ → ℕ → Outcome Entry → Type 0
+OutcomeSound room names (refusedBy c) = T (pointRefusal c)
+OutcomeSound room names (stored es) = Sorted room names es
+
+abbrev StepSound : ℕ → Step Entry → Type 0
+StepSound names (stop c) = T (pointRefusal c)
+StepSound names skip = Unit {0}
+StepSound names (setTo e) = e .symbol < names
+
+-- a reading that meets no other refusal
+abbrev Only : {X : Type 0} → ℕ → Read X → Type 0
+Only w r = (c : ℕ) → fault c ≡ r → c ≡ w
+
+only-fault : {X : Type 0} (w : ℕ) → Only {X = X} w (fault w)
+only-fault w c e = cc
+
+only-value : {X : Type 0} (w : ℕ) (x : X) → Only w (value x)
+only-value w x c e = cc
+
+only-cond : {X : Type 0} (w : ℕ) (b : Bool) {x y : Read X} → Only w x → Only w y → Only w (cond b x y)
+only-cond w true p q = p
+only-cond w false p q = q
+
+abbrev Reads : ℕ → Answer → Type 0
+Reads w a = Only w (readOf a)
+
+reads-cond : (w : ℕ) (b : Bool) (x y : Answer) → Reads w x → Reads w y → Reads w (cond b x y)
+reads-cond w true x y p q = p
+reads-cond w false x y p q = q
+
+reads-done : (w v : ℕ) → Reads w (answer 0 (v ∷ []))
+unfolding readOf
+reads-done w v = only-value w v
+
+reads-stuck : (place : ℕ) → Reads 8 (answer 8 (place ∷ []))
+unfolding readOf
+reads-stuck place = only-fault 8
+
+digits-8 : (place v : ℕ) (s : List ℕ) → Reads 8 (digits place v s)
+unfolding digits
+digits-8 place v [] = reads-done 8 v
+digits-8 place v (b ∷ s) = reads-cond 8 (isDigit b && leb (v * 10 + (b - 48)) 4294967295) _ _ (digits-8 (place + 1) (v * 10 + (b - 48)) s) (reads-stuck place)
+
+some-8 : (place : ℕ) (s : List ℕ) → Reads 8 (someDigits place s)
+unfolding someDigits
+some-8 place [] = reads-stuck place
+some-8 place (b ∷ s) = digits-8 place 0 (b ∷ s)
+
+number-8 : (text : List ℕ) → Only 8 (numberIn text)
+unfolding numberIn numberText
+number-8 [] = reads-stuck 0
+number-8 (b ∷ s) = reads-cond 8 (eqb b 43) (someDigits 1 s) (someDigits 0 (b ∷ s)) (some-8 1 s) (some-8 0 (b ∷ s))
+
+day-11 : (date : ℕ) → Only 11 (dayIn date)
+unfolding dayIn dayOf readOf
+day-11 date = reads-cond 11 (isDate date && inRange date) (answer 0 (dayNumber date ∷ [])) (refused NoDate) (reads-done 11 (dayNumber date)) (only-fault 11)
+
+direction-9 : (f : Fields) → Only 9 (directionOf f)
+unfolding directionOf directionBy
+direction-9 f = only-cond 9 (eqb (f .stype-out) 0) (only-value 9 Forward) (only-cond 9 (eqb (f .stype-in) 0) (only-value 9 Inverse) (only-fault 9))
+
+numbered-sound : (names v : ℕ) (r : Read ℕ) → v < names → Only 8 r → StepSound names (numbered v r)
+unfolding numbered reading pointRefusal
+numbered-sound names v (fault c) h f = rw (f c refl) tt
+numbered-sound names v (value i) h f = h
+
+number-sound : (names : ℕ) (d : Direction) (name n : ℕ) (symbol mapped : List ℕ) → name < names → n < names → StepSound names (numberStep d name n symbol mapped)
+number-sound names Forward name n symbol mapped h l = rw (forward-step name n symbol mapped) (numbered-sound names name (numberIn symbol) h (number-8 symbol))
+number-sound names Inverse name n symbol mapped h l = rw (inverse-step name n symbol mapped) (numbered-sound names n (numberIn mapped) l (number-8 mapped))
+
+module _ (texts : List (List ℕ)) (d : Direction) (name : ℕ) where
+  name-sound : (n : ℕ) (symbol : List ℕ) → n < length texts → StepSound (length texts) (nameStep texts d name n symbol)
+  unfolding nameStep reading pointRefusal
+  name-sound n symbol l =
+      text-case texts name (λ r. StepSound (length texts) (reading r (numberStep d name n symbol)))
+      (λ h. number-sound (length texts) d name n symbol (getD texts name []) h l) (λ h. tt)
+
+  unless-sound : (text : List ℕ) (s : Step Entry) → StepSound (length texts) s → StepSound (length texts) (unlessEmpty text s)
+  unfolding unlessEmpty isEmpty
+  unless-sound [] s h = tt
+  unless-sound (b ∷ t) s h = h
+
+  step-sound : (z : Counted) → StepSound (length texts) (pointStep texts d name z)
+  unfolding pointStep pointRefusal
+  step-sound (undated k) = tt
+  step-sound noneCounts = tt
+  step-sound (counts k x) = rw (stepped texts d name k x) (counted-sound x)
+    where
+      counted-sound : (x : Interval) → StepSound (length texts) (reading (textOf texts (x .symbol)) (λ symbol. unlessEmpty symbol (nameStep texts d name (x .symbol) symbol)))
+      counted-sound x =
+          text-case texts (x .symbol) (λ r. StepSound (length texts) (reading r (λ symbol. unlessEmpty symbol (nameStep texts d name (x .symbol) symbol))))
+          (λ h. unless-sound (getD texts (x .symbol) []) _ (name-sound (x .symbol) (getD texts (x .symbol) []) h)) (λ h. tt)
+
+module _ (room names : ℕ) (es : List Entry) (w : Sorted room names es) where
+  taken-sound : (s : Step Entry) → StepSound names s → OutcomeSound room names (pointTaken room s es)
+  unfolding pointTaken ifRoom pointRefusal
+  taken-sound (stop c) h = h
+  taken-sound skip h = w
+  taken-sound (setTo e) h =
+      ltb-case (OutcomeSound room names) room (length (setEntry e es)) _ _ (λ l. tt)
+      (λ l. record { sorted = set-rising e es (w .sorted); known = set-known names e es h (w .known); fits = l })
+
+module _ (room : ℕ) (texts : List (List ℕ)) (d : Direction) (day : ℕ) where
+  pick-sound : (ms : List Mapping) (t : ℕ) (es : List Entry) → Sorted room (length texts) es → Sound room (length texts) (pickMappings room texts d day t ms es)
+  unfolding pickMappings pickMapping onward
+  pick-sound [] t es w = w
+  pick-sound (m ∷ ms) t es w =
+      go (pointTaken room (pointStep texts d (m .name) (counting day 0 (m .intervals))) es)
+      (taken-sound room (length texts) es w (pointStep texts d (m .name) (counting day 0 (m .intervals))) (step-sound texts d (m .name) (counting day 0 (m .intervals))))
+      (pick-sound ms (t + 1))
+    where
+      go : (o : Outcome Entry) → OutcomeSound room (length texts) o
+          → ((out : List Entry) → Sorted room (length texts) out → Sound room (length texts) (pickMappings room texts d day (t + 1) ms out))
+          → Sound room (length texts) (onward t (placeOf (counting day 0 (m .intervals))) (pickMappings room texts d day (t + 1) ms) o)
+      go (refusedBy c) h f = h
+      go (stored out) h f = f out h
+
+pub point-sound : (room : ℕ) (texts : List (List ℕ)) (m : Metadata) (date : ℕ) → Sound room (length texts) (pointInTime room texts m date)
+unfolding pointInTime asked onDay pointRefusal rising allKnown
+point-sound room texts m date = go (dayIn date) (day-11 date)
+  where
+    on : (day : ℕ) (r : Read Direction) → Only 9 r → Sound room (length texts) (onDay room texts m r day)
+    on day (fault c) f = rw (f c refl) tt
+    on day (value d) f =
+        cond-case (Sound room (length texts)) (outsideQuery (m .fields) day) _ _ (λ h. tt)
+        (λ h. pick-sound room texts d day (m .mappings) 0 [] (record { sorted = tt; known = tt; fits = omega arith }))
+
+    go : (r : Read ℕ) → Only 11 r → Sound room (length texts) (asked room texts m r)
+    go (fault c) f = rw (f c refl) tt
+    go (value day) f = on day (directionOf (m .fields)) (direction-9 (m .fields))
+
+-- ---- "A later entry for one instrument replaces the earlier one"
+
+-- a mapping's entry before those set so far
+unfoldable pub onto : Step Entry → List Entry → List Entry
+onto (stop c) es = es
+onto skip es = es
+onto (setTo e) es = e ∷ es
+
+-- the entries that the mappings set, the latest first
+unfoldable pub settings : List (List ℕ) → Direction → ℕ → List Mapping → List Entry → List Entry
+unfolding onto pointStep counting
+settings texts d day [] es = es
+settings texts d day (m ∷ ms) es = settings texts d day ms (onto (pointStep texts d (m .name) (counting day 0 (m .intervals))) es)
+
+module _ (room : ℕ) (texts : List (List ℕ)) (d : Direction) (day : ℕ) where
+  picked-after : (ms : List Mapping) (t : ℕ) (es out : List Entry) → pickMappings room texts d day t ms (after es) ≡ built out → out ≡ after (settings texts d day ms es)
+  unfolding pickMappings pickMapping pointTaken ifRoom onward settings onto after
+  picked-after [] t es out e = cc
+  picked-after (m ∷ ms) t es out e = go (pointStep texts d (m .name) (counting day 0 (m .intervals))) (picked-after ms (t + 1)) e
+    where
+      rest : List Entry → Build Entry
+      rest = pickMappings room texts d day (t + 1) ms
+
+      place : ℕ
+      place = placeOf (counting day 0 (m .intervals))
+
+      roomy : (b : Bool) (x : Entry) → ((us out : List Entry) → rest (after us) ≡ built out → out ≡ after (settings texts d day ms us))
+          → onward t place rest (cond b (refusedBy 2) (stored (setEntry x (after es)))) ≡ built out → out ≡ after (settings texts d day ms (x ∷ es))
+      roomy true x f e = let z : _≡_ {A = ℕ} 0 1 = cc in absurd (omega arith)
+      roomy false x f e = f (x ∷ es) out e
+
+      go : (s : Step Entry) → ((us out : List Entry) → rest (after us) ≡ built out → out ≡ after (settings texts d day ms us))
+          → onward t place rest (pointTaken room s (after es)) ≡ built out → out ≡ after (settings texts d day ms (onto s es))
+      go (stop c) f e = let z : _≡_ {A = ℕ} 0 1 = cc in absurd (omega arith)
+      go skip f e = f es out e
+      go (setTo x) f e = roomy (ltb room (length (setEntry x (after es)))) x f e
+
+-- an instrument's symbol in the built table is that of the latest entry set for it, and one for which none was set has none
+pub point-latest : (room : ℕ) (texts : List (List ℕ)) (m : Metadata) (date : ℕ) {d : Direction} {day : ℕ} {es : List Entry}
+    → directionOf (m .fields) ≡ value d → dayIn date ≡ value day → pointInTime room texts m date ≡ built es
+    → (i : ℕ) → symbolFor i es ≡ symbolFor i (settings texts d day (m .mappings) [])
+unfolding pointInTime asked onDay after
+point-latest room texts m date {d} {day} {es} e f g i =
+    ap (symbolFor i)
+    (go (outsideQuery (m .fields) day)
+    (sym (ap (λ (r : Read Direction). onDay room texts m r day) e) ∙ sym (ap (asked room texts m) f) ∙ g))
+    ∙ latest (settings texts d day (m .mappings) []) i
+  where
+    go : (b : Bool) → cond b (stopped 10 0 0) (pickMappings room texts d day 0 (m .mappings) []) ≡ built es → es ≡ after (settings texts d day (m .mappings) [])
+    go true h = let z : _≡_ {A = ℕ} 0 1 = cc in absurd (omega arith)
+    go false h = picked-after room texts d day (m .mappings) 0 [] es h
