@@ -417,3 +417,77 @@ point-latest room texts m date {d} {day} {es} e f g i =
     go : (b : Bool) → cond b (stopped 10 0 0) (pickMappings room texts d day 0 (m .mappings) []) ≡ built es → es ≡ after (settings texts d day (m .mappings) [])
     go true h = let z : _≡_ {A = ℕ} 0 1 = cc in absurd (omega arith)
     go false h = picked-after room texts d day (m .mappings) 0 [] es h
+
+-- ---- entries laid over fewer entries
+
+-- two lists of one length that agree at x, or have a number stored over it
+put-agree : (w : ℕ) (b b′ : List ℕ) (at v x : ℕ) → length b ≡ length b′ → ((at ≤ x → x < at + w → ⊥) → getD b x 0 ≡ getD b′ x 0)
+    → getD (putField w b at v) x 0 ≡ getD (putField w b′ at v) x 0
+unfolding putField
+put-agree zero b b′ at v x l h = h (λ p q. omega arith)
+put-agree (suc w) b b′ at v x l h =
+    put-agree w (set b at (v % 256)) (set b′ at (v % 256)) (at + 1) (v / 256) x (length-set b at (v % 256) ∙ l ∙ sym (length-set b′ at (v % 256)))
+    (λ out. first (ℕ-discrete x at) out)
+  where
+    inside : Dec (at < length b) → getD (set b at (v % 256)) at 0 ≡ getD (set b′ at (v % 256)) at 0
+    inside (yes i) = getD-set-same b at (v % 256) 0 i ∙ sym (getD-set-same b′ at (v % 256) 0 (omega arith))
+    inside (no i) =
+        List·getD-eq-default (set b at (v % 256)) 0 (omega (arith, length-set b at (v % 256)))
+        ∙ sym (List·getD-eq-default (set b′ at (v % 256)) 0 (omega (arith, length-set b′ at (v % 256))))
+
+    first : Dec (x ≡ at) → (at + 1 ≤ x → x < at + 1 + w → ⊥) → getD (set b at (v % 256)) x 0 ≡ getD (set b′ at (v % 256)) x 0
+    first (yes e) out = rw e (inside (decLt at (length b)))
+    first (no d) out =
+        getD-set-other b at x (v % 256) 0 d ∙ h (λ p q. out (omega arith) (omega arith)) ∙ sym (getD-set-other b′ at x (v % 256) 0 d)
+
+-- a place is within two parts that meet, or within neither
+apart : (a m x e : ℕ) → (a ≤ x → x < m → ⊥) → (m ≤ x → x < e → ⊥) → a ≤ x → x < e → ⊥
+apart a m x e p q l u = go (decLt x m)
+  where
+    go : Dec (x < m) → ⊥
+    go (yes h) = p l h
+    go (no h) = q (omega arith) u
+
+entry-agree : (b b′ : List ℕ) (k : ℕ) (e : Entry) (x : ℕ) → length b ≡ length b′ → ((k * 8 ≤ x → x < k * 8 + 8 → ⊥) → getD b x 0 ≡ getD b′ x 0)
+    → getD (putEntry b k e) x 0 ≡ getD (putEntry b′ k e) x 0
+unfolding putEntry
+entry-agree b b′ k e x l h =
+    put-agree 4 (putField 4 b (k * 8) (e .instrument)) (putField 4 b′ (k * 8) (e .instrument)) (k * 8 + 4) (e .symbol) x
+    (length-put 4 b (k * 8) (e .instrument) ∙ l ∙ sym (length-put 4 b′ (k * 8) (e .instrument)))
+    (λ out. put-agree 4 b b′ (k * 8) (e .instrument) x l
+    (λ out′. h (λ p q. apart (k * 8) (k * 8 + 4) x (k * 8 + 4 + 4) out′ out p (omega arith))))
+
+entry-outside : (b : List ℕ) (k : ℕ) (e : Entry) (x : ℕ) → (k * 8 ≤ x → x < k * 8 + 8 → ⊥) → getD (putEntry b k e) x 0 ≡ getD b x 0
+unfolding putEntry
+entry-outside b k e x out =
+    put-byte 4 (putField 4 b (k * 8) (e .instrument)) (k * 8 + 4) (e .symbol) x (λ p q. out (omega arith) (omega arith))
+    ∙ put-byte 4 b (k * 8) (e .instrument) x (λ p q. out (omega arith) (omega arith))
+
+entries-outside : (b : List ℕ) (k : ℕ) (es : List Entry) (x : ℕ) → (k * 8 ≤ x → x < (k + length es) * 8 → ⊥) → getD (putEntries b k es) x 0 ≡ getD b x 0
+unfolding putEntries
+entries-outside b k [] x out = refl
+entries-outside b k (e ∷ es) x out =
+    entries-outside (putEntry b k e) (suc k) es x (λ p q. out (omega arith) (omega arith))
+    ∙ entry-outside b k e x (λ p q. out (omega arith) (omega arith))
+
+-- two tables that differ at n places at most are one table once as many entries are laid over these
+put-over : (ys : List Entry) (b b′ : List ℕ) (k n : ℕ) → length b ≡ length b′ → ((x : ℕ) → (k * 8 ≤ x → x < (k + n) * 8 → ⊥) → getD b x 0 ≡ getD b′ x 0)
+    → n ≤ length ys → putEntries b k ys ≡ putEntries b′ k ys
+unfolding putEntries
+put-over [] b b′ k n l h c = ext-getD 0 b b′ l (λ x i. h x (λ p q. omega arith))
+put-over (y ∷ ys) b b′ k n l h c =
+    put-over ys (putEntry b k y) (putEntry b′ k y) (suc k) (n - 1) (length-putEntry b k y ∙ l ∙ sym (length-putEntry b′ k y))
+    (λ x out. entry-agree b b′ k y x l
+    (λ out′. h x (λ p q. apart (k * 8) (k * 8 + 8) x ((k + n) * 8) out′ (λ p′ q′. out (omega arith) (omega arith)) p q)))
+    (omega arith)
+
+pub entries-over : (z : List ℕ) (xs ys : List Entry) → length xs ≤ length ys → putEntries (putEntries z 0 xs) 0 ys ≡ putEntries z 0 ys
+entries-over z xs ys h = put-over ys (putEntries z 0 xs) z 0 (length xs) (length-putEntries z 0 xs) (entries-outside z 0 xs) h
+
+-- an entry that is set makes a list no shorter
+pub set-longer : (e : Entry) (es : List Entry) → length es ≤ length (setEntry e es)
+unfolding setEntry
+set-longer e [] = omega arith
+set-longer e (y ∷ ys) =
+    ltb-case (λ (l : List Entry). suc (length ys) ≤ length l) (y .instrument) (e .instrument) _ _ (λ h. omega (arith, set-longer e ys))
+    (λ h. ltb-case (λ (l : List Entry). suc (length ys) ≤ length l) (e .instrument) (y .instrument) _ _ (λ h. omega arith) (λ h. omega arith))
