@@ -1,0 +1,2 @@
+// The point-in-time build from metadata (01, The map over time).
+pub mod counted;
