@@ -1,2 +1,3 @@
 // The point-in-time build from metadata (01, The map over time).
 pub mod counted;
+pub mod entry;
