@@ -1,3 +1,4 @@
 // The point-in-time build from metadata (01, The map over time).
 pub mod counted;
 pub mod entry;
+pub mod mappings;
