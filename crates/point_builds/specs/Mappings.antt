@@ -23,6 +23,7 @@ use Rattle.maps.specs.PointsLaws.{set-rising}
 use Rattle.maps.specs.PointsSteps.{Stores}
 use Rattle.merging.specs.Metadata.{Mapping, mapping}
 use Rattle.merging.specs.Words.{nameAt, countAt, stretch, mappingsFrom, before}
+use Rattle.lay.specs.Link.{before-up}
 use Rattle.building.specs.declared.reading.Direction.{Direction}
 use Rattle.building.specs.Reading.{fault, value, readOf}
 use Rattle.building.specs.ReadingLaws.{refused-read}
@@ -100,9 +101,10 @@ module _ (size : ℕ) (t : List ℕ) (used : ℕ) (clean : Clean size t used) (x
   took : (b : Bool) → leb (length out) (size / 8) ≡ b → (r : Stored) → Stored-so b (storedOf r) → Picked size (pointTaken (size / 8) (set x) old) r t′
   took true f (Done k) s =
       let l : length out ≤ size / 8 = leb-true (length out) (size / 8) f in
-      let k-is : length out ≡ k = cc in
-      (subst (Clean size t′) k-is (set-clean (s .1 .0) (s .1 .1) l),
-      taken-set (size / 8) old x l ∙ ap stored (sym (s .1 .1) ∙ ap (entries t′) k-is))
+      let k-is : length out ≡ k = cc in (
+        subst (Clean size t′) k-is (set-clean (s .1 .0) (s .1 .1) l),
+        taken-set (size / 8) old x l ∙ ap stored (sym (s .1 .1) ∙ ap (entries t′) k-is),
+      )
   took true f (Refused r) s = absurd (never-done r (length out) (s .0))
   took false f (Done k) s = let z : _≡_ {A = ℕ} 0 2 = cc in absurd (omega arith)
   took false f (Refused r) s =
@@ -115,3 +117,89 @@ unfolding storedAnswer storedBytes usedThen entriesThen hasRoom
 store-set size t used w clean x h r t′ s =
     subst (λ (w : Wanted). Picked size (pointTaken (size / 8) (wantedOf w) (entries t used)) r t′) (sym h)
     (took size t used clean x t′ (leb (length (setEntry x (entries t used))) (length t / 8)) (ap (λ (n : ℕ). leb (length (setEntry x (entries t used))) (n / 8)) (sym (clean .lent))) r s)
+
+-- ---- the mappings
+
+-- from the mapping i on, whose intervals begin at `from`, the build comes to what it comes to in all
+pub record Going (size : ℕ) (texts : List (List ℕ)) (d : Direction) (day : ℕ) (m v : List ℕ) (count : ℕ) (t : List ℕ) (used from i : ℕ) : Type 0 where
+  pub within : i ≤ count
+  pub begins : from ≡ before m i
+  pub clean : Clean size t used
+  pub same : pickMappings (size / 8) texts d day i (mappingsFrom m v i from (count - i)) (entries t used) ≡ pickMappings (size / 8) texts d day 0 (mappingsFrom m v 0 0 count) []
+
+pub clean-own : {size : ℕ} {t : List ℕ} {used : ℕ} → Clean size t used → Clean (length t) t used
+clean-own {size} {t} {used} w = subst (λ (n : ℕ). Clean n t used) (sym (w .lent)) w
+
+module _ (size : ℕ) (texts : List (List ℕ)) (d : Direction) (day : ℕ) (m v : List ℕ) (count : ℕ) where
+  abbrev all : Build Entry
+  all = pickMappings (size / 8) texts d day 0 (mappingsFrom m v 0 0 count) []
+
+  pub going-start : {t : List ℕ} → Clean size t 0 → Going size texts d day m v count t 0 0 0
+  unfolding before entriesFrom
+  going-start {t} w =
+      let e : count - 0 ≡ count = omega arith in
+      record {
+        within = omega arith;
+        begins = refl;
+        clean = w;
+        same = ap (λ (n : ℕ). pickMappings (size / 8) texts d day 0 (mappingsFrom m v 0 0 n) []) e;
+      }
+
+  module _ {t : List ℕ} {used from i : ℕ} (g : Going size texts d day m v count t used from i) where
+    pub going-end : count ≤ i → Clean size t used × (all ≡ built (entries t used))
+    unfolding mappingsFrom
+    going-end h =
+        let e : count - i ≡ 0 = omega arith in (
+          g .clean,
+          sym (g .same) ∙ ap (λ (n : ℕ). pickMappings (size / 8) texts d day i (mappingsFrom m v i from n) (entries t used)) e ∙ pick-end (size / 8) texts d day i (entries t used),
+        )
+
+    module _ (h : i < count) {n : ℕ} (q : n ≡ countAt m i) where
+      pub going-room : 3 * before m count ≤ length v → 3 * (from + n) ≤ length v
+      unfolding before
+      going-room l =
+          let up : before m (suc i) ≤ before m count = before-up m (suc i) count h in
+          let b = g .begins in
+          omega arith
+
+      module _ {name : ℕ} (p : name ≡ nameAt m i) (w : Wanted) (s : wantedOf w ≡ pointStep texts d name (counting day 0 (stretch v from n))) where
+        abbrev rest : List Mapping
+        rest = mappingsFrom m v (i + 1) (from + n) (count - (i + 1))
+
+        left : pickMappings (size / 8) texts d day i (mapping name (stretch v from n) ∷ rest) (entries t used) ≡ all
+        unfolding mappingsFrom
+        left =
+            let e : count - i ≡ suc (count - (i + 1)) = omega arith in
+            let k = count - (i + 1) in
+            ap (λ (c : ℕ). pickMappings (size / 8) texts d day i (mapping c (stretch v from n) ∷ mappingsFrom m v (i + 1) (from + n) k) (entries t used)) p
+            ∙ ap (λ (c : ℕ). pickMappings (size / 8) texts d day i (mapping (nameAt m i) (stretch v from c) ∷ mappingsFrom m v (i + 1) (from + c) k) (entries t used)) q
+            ∙ sym (ap (λ (c : ℕ). pickMappings (size / 8) texts d day i (mappingsFrom m v i from c) (entries t used)) e)
+            ∙ g .same
+
+        outcome : pickMapping (size / 8) texts d day (mapping name (stretch v from n)) (entries t used) ≡ pointTaken (size / 8) (wantedOf w) (entries t used)
+        outcome = pick-is (size / 8) texts d day (mapping name (stretch v from n)) (entries t used) s
+
+        module _ (r : Stored) (t′ : List ℕ) (o : Picked (length t) (pointTaken (length t / 8) (wantedOf w) (entries t used)) r t′) where
+          own : Picked size (pointTaken (size / 8) (wantedOf w) (entries t used)) r t′
+          own = subst (λ (n : ℕ). Picked n (pointTaken (n / 8) (wantedOf w) (entries t used)) r t′) (g .clean .lent) o
+
+          pub going-refused : {why : Refusal} → r ≡ Refused why → buildAnswer all ≡ answer (numberOf why) []
+          unfolding buildAnswer
+          going-refused {why} e =
+              let f : pointTaken (size / 8) (wantedOf w) (entries t used) ≡ refusedBy (numberOf why) =
+              subst (λ (r : Stored). Picked size (pointTaken (size / 8) (wantedOf w) (entries t used)) r t′) e own in
+              ap buildAnswer (sym left ∙ pick-refused (size / 8) texts d day i (mapping name (stretch v from n)) rest (entries t used) (outcome ∙ f))
+
+          pub going-on : {then : ℕ} → r ≡ Done then → Going size texts d day m v count t′ then (from + n) (i + 1)
+          unfolding before
+          going-on {then} e =
+              let f : Clean size t′ then × (pointTaken (size / 8) (wantedOf w) (entries t used) ≡ stored (entries t′ then)) =
+              subst (λ (r : Stored). Picked size (pointTaken (size / 8) (wantedOf w) (entries t used)) r t′) e own in
+              let z : suc i ≡ i + 1 = omega arith in
+              let b = g .begins in
+              record {
+                within = omega arith;
+                begins = (let y : from + n ≡ before m i + countAt m i = omega arith in y) ∙ ap (before m) z;
+                clean = f .0;
+                same = sym (pick-stored (size / 8) texts d day i (mapping name (stretch v from n)) rest (entries t used) (outcome ∙ f .1)) ∙ left;
+              }

@@ -1,8 +1,8 @@
 // The mappings of a metadata, one after the other, onto an empty point-in-time table (01, "Point-in-time build"): each sets its
 // entry, and a later entry for one instrument replaces the earlier one.
-use building::reading::Direction;
 use crate::entry::Wanted;
 use crate::entry::entry_of_mapping;
+use building::reading::Direction;
 use maps::points::Stored;
 use maps::points::set_entry;
 use walk::words::count_at;
