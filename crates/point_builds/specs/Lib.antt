@@ -2,3 +2,5 @@ pub mod Counted
 pub mod Entry
 pub mod Mappings
 pub mod Begin
+pub mod Build
+pub mod BuildLaws
