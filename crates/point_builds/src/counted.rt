@@ -5,9 +5,9 @@ use leaves::days::day_of;
 use merging::Interval;
 use walk::words::interval_at;
 ghost use mathlib.Core.Path.{_≡_};
-ghost use Prim.Native.Nat.{_+_, _*_, _≤_};
+ghost use Prim.Native.Nat.{_+_, _*_, _≤_, _<_};
 ghost use lib.ListN.{length};
-ghost use Rattle.merging.specs.Words.{stretch};
+ghost use Rattle.merging.specs.Words.{intervalAt, stretch};
 ghost use Rattle.building.specs.Reading.{dayIn};
 ghost use Rattle.building.specs.PointInTime.{counting};
 ghost use Rattle.point_builds.specs.Counted.{coverOf, countedOf};
@@ -51,14 +51,22 @@ fn lies_to(x: Interval, day: u32) -> Cover
     }
 }
 
-// The first interval of a stretch that covers a day. A helper: the stretch stands in the list.
+// The interval of number k of a mapping, whose intervals begin at the place `from`.
+fn interval_of(intervals: &[u32], from: usize, count: usize, k: usize) -> Interval
+    requires { ⌜ (k < count) × (3 * (from + count) ≤ length (now intervals)) ⌝ }
+    ensures { λ r. ⌜ r ≡ intervalAt (now (intervals .entry)) (from + k) ⌝ }
+{
+    interval_at(intervals, from + k)
+}
+
+// The first interval of a mapping that covers a day. A helper: the mapping's intervals stand in the list.
 pub fn first_covering(intervals: &[u32], from: usize, count: usize, day: u32) -> Covering
     requires { ⌜ 3 * (from + count) ≤ length (now intervals) ⌝ }
     ensures { λ r. ⌜ countedOf r ≡ counting day 0 (stretch (now (intervals .entry)) from count) ⌝ }
 {
     let mut k = 0;
     while k < count {
-        let x = interval_at(intervals, from + k);
+        let x = interval_of(intervals, from, count, k);
         let c = lies_to(x, day);
         match c {
             Cover::Undated => {

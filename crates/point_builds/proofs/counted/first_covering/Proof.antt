@@ -14,11 +14,8 @@ abbrev μ-loop : tie.MeasureT-loop
 loop-holds : tie.Need-loop-holds Inv-loop μ-loop
 loop-holds c = search (needs, passed-none)
 
-add-interval-at : tie.Need-add-interval-at Inv-loop μ-loop
-add-interval-at c = search needs
-
-interval-at-requires : tie.Need-interval-at-requires Inv-loop μ-loop
-interval-at-requires c κs = search needs
+interval-of-requires : tie.Need-interval-of-requires Inv-loop μ-loop
+interval-of-requires c κs = search needs
 
 lies-to-requires : tie.Need-lies-to-requires Inv-loop μ-loop
 lies-to-requires c κs = search needs
@@ -57,8 +54,7 @@ first-covering-spec =
     Inv-loop
     μ-loop
     loop-holds
-    add-interval-at
-    interval-at-requires
+    interval-of-requires
     lies-to-requires
     enum-told
     returns
