@@ -14,7 +14,7 @@ use Rattle.door.specs.Answers.{numberIn, valueIn, givenIn, damageIn, eit
 -- ---- a refusal
 
 -- every refusal has a number of its own, so what was held stays
-refused-value : (r : Refusal) (held k : ℕ) → valueIn held k (refused r) ≡ held
+pub refused-value : (r : Refusal) (held k : ℕ) → valueIn held k (refused r) ≡ held
 unfolding valueIn
 refused-value Reversed held k = refl
 refused-value NoRoom held k = refl

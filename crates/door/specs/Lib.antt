@@ -4,3 +4,4 @@ pub mod Merge
 pub mod MergeLaws
 pub mod Merger
 pub mod MergerLaws
+pub mod Builds
