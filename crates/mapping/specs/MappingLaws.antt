@@ -21,15 +21,15 @@ use Rattle.leaves.specs.declared.frame.Mapping.the-variants.{Other, Symbol, Ref
 use Rattle.leaves.specs.Names.{memoryOk, wellFormed as wellFormedNames, namesOf, least, isName, written, hasRoom as hasNameRoom}
 use Rattle.leaves.specs.declared.names.Naming.the-variants.{New, Refused as NotNamed}
 use Rattle.leaves.specs.NamesLaws.{holds, fails, Memory, memory, Ordered as OrderedNames, formed, ordered, numbered-old, numbered-fresh}
 use Rattle.maps.specs.Entries.{entries}
 use Rattle.maps.specs.declared.entries.Entry.{Entry}
 use Rattle.maps.specs.Points.{rising, allKnown, wellFormed, setEntry, pointsFit, hasRoom, storedAnswer, storedBytes}
 use Rattle.maps.specs.PointsSteps.{fit-bytes, Stores}
-use Rattle.maps.specs.Mapping.{Wanted, nothing, refuses, stores, numberingIn, numbered, pointWanted, pointJudged, pointOutcome, pointJoins, pointTable, pointUsed, pointEntries, pointAnswer, namesThen, sizeThen, bytesThen, endsThen, planOf}
+use Rattle.mapping.specs.Mapping.{Wanted, nothing, refuses, stores, numberingIn, numbered, pointWanted, pointJudged, pointOutcome, pointJoins, pointTable, pointUsed, pointEntries, pointAnswer, namesThen, sizeThen, bytesThen, endsThen, planOf}
 use Rattle.tables.specs.Table.{Ordered}
 use Rattle.tables.specs.Memory.{width, rows, roomOf}
-use Rattle.maps.specs.declared.mapping.Plan.{Plan}
-use Rattle.maps.specs.declared.mapping.Plan.the-variants.{Nothing, Store, Refuse}
+use Rattle.mapping.specs.declared.mapping.Plan.{Plan}
+use Rattle.mapping.specs.declared.mapping.Plan.the-variants.{Nothing, Store, Refuse}
 
 -- where the name of a plan lies, and that there is room for it if it is new
 pub record Lies (bytes ends : List ℕ) (names size : ℕ) (rec : List ℕ) (from to : ℕ) (new : Bool) : Type 0 where

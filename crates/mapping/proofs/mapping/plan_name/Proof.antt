@@ -1,9 +1,9 @@
 -- The name is sought, and room for it is judged where it is new. Assumes nothing.
 use native.Mathlib.Omega.{arith}
-use Rattle.maps.specs.MappingLaws.{find-ready, few-names, plan-old, plan-new, plan-none, lies-old, lies-new}
+use Rattle.mapping.specs.MappingLaws.{find-ready, few-names, plan-old, plan-new, plan-none, lies-old, lies-new}
 use borrow.Author.Needs.{needs}
-use Rattle.maps.proofs.mapping.plan_name.Statement.{statement}
-use Rattle.maps.proofs.mapping.plan_name.Tie as tie
+use Rattle.mapping.proofs.mapping.plan_name.Statement.{statement}
+use Rattle.mapping.proofs.mapping.plan_name.Tie as tie
 
 find-name-requires : tie.Need-find-name-requires
 find-name-requires c κs =

@@ -1,9 +1,9 @@
 -- A new name is added, an old one changes nothing. Assumes nothing.
 use native.Mathlib.Omega.{arith}
-use Rattle.maps.specs.MappingLaws.{joined-new, joined-old}
+use Rattle.mapping.specs.MappingLaws.{joined-new, joined-old}
 use borrow.Author.Needs.{needs}
-use Rattle.maps.proofs.mapping.join_name.Statement.{statement}
-use Rattle.maps.proofs.mapping.join_name.Tie as tie
+use Rattle.mapping.proofs.mapping.join_name.Statement.{statement}
+use Rattle.mapping.proofs.mapping.join_name.Tie as tie
 
 add-name-requires : tie.Need-add-name-requires
 add-name-requires c κs =

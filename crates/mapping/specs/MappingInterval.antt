@@ -24,10 +24,10 @@ use Rattle.leaves.specs.declared.names.Naming.the-variants.{Old, New, Refused a
 use Rattle.tables.specs.Table.{Row, Outcome, refusedBy, stored, Ordered, wellFormed, ifRoom, insertRows}
 use Rattle.tables.specs.Memory.{sameValue, knownValue, width, rows, roomOf, badTable, memoryAfter, outcomeAnswer, Gives}
 use Rattle.tables.specs.Outcomes.{Lent, table-lent, checked-ordered}
-use Rattle.maps.specs.declared.mapping.Plan.{Plan}
-use Rattle.maps.specs.declared.mapping.Plan.the-variants.{Nothing, Store, Refuse}
-use Rattle.maps.specs.Mapping.{Wanted, nothing, refuses, stores, numberingIn, numbered, timeWanted, timeJudged, mappingRow, timeOutcome, isStored, timeJoins, timeTable, timeUsed, timeRows, timeAnswer, outcomeThen, namesThen, sizeThen, bytesThen, endsThen, planOf}
-use Rattle.maps.specs.MappingLaws.{Lies, Ready, Forward, ReadyInterval, asked, asked-part}
+use Rattle.mapping.specs.declared.mapping.Plan.{Plan}
+use Rattle.mapping.specs.declared.mapping.Plan.the-variants.{Nothing, Store, Refuse}
+use Rattle.mapping.specs.Mapping.{Wanted, nothing, refuses, stores, numberingIn, numbered, timeWanted, timeJudged, mappingRow, timeOutcome, isStored, timeJoins, timeTable, timeUsed, timeRows, timeAnswer, outcomeThen, namesThen, sizeThen, bytesThen, endsThen, planOf}
+use Rattle.mapping.specs.MappingLaws.{Lies, Ready, Forward, ReadyInterval, asked, asked-part}
 
 -- ---- what the record asks
 

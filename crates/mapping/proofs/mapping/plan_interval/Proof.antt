@@ -1,10 +1,10 @@
 -- Each of the record's cases, of the name's and of the two times. Assumes nothing.
 use mathlib.Core.List.{[]}
-use Rattle.maps.specs.MappingLaws.{asked-part}
-use Rattle.maps.specs.MappingInterval.{time-forward, time-other, time-refused, time-bad, time-reversed, time-empty, time-symbol}
+use Rattle.mapping.specs.MappingLaws.{asked-part}
+use Rattle.mapping.specs.MappingInterval.{time-forward, time-other, time-refused, time-bad, time-reversed, time-empty, time-symbol}
 use borrow.Author.Needs.{needs}
-use Rattle.maps.proofs.mapping.plan_interval.Statement.{statement}
-use Rattle.maps.proofs.mapping.plan_interval.Tie as tie
+use Rattle.mapping.proofs.mapping.plan_interval.Statement.{statement}
+use Rattle.mapping.proofs.mapping.plan_interval.Tie as tie
 
 read-mapping-requires : tie.Need-read-mapping-requires
 read-mapping-requires c κs = search needs

@@ -1,9 +1,9 @@
 -- Each of the record's cases, and of the name's. Assumes nothing.
 use mathlib.Core.List.{[]}
-use Rattle.maps.specs.MappingLaws.{asked-other, asked-refused, asked-part, asked-symbol, asked-bad}
+use Rattle.mapping.specs.MappingLaws.{asked-other, asked-refused, asked-part, asked-symbol, asked-bad}
 use borrow.Author.Needs.{needs}
-use Rattle.maps.proofs.mapping.plan_point.Statement.{statement}
-use Rattle.maps.proofs.mapping.plan_point.Tie as tie
+use Rattle.mapping.proofs.mapping.plan_point.Statement.{statement}
+use Rattle.mapping.proofs.mapping.plan_point.Tie as tie
 
 read-mapping-requires : tie.Need-read-mapping-requires
 read-mapping-requires c κs = search needs

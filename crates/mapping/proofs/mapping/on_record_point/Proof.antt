@@ -1,11 +1,11 @@
 -- The plan's cases: nothing, a refusal, or an entry to store, which fits the room or not. Assumes nothing.
 use mathlib.Core.Path.{sym, ap, _∙_}
 use Rattle.maps.specs.Points.{storedOf}
-use Rattle.maps.specs.Mapping.{planOf}
-use Rattle.maps.specs.MappingLaws.{ready-store, leaves-nothing, leaves-refused, leaves-full, leaves-stored}
+use Rattle.mapping.specs.Mapping.{planOf}
+use Rattle.mapping.specs.MappingLaws.{ready-store, leaves-nothing, leaves-refused, leaves-full, leaves-stored}
 use borrow.Author.Needs.{needs}
-use Rattle.maps.proofs.mapping.on_record_point.Statement.{statement}
-use Rattle.maps.proofs.mapping.on_record_point.Tie as tie
+use Rattle.mapping.proofs.mapping.on_record_point.Statement.{statement}
+use Rattle.mapping.proofs.mapping.on_record_point.Tie as tie
 
 judge-point-requires : tie.Need-judge-point-requires
 judge-point-requires c κs = search needs

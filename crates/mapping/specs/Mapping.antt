@@ -15,13 +15,13 @@ use Rattle.leaves.specs.declared.names.Naming.{Naming}
 use Rattle.leaves.specs.declared.names.Naming.the-variants.{Old, New, Refused as NotNamed}
 use Rattle.tables.specs.Table.{Row, Outcome, refusedBy, stored, nowStored, ifRoom, insertRows, wellFormed as wellFormedRows}
 use Rattle.tables.specs.Memory.{sameValue, knownValue, rows, roomOf, badTable, memoryAfter, usedAfter}
 use Rattle.maps.specs.Entries.{entries}
 use Rattle.maps.specs.Points.{wellFormed, setEntry, pointsFit, hasRoom, storedBytes, usedThen, entriesThen}
 use Rattle.maps.specs.declared.entries.Entry.{Entry}
-use Rattle.maps.specs.declared.mapping.Plan.{Plan}
-use Rattle.maps.specs.declared.mapping.Plan.the-variants.{Nothing, Store, Refuse}
-use Rattle.maps.specs.declared.mapping.Recorded.{Recorded}
-use Rattle.maps.specs.declared.mapping.Recorded.the-variants.{Done, Refused}
+use Rattle.mapping.specs.declared.mapping.Plan.{Plan}
+use Rattle.mapping.specs.declared.mapping.Plan.the-variants.{Nothing, Store, Refuse}
+use Rattle.mapping.specs.declared.mapping.Recorded.{Recorded}
+use Rattle.mapping.specs.declared.mapping.Recorded.the-variants.{Done, Refused}
 
 -- ---- what is wanted
 

@@ -1,14 +1,5 @@
 // The mapping call (document 01, "The map over time" and "Merging records"): a record's bytes, a name list and a table. All is
 // read and judged before anything is stored, and the name joins the list last.
-use crate::entries::Entry;
-use crate::insert::Inserted;
-use crate::insert::place;
-use crate::interval::Interval;
-use crate::points::Stored;
-use crate::points::points_fit;
-use crate::points::set_entry;
-use crate::points::well_formed;
-use crate::table::bad_table;
 use leaves::frame::Mapping;
 use leaves::frame::read_mapping;
 use leaves::names::add_name;
@@ -18,6 +9,15 @@ use leaves::names::is_list;
 use leaves::names::is_memory;
 use leaves::names::is_name;
 use leaves::refusal::Refusal;
+use maps::entries::Entry;
+use maps::insert::Inserted;
+use maps::insert::place;
+use maps::interval::Interval;
+use maps::points::Stored;
+use maps::points::points_fit;
+use maps::points::set_entry;
+use maps::points::well_formed;
+use maps::table::bad_table;
 ghost use mathlib.Core.Path.{_≡_};
 ghost use mathlib.Core.Bool.{true};
 ghost use Prim.Native.Nat.{_≤_};
@@ -26,9 +26,9 @@ ghost use lib.Seq.{slice};
 ghost use Rattle.leaves.specs.Names.{memoryOk, wellFormed};
 ghost use Rattle.leaves.specs.Frame.{mappedIn, nameIn};
 ghost use Rattle.tables.specs.Memory.{rows};
 ghost use Rattle.maps.specs.Entries.{entries};
-ghost use Rattle.maps.specs.Mapping.{numberingIn, numbered, pointWanted, pointJudged, pointJoins, pointTable, pointUsed, pointEntries, pointAnswer, timeWanted, timeJudged, timeJoins, timeTable, timeUsed, timeRows, timeAnswer, namesThen, sizeThen, bytesThen, endsThen, recordedOf, planOf};
-ghost use Rattle.maps.specs.MappingLaws.{Lies, Ready, ReadyPoint, Forward, ReadyInterval};
+ghost use Rattle.mapping.specs.Mapping.{numberingIn, numbered, pointWanted, pointJudged, pointJoins, pointTable, pointUsed, pointEntries, pointAnswer, timeWanted, timeJudged, timeJoins, timeTable, timeUsed, timeRows, timeAnswer, namesThen, sizeThen, bytesThen, endsThen, recordedOf, planOf};
+ghost use Rattle.mapping.specs.MappingLaws.{Lies, Ready, ReadyPoint, Forward, ReadyInterval};
 
 // What a mapping call comes to before the room of the table is judged.
 pub enum Plan {
@@ -234,7 +234,7 @@ fn judge_interval(
     if !is_memory(bytes.len(), ends.len(), names, size) {
         return Plan::Refuse(Refusal::BadMemory);
     }
-    if !crate::table::well_formed(table, used, names) {
+    if !maps::table::well_formed(table, used, names) {
         return Plan::Refuse(Refusal::IllFormed);
     }
     if !is_list(bytes, ends, names, size) {

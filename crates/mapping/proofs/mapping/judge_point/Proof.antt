@@ -1,11 +1,11 @@
 -- The tests in document 01's order, then the record. Assumes nothing.
 use mathlib.Core.Path.{_∙_}
 use Rattle.leaves.specs.NamesLaws.{holds, fails, memory}
 use Rattle.maps.specs.PointsSteps.{fit-bytes}
-use Rattle.maps.specs.MappingLaws.{ready-point, judged-table, judged-list, judged-ill-table, judged-ill-list, judged-on}
+use Rattle.mapping.specs.MappingLaws.{ready-point, judged-table, judged-list, judged-ill-table, judged-ill-list, judged-on}
 use borrow.Author.Needs.{needs}
-use Rattle.maps.proofs.mapping.judge_point.Statement.{statement}
-use Rattle.maps.proofs.mapping.judge_point.Tie as tie
+use Rattle.mapping.proofs.mapping.judge_point.Statement.{statement}
+use Rattle.mapping.proofs.mapping.judge_point.Tie as tie
 
 points-fit-requires : tie.Need-points-fit-requires
 points-fit-requires c κs = search needs

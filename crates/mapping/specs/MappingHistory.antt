@@ -25,13 +25,13 @@ use Rattle.tables.specs.Memory.{sameValue, knownValue, rows, roomOf, badTable, 
 use Rattle.tables.specs.MemoryLaws.{length-rows}
 use Rattle.tables.specs.Outcomes.{Lent, table-lent}
 use Rattle.tables.specs.Calls.{Holds}
 use Rattle.maps.specs.declared.entries.Entry.{Entry}
 use Rattle.maps.specs.Entries.{entries}
 use Rattle.maps.specs.Points as points
 use Rattle.maps.specs.Points.{rising, setEntry, pointsFit}
 use Rattle.maps.specs.PointsLaws.{set-rising, set-known}
-use Rattle.maps.specs.Mapping.{pointWanted, pointJudged, pointOutcome, Wanted, nothing, refuses, stores, numberingIn, numbered, timeWanted, timeJudged, mappingRow, timeOutcome, timeTable, timeUsed, timeRows, namesThen}
-use Rattle.maps.specs.MappingLaws.{two, and-fst, and-snd, room}
+use Rattle.mapping.specs.Mapping.{pointWanted, pointJudged, pointOutcome, Wanted, nothing, refuses, stores, numberingIn, numbered, timeWanted, timeJudged, mappingRow, timeOutcome, timeTable, timeUsed, timeRows, namesThen}
+use Rattle.mapping.specs.MappingLaws.{two, and-fst, and-snd, room}
 
 -- ---- what a call that stores has passed
 

@@ -1,11 +1,11 @@
 -- The plan's cases: nothing, a refusal, or an interval to insert, which fits the room or not. Assumes nothing.
 use mathlib.Core.Path.{sym, ap, _∙_}
 use Rattle.maps.specs.Insert.{insertedOf}
-use Rattle.maps.specs.Mapping.{planOf}
-use Rattle.maps.specs.MappingInterval.{interval-store, time-nothing, time-refuses, time-full, time-stored}
+use Rattle.mapping.specs.Mapping.{planOf}
+use Rattle.mapping.specs.MappingInterval.{interval-store, time-nothing, time-refuses, time-full, time-stored}
 use borrow.Author.Needs.{needs}
-use Rattle.maps.proofs.mapping.on_record.Statement.{statement}
-use Rattle.maps.proofs.mapping.on_record.Tie as tie
+use Rattle.mapping.proofs.mapping.on_record.Statement.{statement}
+use Rattle.mapping.proofs.mapping.on_record.Tie as tie
 
 judge-interval-requires : tie.Need-judge-interval-requires
 judge-interval-requires c κs = search needs

@@ -1,10 +1,10 @@
 -- The tests in document 01's order, then the record. Assumes nothing.
 use mathlib.Core.Path.{sym, _∙_}
 use Rattle.leaves.specs.NamesLaws.{holds, fails, memory}
-use Rattle.maps.specs.MappingInterval.{table-bytes, ready-interval, timed-table, timed-list, timed-ill-table, timed-ill-list, timed-on}
+use Rattle.mapping.specs.MappingInterval.{table-bytes, ready-interval, timed-table, timed-list, timed-ill-table, timed-ill-list, timed-on}
 use borrow.Author.Needs.{needs}
-use Rattle.maps.proofs.mapping.judge_interval.Statement.{statement}
-use Rattle.maps.proofs.mapping.judge_interval.Tie as tie
+use Rattle.mapping.proofs.mapping.judge_interval.Statement.{statement}
+use Rattle.mapping.proofs.mapping.judge_interval.Tie as tie
 
 bad-table-requires : tie.Need-bad-table-requires
 bad-table-requires c κs = search needs

@@ -11,9 +11,9 @@ use Rattle.leaves.specs.Names.{startOf, nameOf, namesFrom, namesOf, isName, sta
 use Rattle.leaves.specs.Utf8.{isUtf8, from-2, within, utf8-2}
 use Rattle.tables.specs.Table.{badRoom, wellFormed as wellFormedRows, ordered, allKnown as allKnownRows}
 use Rattle.tables.specs.Memory.{rowsFrom, badTable}
 use Rattle.maps.specs.Entries.{entryAt, entriesFrom, putEntry, putEntries}
 use Rattle.maps.specs.Points.{pointsFit, rising, allKnown, wellFormed, hasRoom, storedBytes, setEntry}
-use Rattle.maps.specs.Mapping.{nothing, refuses, stores, pointJudged, timeJudged, pointOutcome, pointAnswer, pointJoins, pointTable}
+use Rattle.mapping.specs.Mapping.{nothing, refuses, stores, pointJudged, timeJudged, pointOutcome, pointAnswer, pointJoins, pointTable}
 
 -- a symbol mapping of instrument 7, with a name of less than 200 bytes and times below 256 or missing
 time : ℕ → List ℕ
