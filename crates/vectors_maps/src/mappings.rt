@@ -3,7 +3,7 @@
 use crate::tables::narrow;
 use crate::tables::room;
 use leaves::refusal::Refusal;
-use maps::mapping::Recorded;
+use mapping::mapping::Recorded;
 ghost use mathlib.Core.Path.{_≡_};
 ghost use lib.ListN.{length};
 ghost use Rattle.io.specs.Counts.{Counts};
@@ -210,7 +210,7 @@ fn records(
     rec: &[u8],
 ) -> bool {
     if over_time {
-        let recorded = maps::mapping::on_record(
+        let recorded = mapping::mapping::on_record(
             table,
             given.used,
             bytes,
@@ -222,7 +222,7 @@ fn records(
         let answer = answer_of(recorded, given);
         return is_expected(text, at, answer, table, bytes, ends);
     }
-    let recorded = maps::mapping::on_record_point(
+    let recorded = mapping::mapping::on_record_point(
         table,
         given.used,
         bytes,
