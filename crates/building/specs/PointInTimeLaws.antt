@@ -1,26 +1,23 @@
 -- What the point-in-time build comes to, step by step, and what it comes to in all: the table is sorted with known symbols, the latest
 -- entry of an instrument decides, and only document 01's refusals are given. Assumes nothing.
 use mathlib.Core.Path.{_≡_, refl, sym, ap, _∙_}
-use mathlib.Core.Logic.{_≢_}
 use Prim.Native.Nat.{ℕ, zero, suc, _+_, _-_, _*_, _/_, _%_, _≤_, _<_}
 use native.Mathlib.Omega.{arith}
 use native.Mathlib.Decide.{decLt, ℕ-discrete}
-use mathlib.Core.Bool.{Bool, true, false, not, _&&_, _||_, cond}
-use mathlib.Core.Option.{Option, none, some}
+use mathlib.Core.Bool.{Bool, true, false, _&&_, _||_, cond}
 use mathlib.Core.List.{List, [], _∷_}
-use lib.ListN.{length, getD, set, length-set, replicate, List·getD-eq-default}
+use lib.ListN.{length, getD, set, length-set, List·getD-eq-default}
 use lib.Seq.{getD-set-same, getD-set-other, ext-getD}
 use lib.Dec.{T, leb, ltb, eqb}
-use borrow.Author.Tests.{lt-ltb, le-ltb, le-leb, lt-leb, ltb-true, ltb-false}
+use borrow.Author.Tests.{lt-ltb, le-ltb, le-leb, lt-leb}
 use Rattle.theory.specs.Answer.{Answer, answer}
 use Rattle.theory.specs.Fields.{putField, length-put, put-byte}
 use Rattle.theory.specs.RunsTools.{cond-case, ltb-case}
 use Rattle.leaves.specs.NumberText.{numberText, someDigits, digits, isDigit}
 use Rattle.leaves.specs.Calendar.{isDate, dayNumber}
 use Rattle.leaves.specs.Days.{dayOf, inRange}
-use Rattle.leaves.specs.Refusal.{numberOf, valuesOf, refused}
-use Rattle.leaves.specs.declared.refusal.Refusal.{Refusal}
-use Rattle.leaves.specs.declared.refusal.Refusal.the-variants.{Reversed, NoRoom, UnknownSymbol, BadName, NoNameRoom, Differ, Conflict, NotNumber, NoInstrumentId, OutsideQuery, NoDate, BadStreams, Damaged, IllFormed, BadMemory}
+use Rattle.leaves.specs.Refusal.{refused}
+use Rattle.leaves.specs.declared.refusal.Refusal.the-variants.{NoDate}
 use Rattle.tables.specs.Table.{Outcome, refusedBy, stored, ifRoom}
 use Rattle.maps.specs.declared.entries.Entry.{Entry}
 use Rattle.maps.specs.Entries.{putEntry, putEntries}
@@ -32,9 +29,8 @@ use Rattle.merging.specs.Metadata.{Fields, Mapping, Metadata}
 use Rattle.building.specs.Reading.{Read, fault, value, readOf, textOf, numberIn, dayIn, isEmpty, symbolUnder, symbolIn, directionBy, directionOf}
 use Rattle.building.specs.declared.reading.Direction.{Direction}
 use Rattle.building.specs.declared.reading.Direction.the-variants.{Forward, Inverse}
-use Rattle.building.specs.declared.reading.Symbol.{Symbol}
 use Rattle.building.specs.declared.reading.Symbol.the-variants.{Unknown, Empty, Filled}
-use Rattle.building.specs.OverTime.{Step, stop, skip, set as setTo, reading, unlessEmpty, Build, stopped, built, onward, buildAnswer}
+use Rattle.building.specs.OverTime.{Step, stop, skip, set as setTo, reading, unlessEmpty, Build, stopped, built, onward}
 use Rattle.building.specs.PointInTime.{Counted, undated, none as noneCounts, counts, countsFrom, counting, numberSide, entryOf, pointStep, placeOf, pointTaken, pickMapping, pickMappings, outsideQuery, onDay, asked, pointInTime}
 
 -- ---- which interval counts

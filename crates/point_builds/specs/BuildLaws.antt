@@ -1,12 +1,12 @@
 -- What each way through the build leaves, and that it is what the definition says. Assumes nothing.
 use mathlib.Core.Path.{_≡_, refl, sym, ap, _∙_, subst}
-use Prim.Native.Nat.{ℕ, zero, suc, _+_, _*_, _/_, _≤_, _<_}
+use Prim.Native.Nat.{ℕ, _*_, _/_, _≤_}
 use native.Mathlib.Omega.{arith}
-use mathlib.Core.Bool.{Bool, true, false, not, _&&_, cond, and-eq-true-iff}
+use mathlib.Core.Bool.{Bool, true, false, not, _&&_, and-eq-true-iff}
 use mathlib.Core.List.{List, [], _∷_}
 use lib.ListN.{length, replicate, length-replicate}
 use lib.Dec.{T}
-use Rattle.theory.specs.Answer.{Answer, answer}
+use Rattle.theory.specs.Answer.{answer}
 use Rattle.leaves.specs.Refusal.{numberOf, refused}
 use Rattle.leaves.specs.Names.{namesOf, wellFormed, memoryOk}
 use Rattle.leaves.specs.NamesLaws.{fails, holds, Memory, memory, Ordered, formed, ordered}
@@ -21,9 +21,9 @@ use Rattle.maps.specs.Points.{rising, pointsFit}
 use Rattle.merging.specs.Words.{mappingsFrom, before}
 use Rattle.form.specs.declared.header.Header.{Header}
 use Rattle.form.specs.declared.header.Lengths.{Lengths}
-use Rattle.form.specs.Header.{headerFields, Lists, lists, lengthsOf, metadataOf, sizedOf, Sized, sized-facts}
+use Rattle.form.specs.Header.{headerFields, Lists, lengthsOf, metadataOf, sizedOf, Sized, sized-facts}
 use Rattle.building.specs.declared.reading.Direction.{Direction}
-use Rattle.building.specs.Reading.{Read, fault, value}
+use Rattle.building.specs.Reading.{Read}
 use Rattle.building.specs.OverTime.{Build, stopped, built, buildAnswer}
 use Rattle.building.specs.PointInTime.{pickMappings, pointInTime}
 use Rattle.building.specs.PointInTimeLaws.{pointRefusal, Sound, point-sound}

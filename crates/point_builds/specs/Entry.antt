@@ -1,8 +1,8 @@
 -- What a mapping asks of the table, by what its parts answered. Assumes nothing.
-use mathlib.Core.Path.{_≡_, refl, sym, ap, _∙_}
+use mathlib.Core.Path.{_≡_, sym, ap, _∙_}
 use Prim.Native.Nat.{ℕ, _≤_, _<_}
 use mathlib.Core.List.{List, []}
-use lib.ListN.{length, getD}
+use lib.ListN.{getD}
 use Rattle.leaves.specs.Refusal.{numberOf}
 use Rattle.leaves.specs.Names.{namesOf}
 use Rattle.leaves.specs.NamesList.{names-length}
@@ -18,7 +18,7 @@ use Rattle.building.specs.declared.reading.Symbol.the-variants.{Unknown, Empty,
 use Rattle.building.specs.Reading.{numberIn, symbolIn, instrumentRead}
 use Rattle.building.specs.ReadingLaws.{text-unknown, text-known}
 use Rattle.building.specs.OverTime.{Step, stop, skip, set, reading}
-use Rattle.building.specs.PointInTime.{Counted, undated, none, counts, counting, pointStep}
+use Rattle.building.specs.PointInTime.{Counted, counts, pointStep}
 use Rattle.building.specs.PointInTimeLaws.{numbered, numberStep, nameStep, filled-text, step-unknown, step-empty, step-filled, name-unknown, name-known, forward-step, inverse-step}
 use Rattle.point_builds.specs.declared.counted.Covering.{Covering}
 use Rattle.point_builds.specs.declared.counted.Covering.the-variants as covering

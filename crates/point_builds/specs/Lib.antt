@@ -4,3 +4,4 @@ pub mod Mappings
 pub mod Begin
 pub mod Build
 pub mod BuildLaws
+pub mod Examples

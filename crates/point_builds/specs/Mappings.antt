@@ -1,23 +1,22 @@
 -- The table while the mappings are laid: its entries, and 0 in every other place; what each mapping makes of it. Assumes nothing.
 use mathlib.Core.Path.{_≡_, refl, sym, ap, _∙_, subst}
-use Prim.Native.Nat.{ℕ, zero, suc, _+_, _-_, _*_, _/_, _≤_, _<_}
+use Prim.Native.Nat.{ℕ, suc, _+_, _-_, _*_, _/_, _≤_, _<_}
 use native.Mathlib.Omega.{arith}
 use mathlib.Core.Bool.{Bool, true, false, cond}
 use mathlib.Core.List.{List, [], _∷_}
-use lib.ListN.{length, replicate, length-replicate}
+use lib.ListN.{length, replicate}
 use lib.Dec.{T, leb}
 use borrow.Author.Tests.{leb-true, leb-false}
 use Rattle.theory.specs.Answer.{Answer, answer}
-use Rattle.leaves.specs.Refusal.{numberOf, valuesOf, refused}
-use Rattle.leaves.specs.Names.{namesOf}
+use Rattle.leaves.specs.Refusal.{numberOf, refused}
 use Rattle.leaves.specs.declared.refusal.Refusal.{Refusal}
-use Rattle.leaves.specs.declared.refusal.Refusal.the-variants.{Reversed, NoRoom, UnknownSymbol, BadName, NoNameRoom, Differ, Conflict, NotNumber, NoInstrumentId, OutsideQuery, NoDate, BadStreams, Damaged, IllFormed, BadMemory}
+use Rattle.leaves.specs.declared.refusal.Refusal.the-variants.{NoRoom}
 use Rattle.tables.specs.Table.{Outcome, refusedBy, stored}
 use Rattle.maps.specs.declared.entries.Entry.{Entry}
 use Rattle.maps.specs.declared.points.Stored.{Stored}
 use Rattle.maps.specs.declared.points.Stored.the-variants.{Done, Refused}
 use Rattle.maps.specs.Entries.{entriesFrom, entries, putEntries}
-use Rattle.maps.specs.EntriesLaws.{length-putEntries, length-entries}
+use Rattle.maps.specs.EntriesLaws.{length-putEntries}
 use Rattle.maps.specs.Points.{rising, setEntry, hasRoom, storedAnswer, storedBytes, usedThen, entriesThen, storedOf}
 use Rattle.maps.specs.PointsLaws.{set-rising}
 use Rattle.maps.specs.PointsSteps.{Stores}
@@ -27,7 +26,7 @@ use Rattle.lay.specs.Link.{before-up}
 use Rattle.building.specs.declared.reading.Direction.{Direction}
 use Rattle.building.specs.Reading.{fault, value, readOf}
 use Rattle.building.specs.ReadingLaws.{refused-read}
-use Rattle.building.specs.OverTime.{Step, stop, skip, set, Build, stopped, built, buildAnswer}
+use Rattle.building.specs.OverTime.{set, Build, built, buildAnswer}
 use Rattle.building.specs.PointInTime.{pointStep, counting, pointTaken, pickMapping, pickMappings}
 use Rattle.building.specs.PointInTimeLaws.{pick-end, pick-stored, pick-refused, pick-is, taken-stop, taken-skip, taken-set, taken-full, entries-over, set-longer}
 use Rattle.point_builds.specs.declared.entry.Wanted.{Wanted}

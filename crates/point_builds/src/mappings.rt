@@ -7,7 +7,6 @@ use maps::points::Stored;
 use maps::points::set_entry;
 use walk::words::count_at;
 use walk::words::name_at;
-ghost use mathlib.Core.Path.{_≡_};
 ghost use mathlib.Core.List.{[]};
 ghost use Prim.Native.Nat.{_*_, _/_, _≤_};
 ghost use lib.ListN.{length};
