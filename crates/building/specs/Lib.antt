@@ -2,4 +2,5 @@ pub mod Reading
 pub mod ReadingLaws
 pub mod OverTime
 pub mod PointInTime
+pub mod OverTimeLaws
 pub mod Examples
