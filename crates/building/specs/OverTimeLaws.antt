@@ -67,6 +67,37 @@ module _ (texts : List (List ℕ)) (n : ℕ) where
       ap (λ (r : Read (List ℕ)). reading r (λ text. unlessEmpty text (f text))) (p .1)
       ∙ ap (λ (b : Bool). cond b skip (f (getD texts n []))) (p .2)
 
+-- ---- the dates
+
+module _ (instrument symbol : ℕ) (x : Interval) where
+  -- 11 for the start
+  pub dated-start : {c : ℕ} → momentIn (x .start) ≡ fault c → stop c ≡ dated instrument symbol x
+  unfolding dated reading
+  dated-start e = rw e refl
+
+  -- then for the end
+  pub dated-end : {a c : ℕ} → momentIn (x .start) ≡ value a → momentIn (x .end) ≡ fault c → stop c ≡ dated instrument symbol x
+  unfolding dated reading
+  dated-end e d = rw (e, d) refl
+
+  -- and else the row
+  pub dated-row : {a b : ℕ} → momentIn (x .start) ≡ value a → momentIn (x .end) ≡ value b
+      → set (record { instrument = instrument; start = a; end = b; value = symbol }) ≡ dated instrument symbol x
+  unfolding dated reading
+  dated-row e d = rw (e, d) refl
+
+-- ---- the mapping's name
+
+module _ (texts : List (List ℕ)) (n : ℕ) where
+  -- 3, then as its text
+  pub name-unknown : {X : Type 0} (f : List ℕ → Read X) → length texts ≤ n → fault 3 ≡ andThen (textOf texts n) f
+  unfolding andThen textOf
+  name-unknown f h = ap (λ (r : Read (List ℕ)). andThen r f) (sym (cond-ge n (length texts) _ _ h))
+
+  pub name-known : {X : Type 0} (f : List ℕ → Read X) → n < length texts → f (getD texts n []) ≡ andThen (textOf texts n) f
+  unfolding andThen textOf
+  name-known f h = ap (λ (r : Read (List ℕ)). andThen r f) (sym (cond-lt n (length texts) _ _ h))
+
 -- ---- a fault's number
 
 -- a refusal that comes with no values: neither 6 nor 13
