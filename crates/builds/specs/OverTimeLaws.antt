@@ -18,7 +18,7 @@ use Rattle.maps.specs.declared.interval.Interval.{Interval}
 use Rattle.maps.specs.declared.insert.Inserted.{Inserted}
 use Rattle.maps.specs.declared.insert.Inserted.the-variants as inserted
 use Rattle.tables.specs.Table.{Row, Ordered, Outcome, refusedBy, stored, nowStored, wellFormed, entered}
-use Rattle.tables.specs.Memory.{width, sameValue, knownValue, rows, roomOf, written, memoryAfter, outcomeAnswer, usedAfter, Gives}
+use Rattle.tables.specs.Memory.{width, sameValue, knownValue, rowsFrom, rows, rowsBytes, roomOf, written, memoryAfter, outcomeAnswer, usedAfter, Gives}
 use Rattle.tables.specs.MemoryLaws.{length-rows}
 use Rattle.tables.specs.Tests.{formed-parts}
 use Rattle.tables.specs.Pieces.{symbols}
@@ -27,14 +27,22 @@ use Rattle.leaves.specs.Names.{namesOf}
 use Rattle.leaves.specs.NamesList.{names-length}
 use Rattle.leaves.specs.declared.days.Moment.{Moment}
 use Rattle.leaves.specs.declared.days.Moment.the-variants as moment
+use Rattle.leaves.specs.FrameLaws.{refused-not-done}
 use Rattle.merging.specs.declared.Interval.{Interval as Span}
+use Rattle.merging.specs.Metadata.{Mapping, mapping}
+use Rattle.merging.specs.Words.{nameAt, countAt, before, intervalAt, stretch, mappingsFrom}
+use Rattle.lay.specs.Link.{before-next, before-up}
+use Rattle.building.specs.declared.reading.Direction.{Direction}
+use Rattle.building.specs.declared.reading.Direction.the-variants as direction
 use Rattle.building.specs.declared.reading.Symbol.{Symbol}
 use Rattle.building.specs.declared.reading.Symbol.the-variants.{Unknown, Empty, Filled}
 use Rattle.building.specs.declared.reading.Instrument.{Instrument}
 use Rattle.building.specs.declared.reading.Instrument.the-variants as instrument
-use Rattle.building.specs.Reading.{Read, fault, andThen, textOf, numberIn, momentIn, symbolIn, instrumentRead, momentRead}
-use Rattle.building.specs.OverTime.{Step, stop, skip, set, reading, dated, forwardStep, inverseStep, taken, Build, stopped, built, buildAnswer}
-use Rattle.building.specs.OverTimeLaws.{unknown-stops, empty-skips, filled-known, filled-reads, dated-start, dated-end, dated-row, name-unknown, name-known, Plain, PlainStep, forward-plain, inverse-plain, written-again}
+use Rattle.building.specs.declared.reading.Heading.{Heading}
+use Rattle.building.specs.declared.reading.Heading.the-variants as heading
+use Rattle.building.specs.Reading.{Read, fault, andThen, textOf, numberIn, momentIn, directionBy, symbolIn, headingRead, instrumentRead, momentRead}
+use Rattle.building.specs.OverTime.{Step, stop, skip, set, reading, dated, forwardStep, inverseStep, taken, Build, stopped, built, layIntervals, layRead, layMapping, layMappings, directed, buildAnswer}
+use Rattle.building.specs.OverTimeLaws.{unknown-stops, empty-skips, filled-known, filled-reads, dated-start, dated-end, dated-row, name-unknown, name-known, Plain, PlainStep, text-plain, number-plain, direction-plain, andThen-plain, forward-plain, inverse-plain, intervals-end, intervals-turn, intervals-stop, mappings-end, mappings-turn, mappings-stop, laid-blank, written-again}
 use Rattle.builds.specs.declared.over_time.Built.{Built}
 use Rattle.builds.specs.declared.over_time.Built.the-variants.{Done, Refused}
 use Rattle.builds.specs.declared.over_time.Way.{Way}
@@ -241,3 +249,254 @@ module _ (names : ℕ) (texts : List (List ℕ)) (way : Way) (x : Span) (t : Lis
   took-full {a} {n} {r} {why} t′ e d g f =
       let s : step ≡ set (rowOf n) = sym e ∙ ap askedOf d in
       rw s (record { answers = sym (ap insertedOf f) ∙ g .answers; on = λ u j. absurd (let z : _≡_ {A = ℕ} 0 1 = cc in omega arith) })
+
+-- ---- a stretch that goes on, or stops
+
+done-is : (r : Built) → isDone r ≡ true → r ≡ Done (usedOf r)
+done-is (Done u) e = refl
+done-is (Refused why) e = absurd (let z : _≡_ {A = ℕ} 0 1 = cc in omega arith)
+
+not-done : {r : Built} {u : ℕ} → isDone r ≡ false → r ≡ Done u → ⊥
+not-done {r} {u} e d = let f : true ≡ false = sym (ap isDone d) ∙ e in let z : _≡_ {A = ℕ} 0 1 = cc in omega arith
+
+-- a refusal is no answer of a call that is done
+no-refusal : (r : Built) (n : ℕ) → isDone r ≡ false → builtOf r ≡ answer 0 (n ∷ []) → ⊥
+no-refusal (Done u) n e d = let z : _≡_ {A = ℕ} 0 1 = cc in omega arith
+no-refusal (Refused why) n e d = let z : numberOf why ≡ 0 = cc in refused-not-done why z
+
+step-stops : (o : Outcome (Row ℕ)) (r : Built) (b : Build (Row ℕ)) → builtOf r ≡ outcomeAnswer o → isDone r ≡ false
+    → ((c : ℕ) → o ≡ refusedBy c → answer c [] ≡ buildAnswer b) → builtOf r ≡ buildAnswer b
+unfolding outcomeAnswer
+step-stops (refusedBy c) r b e d f = e ∙ f c refl
+step-stops (stored ys) r b e d f = absurd (no-refusal r (length ys) d e)
+
+stretch-stops : (p : Build (Row ℕ)) (r : Built) (b : Build (Row ℕ)) → builtOf r ≡ buildAnswer p → isDone r ≡ false
+    → ((c s k : ℕ) → p ≡ stopped c s k → answer c [] ≡ buildAnswer b) → builtOf r ≡ buildAnswer b
+unfolding buildAnswer
+stretch-stops (stopped c s k) r b e d f = e ∙ f c s k refl
+stretch-stops (built ys) r b e d f = absurd (no-refusal r (length ys) d e)
+
+-- ---- the intervals of a mapping, one after the other
+
+-- before the interval of number k: what is left of them on this table is the whole
+pub record Laying (names : ℕ) (texts : List (List ℕ)) (way : Way) (v : List ℕ) (from count : ℕ) (t₀ : List ℕ) (used₀ : ℕ) (t : List ℕ) (used k : ℕ) : Type 0 where
+  pub upto : k ≤ count
+  pub long : length t ≡ length t₀
+  pub holds : Holds names t used
+  pub left : (m : ℕ) → layIntervals names (roomOf t₀) (wayStep texts way) m 0 (stretch v from count) (rows t₀ used₀)
+      ≡ layIntervals names (roomOf t₀) (wayStep texts way) m k (stretch v (from + k) (count - k)) (rows t used)
+
+module _ (names : ℕ) (texts : List (List ℕ)) (way : Way) (v : List ℕ) (from count : ℕ) (t₀ : List ℕ) (used₀ : ℕ) where
+  pub laying-start : Holds names t₀ used₀ → Laying names texts way v from count t₀ used₀ t₀ used₀ 0
+  laying-start h =
+      let e : from ≡ from + 0 = omega arith in
+      let d : count ≡ count - 0 = omega arith in
+      record { upto = omega arith; long = refl; holds = h; left = λ m i. layIntervals names (roomOf t₀) (wayStep texts way) m 0 (stretch v (e i) (d i)) (rows t₀ used₀) }
+
+  module _ (t : List ℕ) (used k : ℕ) (l : Laying names texts way v from count t₀ used₀ t used k) (h : k < count) where
+    -- the room is as it was
+    same-room : roomOf t ≡ roomOf t₀
+    same-room = ap (λ (n : ℕ). n / 24) (l .long)
+
+    taken-here : (o : Outcome (Row ℕ)) → taken names (roomOf t) (wayStep texts way (intervalAt v (from + k))) (rows t used) ≡ o
+        → taken names (roomOf t₀) (wayStep texts way (intervalAt v (from + k))) (rows t used) ≡ o
+    taken-here o e = ap (λ (n : ℕ). taken names n (wayStep texts way (intervalAt v (from + k))) (rows t used)) (sym same-room) ∙ e
+
+    pub laying-turn : (t′ : List ℕ) (r : Built) (u : ℕ) (x : Span) → x ≡ intervalAt v (from + k) → length t′ ≡ length t
+        → Took names (taken names (roomOf t) (wayStep texts way x) (rows t used)) r t′ → isDone r ≡ true → u ≡ usedOf r
+        → Laying names texts way v from count t₀ used₀ t′ u (k + 1)
+    laying-turn t′ r u x e g w d y =
+        let w′ : Took names (taken names (roomOf t) (wayStep texts way (intervalAt v (from + k))) (rows t used)) r t′ =
+        subst (λ (x : Span). Took names (taken names (roomOf t) (wayStep texts way x) (rows t used)) r t′) e w in
+        let p = w′ .on u (done-is r d ∙ ap Done (sym y)) in
+        let a : from + k + 1 ≡ from + (k + 1) = omega arith in
+        let b : count - k - 1 ≡ count - (k + 1) = omega arith in
+        record {
+          upto = omega arith;
+          long = g ∙ l .long;
+          holds = p .1;
+          left = λ m.
+              l .left m ∙ intervals-turn names (roomOf t₀) (wayStep texts way) m v k (from + k) (count - k) (rows t used) (rows t′ u) (omega arith) (taken-here _ (p .0))
+              ∙ (λ i. layIntervals names (roomOf t₀) (wayStep texts way) m (k + 1) (stretch v (a i) (b i)) (rows t′ u));
+        }
+
+    pub laying-stop : (t′ : List ℕ) (r : Built) (x : Span) → x ≡ intervalAt v (from + k)
+        → Took names (taken names (roomOf t) (wayStep texts way x) (rows t used)) r t′ → isDone r ≡ false
+        → (m : ℕ) → Lays names (layIntervals names (roomOf t₀) (wayStep texts way) m 0 (stretch v from count) (rows t₀ used₀)) r t′
+    unfolding buildAnswer
+    laying-stop t′ r x e w d m =
+        let w′ : Took names (taken names (roomOf t) (wayStep texts way (intervalAt v (from + k))) (rows t used)) r t′ =
+        subst (λ (x : Span). Took names (taken names (roomOf t) (wayStep texts way x) (rows t used)) r t′) e w in
+        record {
+          answers = step-stops (taken names (roomOf t) (wayStep texts way (intervalAt v (from + k))) (rows t used)) r
+              (layIntervals names (roomOf t₀) (wayStep texts way) m 0 (stretch v from count) (rows t₀ used₀)) (w′ .answers) d
+              (λ c y. sym (ap buildAnswer (l .left m ∙ intervals-stop names (roomOf t₀) (wayStep texts way) m v k (from + k) (count - k) (rows t used) c (omega arith) (taken-here _ y))));
+          on = λ u y. absurd (not-done d y);
+        }
+
+  pub laying-end : (t : List ℕ) (used k : ℕ) → Laying names texts way v from count t₀ used₀ t used k → count ≤ k
+      → (m : ℕ) → Lays names (layIntervals names (roomOf t₀) (wayStep texts way) m 0 (stretch v from count) (rows t₀ used₀)) (Done used) t
+  unfolding buildAnswer
+  laying-end t used k l h m =
+      let z : count - k ≡ 0 = omega arith in
+      let b : layIntervals names (roomOf t₀) (wayStep texts way) m 0 (stretch v from count) (rows t₀ used₀) ≡ built (rows t used) =
+      l .left m ∙ intervals-end names (roomOf t₀) (wayStep texts way) m v k (from + k) (count - k) (rows t used) z in
+      record {
+        answers = ap (λ (n : ℕ). answer 0 (n ∷ [])) (sym (length-rows t 0 used)) ∙ sym (ap buildAnswer b);
+        on = λ u y. let i : used ≡ u = cc in
+            subst (λ (c : ℕ). (layIntervals names (roomOf t₀) (wayStep texts way) m 0 (stretch v from count) (rows t₀ used₀) ≡ built (rows t c)) × Holds names t c) i (b, l .holds);
+      }
+
+-- ---- one mapping
+
+module _ (bytes ends : List ℕ) (names : ℕ) (name room : ℕ) (xs : List Span) (ys : List (Row ℕ)) where
+  abbrev texts : List (List ℕ)
+  texts = namesOf bytes ends names
+
+  -- how many names are known is how many texts there are
+  counted : (step : Span → Step (Row ℕ)) (m : ℕ) → layIntervals names room step m 0 xs ys ≡ layIntervals (length texts) room step m 0 xs ys
+  counted step m = ap (λ (n : ℕ). layIntervals n room step m 0 xs ys) (sym (names-length bytes ends names))
+
+  pub mapping-forward : {d : Direction} (r : Built) (t′ : List ℕ) → d ≡ direction.Forward
+      → ((m : ℕ) → Lays names (layIntervals names room (wayStep (namesOf bytes ends names) (Forward name)) m 0 xs ys) r t′)
+      → (m : ℕ) → Lays names (layMapping room (namesOf bytes ends names) d m (mapping name xs) ys) r t′
+  unfolding layMapping
+  mapping-forward r t′ e l m = rw e (subst (λ (b : Build (Row ℕ)). Lays names b r t′) (counted (forwardStep texts name) m) (l m))
+
+  mapping-inverse : (a : Instrument) → instrumentRead a ≡ andThen (textOf texts name) numberIn → (m : ℕ)
+      → layMapping room texts direction.Inverse m (mapping name xs) ys ≡ layRead room texts m xs ys (instrumentRead a)
+  unfolding layMapping
+  mapping-inverse a e m = ap (layRead room texts m xs ys) (sym e)
+
+  pub mapping-number : {d : Direction} {a : Instrument} {i : ℕ} (r : Built) (t′ : List ℕ) → d ≡ direction.Inverse
+      → instrumentRead a ≡ andThen (textOf (namesOf bytes ends names) name) numberIn → a ≡ instrument.Number i
+      → ((m : ℕ) → Lays names (layIntervals names room (wayStep (namesOf bytes ends names) (Inverse i)) m 0 xs ys) r t′)
+      → (m : ℕ) → Lays names (layMapping room (namesOf bytes ends names) d m (mapping name xs) ys) r t′
+  unfolding layRead
+  mapping-number {d} {a} {i} r t′ e f g l m =
+      rw e (subst (λ (b : Build (Row ℕ)). Lays names b r t′)
+      (counted (inverseStep texts i) m ∙ sym (mapping-inverse a f m ∙ ap (λ (a : Instrument). layRead room texts m xs ys (instrumentRead a)) g)) (l m))
+
+  pub mapping-refused : {d : Direction} {a : Instrument} {why : Refusal} (t′ : List ℕ) → d ≡ direction.Inverse
+      → instrumentRead a ≡ andThen (textOf (namesOf bytes ends names) name) numberIn → a ≡ instrument.Refused why
+      → (m : ℕ) → Lays names (layMapping room (namesOf bytes ends names) d m (mapping name xs) ys) (Refused why) t′
+  unfolding layRead buildAnswer
+  mapping-refused {d} {a} {why} t′ e f g m =
+      let p : Plain (numberOf why) = andThen-plain (textOf texts name) numberIn (text-plain texts name) number-plain (numberOf why) (sym f ∙ ap instrumentRead g) in
+      let b : layMapping room texts direction.Inverse m (mapping name xs) ys ≡ stopped (numberOf why) m 0 =
+      mapping-inverse a f m ∙ ap (λ (a : Instrument). layRead room texts m xs ys (instrumentRead a)) g in
+      rw e (record {
+        answers = plain-refused why p ∙ sym (ap buildAnswer b);
+        on = λ u y. absurd (let z : _≡_ {A = ℕ} 0 1 = cc in omega arith);
+      })
+
+-- ---- the mappings, one after the other
+
+-- before the mapping of number k, whose intervals begin at this place: what is left of them on this table is the whole
+pub record Mapping-on (names : ℕ) (texts : List (List ℕ)) (d : Direction) (m v : List ℕ) (count : ℕ) (t₀ t : List ℕ) (used from k : ℕ) : Type 0 where
+  pub upto : k ≤ count
+  pub begins : from ≡ before m k
+  pub long : length t ≡ length t₀
+  pub holds : Holds names t used
+  pub left : layMappings (roomOf t₀) texts d 0 (mappingsFrom m v 0 0 count) []
+      ≡ layMappings (roomOf t₀) texts d k (mappingsFrom m v k from (count - k)) (rows t used)
+
+module _ (names : ℕ) (texts : List (List ℕ)) (d : Direction) (m v : List ℕ) (count : ℕ) (t₀ : List ℕ) where
+  pub mapping-start : Holds names t₀ 0 → Mapping-on names texts d m v count t₀ t₀ 0 0 0
+  unfolding before rowsFrom
+  mapping-start h =
+      let e : count ≡ count - 0 = omega arith in
+      record { upto = omega arith; begins = refl; long = refl; holds = h; left = λ i. layMappings (roomOf t₀) texts d 0 (mappingsFrom m v 0 0 (e i)) [] }
+
+  module _ (t : List ℕ) (used from k : ℕ) (l : Mapping-on names texts d m v count t₀ t used from k) (h : k < count) where
+    -- its intervals are within the lent ones
+    pub mapping-within : (n : ℕ) → n ≡ countAt m k → 3 * before m count ≤ length v → 3 * (from + n) ≤ length v
+    mapping-within n e w = omega (arith, before-next m k, before-up m (k + 1) count (omega arith), l .begins)
+
+    laid-here : (o : Build (Row ℕ)) → layMapping (roomOf t) texts d k (mapping (nameAt m k) (stretch v from (countAt m k))) (rows t used) ≡ o
+        → layMapping (roomOf t₀) texts d k (mapping (nameAt m k) (stretch v from (countAt m k))) (rows t used) ≡ o
+    laid-here o e =
+        ap (λ (n : ℕ). layMapping (n / 24) texts d k (mapping (nameAt m k) (stretch v from (countAt m k))) (rows t used)) (sym (l .long)) ∙ e
+
+    module _ (t′ : List ℕ) (r : Built) (name n : ℕ) (y : name ≡ nameAt m k) (z : n ≡ countAt m k)
+        (w : (q : ℕ) → Lays names (layMapping (roomOf t) texts d q (mapping name (stretch v from n)) (rows t used)) r t′) where
+      read : Lays names (layMapping (roomOf t) texts d k (mapping (nameAt m k) (stretch v from (countAt m k))) (rows t used)) r t′
+      read = subst (λ (b : Build (Row ℕ)). Lays names b r t′) (λ i. layMapping (roomOf t) texts d k (mapping (y i) (stretch v from (z i))) (rows t used)) (w k)
+
+      pub mapping-turn : (u : ℕ) → length t′ ≡ length t → isDone r ≡ true → u ≡ usedOf r → Mapping-on names texts d m v count t₀ t′ u (from + n) (k + 1)
+      mapping-turn u g e f =
+          let p = read .on u (done-is r e ∙ ap Done (sym f)) in
+          let b : count - k - 1 ≡ count - (k + 1) = omega arith in
+          record {
+            upto = omega arith;
+            begins = omega (arith, before-next m k, l .begins, z);
+            long = g ∙ l .long;
+            holds = p .1;
+            left =
+                l .left ∙ mappings-turn (roomOf t₀) texts d m v k from (count - k) (rows t used) (rows t′ u) (omega arith) (laid-here _ (p .0))
+                ∙ (λ i. layMappings (roomOf t₀) texts d (k + 1) (mappingsFrom m v (k + 1) (from + sym z i) (b i)) (rows t′ u));
+          }
+
+      pub mapping-stop : isDone r ≡ false → Lays names (layMappings (roomOf t₀) texts d 0 (mappingsFrom m v 0 0 count) []) r t′
+      unfolding buildAnswer
+      mapping-stop e = record {
+        answers = stretch-stops (layMapping (roomOf t) texts d k (mapping (nameAt m k) (stretch v from (countAt m k))) (rows t used)) r
+            (layMappings (roomOf t₀) texts d 0 (mappingsFrom m v 0 0 count) []) (read .answers) e
+            (λ c s j x. sym (ap buildAnswer (l .left ∙ mappings-stop (roomOf t₀) texts d m v k from (count - k) (rows t used) c s j (omega arith) (laid-here _ x))));
+        on = λ u x. absurd (not-done e x);
+      }
+
+  pub mapping-end : (t : List ℕ) (used from k : ℕ) → Mapping-on names texts d m v count t₀ t used from k → count ≤ k
+      → Lays names (layMappings (roomOf t₀) texts d 0 (mappingsFrom m v 0 0 count) []) (Done used) t
+  unfolding buildAnswer
+  mapping-end t used from k l h =
+      let z : count - k ≡ 0 = omega arith in
+      let b : layMappings (roomOf t₀) texts d 0 (mappingsFrom m v 0 0 count) [] ≡ built (rows t used) =
+      l .left ∙ mappings-end (roomOf t₀) texts d m v k from (count - k) (rows t used) z in
+      record {
+        answers = ap (λ (n : ℕ). answer 0 (n ∷ [])) (sym (length-rows t 0 used)) ∙ sym (ap buildAnswer b);
+        on = λ u y. let i : used ≡ u = cc in
+            subst (λ (c : ℕ). (layMappings (roomOf t₀) texts d 0 (mappingsFrom m v 0 0 count) [] ≡ built (rows t c)) × Holds names t c) i (b, l .holds);
+      }
+
+-- ---- the whole build
+
+module _ (names : ℕ) (t : List ℕ) (texts : List (List ℕ)) (ms : List Mapping) where
+  -- an empty table's memory
+  empty-memory : Holds names t 0 → t ≡ replicate (length t) 0
+  unfolding rowsFrom rowsBytes
+  empty-memory h = let e : length t - 0 * 24 ≡ length t = omega arith in h .memory ∙ laid-blank (length t) [] ∙ ap (λ (n : ℕ). replicate n 0) e
+
+  pub build-undirected : {s : Heading} {why : Refusal} (i o : ℕ) → Holds names t 0 → headingRead s ≡ directionBy i o → s ≡ heading.Refused why
+      → Leaves (directed (roomOf t) texts ms (directionBy i o)) (length t) (Refused why) t
+  unfolding directed buildAnswer builtMemory
+  build-undirected {s} {why} i o h e d =
+      let f : directionBy i o ≡ fault (numberOf why) = sym e ∙ ap headingRead d in
+      let p : Plain (numberOf why) = direction-plain i o (numberOf why) f in
+      rw f (record { answers = plain-refused why p; memory = empty-memory h })
+
+  module _ {s : Heading} {d : Direction} (i o : ℕ) (e : headingRead s ≡ directionBy i o) (f : s ≡ heading.Is d) (r : Built) (t′ : List ℕ) (g : length t′ ≡ length t)
+      (l : Lays names (layMappings (roomOf t) texts d 0 ms []) r t′) where
+    on-way : directed (roomOf t) texts ms (directionBy i o) ≡ layMappings (roomOf t) texts d 0 ms []
+    unfolding directed
+    on-way = ap (directed (roomOf t) texts ms) (sym e ∙ ap headingRead f)
+
+    pub build-done : isDone r ≡ true → Leaves (directed (roomOf t) texts ms (directionBy i o)) (length t) r t′
+    unfolding builtMemory
+    build-done c =
+        let p = l .on (usedOf r) (done-is r c) in
+        record {
+          answers = l .answers ∙ sym (ap buildAnswer on-way);
+          memory = p .1 .memory ∙ ap (λ (n : ℕ). written (replicate n 0) 0 (rows t′ (usedOf r))) g ∙ sym (ap (builtMemory (length t)) (on-way ∙ p .0));
+        }
+
+    pub build-cleared : (t″ : List ℕ) → isDone r ≡ false → t″ ≡ replicate (length t′) 0 → Leaves (directed (roomOf t) texts ms (directionBy i o)) (length t) r t″
+    unfolding builtMemory buildAnswer
+    build-cleared t″ c z = record {
+      answers = l .answers ∙ sym (ap buildAnswer on-way);
+      memory = z ∙ ap (λ (n : ℕ). replicate n 0) g ∙ sym (ap (builtMemory (length t)) on-way ∙ stops (layMappings (roomOf t) texts d 0 ms []) (l .answers));
+    }
+      where
+        stops : (b : Build (Row ℕ)) → builtOf r ≡ buildAnswer b → builtMemory (length t) b ≡ replicate (length t) 0
+        stops (stopped c s k) y = refl
+        stops (built ys) y = absurd (no-refusal r (length ys) c y)

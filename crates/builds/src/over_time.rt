@@ -23,18 +23,17 @@ use walk::words::count_at;
 use walk::words::interval_at;
 use walk::words::name_at;
 ghost use mathlib.Core.Path.{_≡_};
-ghost use mathlib.Core.Bool.{true};
 ghost use mathlib.Core.List.{[]};
 ghost use Prim.Native.Nat.{ℕ, _+_, _*_, _≤_};
-ghost use lib.ListN.{length, replicate};
+ghost use lib.ListN.{length};
 ghost use Rattle.leaves.specs.Names.{namesOf};
 ghost use Rattle.leaves.specs.NamesLaws.{Ordered};
 ghost use Rattle.merging.specs.Metadata.{mapping};
 ghost use Rattle.merging.specs.Words.{before, stretch, mappingsFrom};
-ghost use Rattle.form.specs.Header.{lists, lengthsOf, metadataOf, sizedOf};
+ghost use Rattle.form.specs.Header.{lists};
 ghost use Rattle.tables.specs.Memory.{rows, roomOf};
-ghost use Rattle.building.specs.Reading.{andThen, textOf, numberIn, instrumentRead};
-ghost use Rattle.building.specs.OverTime.{dated, taken, layIntervals, layMapping, layMappings, overTime};
+ghost use Rattle.building.specs.Reading.{andThen, textOf, numberIn, directionBy, instrumentRead};
+ghost use Rattle.building.specs.OverTime.{dated, taken, layIntervals, layMapping, layMappings, directed};
 ghost use Rattle.builds.specs.OverTime.{askedOf, wayStep, isDone, usedOf, builtOf, lengthsBy, memoryFits, overTimeAnswer, overTimeMemory};
 ghost use Rattle.builds.specs.OverTimeLaws.{Holds, Took, Lays, Leaves};
 
@@ -262,4 +261,131 @@ fn lay_mappings(
         t += 1;
     }
     Built::Done(used)
+}
+
+// The build on memory of its form, onto an empty table: 9, then the mappings. A refusal leaves an empty table.
+fn build(
+    table: &mut [u8],
+    stype_in: u8,
+    stype_out: u8,
+    mappings: &[u32],
+    intervals: &[u32],
+    count: usize,
+    bytes: &[u8],
+    ends: &[u32],
+    names: usize,
+) -> Built
+    requires { ⌜ Ordered (now bytes) (now ends) names × Holds names (now table) 0 × (2 * count ≤ length (now mappings)) × (3 * before (now mappings) count ≤ length (now intervals)) ⌝ }
+    ensures { λ r. ⌜ Leaves (directed (roomOf (now (table .entry))) (namesOf (now (bytes .entry)) (now (ends .entry)) names) (mappingsFrom (now (mappings .entry)) (now (intervals .entry)) 0 0 count) (directionBy «stype_in» «stype_out»)) (length (now (table .entry))) r (now (table .exit)) ⌝ }
+{
+    let heading = direction_by(stype_in, stype_out);
+    match heading {
+        Heading::Refused(why) => Built::Refused(why),
+        Heading::Is(direction) => {
+            let laid = lay_mappings(
+                table, bytes, ends, names, direction, mappings, intervals, count,
+            );
+            if is_done(laid) {
+                return laid;
+            }
+            clear(table);
+            laid
+        }
+    }
+}
+
+// The lengths of five lists.
+pub fn lengths(
+    symbols: usize,
+    partial: usize,
+    not_found: usize,
+    mappings: usize,
+    intervals: usize,
+) -> Lengths
+    ensures { λ r. ⌜ r ≡ lengthsBy symbols partial «not_found» mappings intervals ⌝ }
+{
+    Lengths {
+        symbols: symbols,
+        partial: partial,
+        not_found: not_found,
+        mappings: mappings,
+        intervals: intervals,
+    }
+}
+
+// Whether the lent memory of table, metadata and list is of its form; where it is not, 15.
+fn memory_fits(
+    long: usize,
+    h: Header,
+    l: Lengths,
+    mappings: &[u32],
+    bytes: usize,
+    places: usize,
+    names: usize,
+    name_bytes: usize,
+) -> bool
+    requires { ⌜ l .mappings ≡ length (now mappings) ⌝ }
+    ensures { λ r. ⌜ r ≡ memoryFits long h l (now (mappings .entry)) bytes places names «name_bytes» ⌝ }
+{
+    if bad_table(long, 0) {
+        return false;
+    }
+    if !sized(h, l, mappings) {
+        return false;
+    }
+    is_memory(bytes, places, names, name_bytes)
+}
+
+// Builds the table over time from a metadata and a name list: 15 for all lent memory, 14 for the list, then 9, and per interval 3, the
+// skip, 8, 11, 1, (start = end is done), 3, 2. What the table held is discarded; a refusal leaves an empty table with every place 0.
+pub fn over_time(
+    table: &mut [u8],
+    h: Header,
+    symbols: &[u32],
+    partial: &[u32],
+    not_found: &[u32],
+    mappings: &[u32],
+    intervals: &[u32],
+    bytes: &[u8],
+    ends: &[u32],
+    names: usize,
+    name_bytes: usize,
+) -> Built
+    ensures { λ r. ⌜ builtOf r ≡ overTimeAnswer (now (table .entry)) h (lists (now (symbols .entry)) (now (partial .entry)) (now («not_found» .entry)) (now (mappings .entry)) (now (intervals .entry))) (now (bytes .entry)) (now (ends .entry)) names «name_bytes» ⌝ }
+    ensures { λ _. ⌜ now (table .exit) ≡ overTimeMemory (now (table .entry)) h (lists (now (symbols .entry)) (now (partial .entry)) (now («not_found» .entry)) (now (mappings .entry)) (now (intervals .entry))) (now (bytes .entry)) (now (ends .entry)) names «name_bytes» ⌝ }
+{
+    clear(table);
+    let l = lengths(
+        symbols.len(),
+        partial.len(),
+        not_found.len(),
+        mappings.len(),
+        intervals.len(),
+    );
+    if !memory_fits(
+        table.len(),
+        h,
+        l,
+        mappings,
+        bytes.len(),
+        ends.len(),
+        names,
+        name_bytes,
+    ) {
+        return Built::Refused(Refusal::BadMemory);
+    }
+    if !is_list(bytes, ends, names, name_bytes) {
+        return Built::Refused(Refusal::IllFormed);
+    }
+    build(
+        table,
+        h.stype_in,
+        h.stype_out,
+        mappings,
+        intervals,
+        h.mappings,
+        bytes,
+        ends,
+        names,
+    )
 }
