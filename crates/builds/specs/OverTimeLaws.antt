@@ -17,13 +17,17 @@ use Rattle.maps.specs.Insert.{insertedOf}
 use Rattle.maps.specs.declared.interval.Interval.{Interval}
 use Rattle.maps.specs.declared.insert.Inserted.{Inserted}
 use Rattle.maps.specs.declared.insert.Inserted.the-variants as inserted
-use Rattle.tables.specs.Table.{Row, Ordered, Outcome, refusedBy, stored, nowStored, wellFormed, entered}
-use Rattle.tables.specs.Memory.{width, sameValue, knownValue, rowsFrom, rows, rowsBytes, roomOf, written, memoryAfter, outcomeAnswer, usedAfter, Gives}
+use Rattle.tables.specs.Table.{Row, Ordered, Outcome, refusedBy, stored, nowStored, ordered, allKnown, wellFormed, entered}
+use Rattle.tables.specs.Memory.{width, sameValue, knownValue, rowsFrom, rows, rowsBytes, roomOf, badTable, written, memoryAfter, outcomeAnswer, usedAfter, Gives}
 use Rattle.tables.specs.MemoryLaws.{length-rows}
+use Rattle.tables.specs.Outcomes.{Lent, table-lent}
 use Rattle.tables.specs.Tests.{formed-parts}
 use Rattle.tables.specs.Pieces.{symbols}
 use Rattle.tables.specs.History.{Accepted, entered-ok}
-use Rattle.leaves.specs.Names.{namesOf}
+use Rattle.leaves.specs.Names.{namesOf, memoryOk}
+use Rattle.leaves.specs.Names.{wellFormed as wellFormedNames}
+use Rattle.leaves.specs.NamesLaws.{holds, fails, memory}
+use Rattle.leaves.specs.NamesLaws.{Ordered as Ordered-names, ordered as ordered-names, formed as formed-names}
 use Rattle.leaves.specs.NamesList.{names-length}
 use Rattle.leaves.specs.declared.days.Moment.{Moment}
 use Rattle.leaves.specs.declared.days.Moment.the-variants as moment
@@ -31,6 +35,9 @@ use Rattle.leaves.specs.FrameLaws.{refused-not-done}
 use Rattle.merging.specs.declared.Interval.{Interval as Span}
 use Rattle.merging.specs.Metadata.{Mapping, mapping}
 use Rattle.merging.specs.Words.{nameAt, countAt, before, intervalAt, stretch, mappingsFrom}
+use Rattle.form.specs.declared.header.Header.{Header}
+use Rattle.form.specs.declared.header.Lengths.{Lengths}
+use Rattle.form.specs.Header.{Lists, lengthsOf, metadataOf, sizedOf, Sized, sized-facts}
 use Rattle.lay.specs.Link.{before-next, before-up}
 use Rattle.building.specs.declared.reading.Direction.{Direction}
 use Rattle.building.specs.declared.reading.Direction.the-variants as direction
@@ -40,8 +47,8 @@ use Rattle.building.specs.declared.reading.Instrument.{Instrument}
 use Rattle.building.specs.declared.reading.Instrument.the-variants as instrument
 use Rattle.building.specs.declared.reading.Heading.{Heading}
 use Rattle.building.specs.declared.reading.Heading.the-variants as heading
-use Rattle.building.specs.Reading.{Read, fault, andThen, textOf, numberIn, momentIn, directionBy, symbolIn, headingRead, instrumentRead, momentRead}
-use Rattle.building.specs.OverTime.{Step, stop, skip, set, reading, dated, forwardStep, inverseStep, taken, Build, stopped, built, layIntervals, layRead, layMapping, layMappings, directed, buildAnswer}
+use Rattle.building.specs.Reading.{Read, fault, andThen, textOf, numberIn, momentIn, directionBy, directionOf, symbolIn, headingRead, instrumentRead, momentRead}
+use Rattle.building.specs.OverTime.{Step, stop, skip, set, reading, dated, forwardStep, inverseStep, taken, Build, stopped, built, layIntervals, layRead, layMapping, layMappings, directed, overTime, buildAnswer}
 use Rattle.building.specs.OverTimeLaws.{unknown-stops, empty-skips, filled-known, filled-reads, dated-start, dated-end, dated-row, name-unknown, name-known, Plain, PlainStep, text-plain, number-plain, direction-plain, andThen-plain, forward-plain, inverse-plain, intervals-end, intervals-turn, intervals-stop, mappings-end, mappings-turn, mappings-stop, laid-blank, written-again}
 use Rattle.builds.specs.declared.over_time.Built.{Built}
 use Rattle.builds.specs.declared.over_time.Built.the-variants.{Done, Refused}
@@ -49,7 +56,7 @@ use Rattle.builds.specs.declared.over_time.Way.{Way}
 use Rattle.builds.specs.declared.over_time.Way.the-variants.{Forward, Inverse}
 use Rattle.builds.specs.declared.over_time.Asked.{Asked}
 use Rattle.builds.specs.declared.over_time.Asked.the-variants.{Refuse, Nothing, Insert}
-use Rattle.builds.specs.OverTime.{builtOf, isDone, usedOf, askedOf, wayStep, builtMemory}
+use Rattle.builds.specs.OverTime.{builtOf, isDone, usedOf, askedOf, wayStep, memoryFits, overTimeBuild, overTimeAnswer, builtMemory, overTimeMemory}
 
 -- ---- what holds between two steps
 
@@ -500,3 +507,117 @@ module _ (names : ℕ) (t : List ℕ) (texts : List (List ℕ)) (ms : List Mappi
         stops : (b : Build (Row ℕ)) → builtOf r ≡ buildAnswer b → builtMemory (length t) b ≡ replicate (length t) 0
         stops (stopped c s k) y = refl
         stops (built ys) y = absurd (no-refusal r (length ys) c y)
+
+-- ---- the lent memory
+
+and-parts : (a b : Bool) → a && b ≡ true → (a ≡ true) × (b ≡ true)
+and-parts true b e = (refl, e)
+and-parts false b e = absurd (let z : _≡_ {A = ℕ} 0 1 = cc in omega arith)
+
+not-true : (a : Bool) → not a ≡ true → a ≡ false
+not-true true e = sym e
+not-true false e = refl
+
+module _ (long : ℕ) (h : Header) (l : Lengths) (m : List ℕ) (bytes places names used : ℕ) where
+  pub fits-table : {b : Bool} → b ≡ badTable long 0 → b ≡ true → false ≡ memoryFits long h l m bytes places names used
+  unfolding memoryFits
+  fits-table e d = let f : badTable long 0 ≡ true = sym e ∙ d in rw f refl
+
+  pub fits-metadata : {b s : Bool} → b ≡ badTable long 0 → b ≡ false → s ≡ sizedOf h l m → not s ≡ true → false ≡ memoryFits long h l m bytes places names used
+  unfolding memoryFits
+  fits-metadata e d f g =
+      let i : badTable long 0 ≡ false = sym e ∙ d in
+      let j : sizedOf h l m ≡ false = fails f g in
+      rw (i, j) refl
+
+  pub fits-list : {b s r : Bool} → b ≡ badTable long 0 → b ≡ false → s ≡ sizedOf h l m → not s ≡ false → r ≡ memoryOk bytes places names used
+      → r ≡ memoryFits long h l m bytes places names used
+  unfolding memoryFits
+  fits-list e d f g k =
+      let i : badTable long 0 ≡ false = sym e ∙ d in
+      let j : sizedOf h l m ≡ true = holds f g in
+      k ∙ rw (i, j) refl
+
+-- an emptied table
+pub empty-holds : (long names : ℕ) (z : List ℕ) → z ≡ replicate long 0 → badTable long 0 ≡ false → Holds names z 0
+unfolding wellFormed ordered allKnown rowsFrom rowsBytes
+empty-holds long names z e d =
+    let k : length z ≡ long = ap length e ∙ length-replicate long 0 in
+    let w : Lent long 0 = table-lent long 0 d in
+    let r : long - 0 * 24 ≡ long = omega arith in
+    record {
+      whole = k ∙ w .whole ∙ ap (λ (n : ℕ). n / 24 * 24) (sym k);
+      in-use = omega arith;
+      formed = tt;
+      memory = e ∙ sym (ap (λ (n : ℕ). written (replicate n 0) 0 []) k ∙ laid-blank long [] ∙ ap (λ (n : ℕ). replicate n 0) r);
+    }
+
+-- ---- the call
+
+module _ (t : List ℕ) (h : Header) (l : Lists) (bytes ends : List ℕ) (names used : ℕ) where
+  -- what the call owes: the answer, and the table's memory
+  abbrev Owed : Built → List ℕ → Type 0
+  Owed r t′ = (builtOf r ≡ overTimeAnswer t h l bytes ends names used) × (t′ ≡ overTimeMemory t h l bytes ends names used)
+
+  owed : (b : Build (Row ℕ)) (r : Built) (t′ : List ℕ) → overTimeBuild t h l bytes ends names used ≡ b → builtOf r ≡ buildAnswer b → t′ ≡ builtMemory (length t) b → Owed r t′
+  unfolding overTimeAnswer overTimeMemory
+  owed b r t′ e f g = (f ∙ sym (ap buildAnswer e), g ∙ sym (ap (builtMemory (length t)) e))
+
+  module _ {f : Bool} {q : Lengths} {z : List ℕ} (e : z ≡ replicate (length t) 0) (d : q ≡ lengthsOf l)
+      (y : f ≡ memoryFits (length z) h q (l .mappings) (length bytes) (length ends) names used) where
+    long : length z ≡ length t
+    long = ap length e ∙ length-replicate (length t) 0
+
+    fit : f ≡ memoryFits (length t) h (lengthsOf l) (l .mappings) (length bytes) (length ends) names used
+    fit = y ∙ (λ i. memoryFits (long i) h (d i) (l .mappings) (length bytes) (length ends) names used)
+
+    pub over-15 : not f ≡ true → (refused BadMemory ≡ overTimeAnswer t h l bytes ends names used) × (z ≡ overTimeMemory t h l bytes ends names used)
+    unfolding overTimeBuild buildAnswer builtMemory
+    over-15 g = let j = fails fit g in owed (stopped 15 0 0) (Refused BadMemory) z (rw j refl) refl e
+
+    module _ (g : not f ≡ false) where
+      good : memoryFits (length t) h (lengthsOf l) (l .mappings) (length bytes) (length ends) names used ≡ true
+      good = holds fit g
+
+      parts : (badTable (length t) 0 ≡ false) × (sizedOf h (lengthsOf l) (l .mappings) ≡ true) × (memoryOk (length bytes) (length ends) names used ≡ true)
+      unfolding memoryFits
+      parts =
+          let p = and-parts (not (badTable (length t) 0)) _ good in
+          let r = and-parts (sizedOf h (lengthsOf l) (l .mappings)) _ (p .1) in
+          (not-true (badTable (length t) 0) (p .0), r .0, r .1)
+
+      pub over-list : (names ≤ length ends) × (used ≤ length bytes)
+      over-list = let m = memory (length bytes) (length ends) names used (parts .2) in (m .held, m .room)
+
+      module _ {w : Bool} (k : w ≡ wellFormedNames bytes ends names used) where
+        pub over-14 : not w ≡ true → (refused IllFormed ≡ overTimeAnswer t h l bytes ends names used) × (z ≡ overTimeMemory t h l bytes ends names used)
+        unfolding overTimeBuild buildAnswer builtMemory
+        over-14 c =
+            let j = good in
+            let i = fails k c in
+            owed (stopped 14 0 0) (Refused IllFormed) z (rw (j, i) refl) refl e
+
+        module _ (c : not w ≡ false) where
+          pub over-ready : Ordered-names bytes ends names × Holds names z 0 × (2 * h .mappings ≤ length (l .mappings)) × (3 * before (l .mappings) (h .mappings) ≤ length (l .intervals))
+          over-ready =
+              let m = memory (length bytes) (length ends) names used (parts .2) in
+              let s : Sized h (lengthsOf l) (l .mappings) = sized-facts h (lengthsOf l) (l .mappings) (parts .1) in
+              let a = s .fit .spans-whole in
+              let b = s .sum in (
+                ordered-names m (formed-names bytes ends used names (holds k c)),
+                empty-holds (length t) names z e (parts .0),
+                s .fit .maps-used,
+                omega arith,
+              )
+
+          pub over-built : (r : Built) (t′ : List ℕ)
+              → Leaves (directed (roomOf z) (namesOf bytes ends names) (mappingsFrom (l .mappings) (l .intervals) 0 0 (h .mappings)) (directionBy (h .«stype_in») (h .«stype_out»))) (length z) r t′
+              → (builtOf r ≡ overTimeAnswer t h l bytes ends names used) × (t′ ≡ overTimeMemory t h l bytes ends names used)
+          unfolding overTimeBuild overTime directionOf metadataOf
+          over-built r t′ x =
+              let j = good in
+              let i = holds k c in
+              let b : Build (Row ℕ) = directed (length z / 24) (namesOf bytes ends names) (mappingsFrom (l .mappings) (l .intervals) 0 0 (h .mappings)) (directionBy (h .«stype_in») (h .«stype_out»)) in
+              owed b r t′
+              (rw (j, i) (ap (λ (n : ℕ). directed (n / 24) (namesOf bytes ends names) (mappingsFrom (l .mappings) (l .intervals) 0 0 (h .mappings)) (directionBy (h .«stype_in») (h .«stype_out»))) (sym long)))
+              (x .answers) (x .memory ∙ ap (λ (n : ℕ). builtMemory n b) long)
