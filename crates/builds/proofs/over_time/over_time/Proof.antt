@@ -1,57 +1,54 @@
+-- Each way through the tests is one law, and then the build. Assumes nothing.
+use mathlib.Core.Path.{ap}
+use Rattle.form.specs.declared.header.Lengths.{Lengths}
+use Rattle.form.specs.Header.{lists}
+use Rattle.builds.specs.OverTimeLaws.{over-15, over-list, over-14, over-ready, over-built}
 use borrow.Author.Needs.{needs}
 use Rattle.builds.proofs.over_time.over_time.Statement.{statement}
 use Rattle.builds.proofs.over_time.over_time.Tie as tie
-use Rattle.builds.proofs.over_time.over_time.Reads as reads
-use Rattle.builds.proofs.over_time.over_time.Lts as lts
-use Rattle.building.proofs.reading.clear.Reads as clear-reads
-use Rattle.builds.proofs.over_time.build.Reads as build-reads
-use Rattle.builds.proofs.over_time.lengths.Reads as lengths-reads
-use Rattle.builds.proofs.over_time.memory_fits.Reads as memory-fits-reads
-use Rattle.leaves.proofs.names.is_list.Reads as is-list-reads
 
--- src/over_time.rt:357:5
 clear-requires : tie.Need-clear-requires
 clear-requires c κs = search needs
 
--- src/over_time.rt:358:9
 lengths-requires : tie.Need-lengths-requires
 lengths-requires c κs = search needs
 
--- src/over_time.rt:365:9
 memory-fits-requires : tie.Need-memory-fits-requires
-memory-fits-requires c κs = ?
+memory-fits-requires c κs = ap (λ (q : Lengths). q .mappings) (c .lengths .ensures)
 
--- src/over_time.rt:375:9
 same-length : tie.Need-same-length
 same-length c = search needs
 
--- src/over_time.rt:375:9
 returns : tie.Need-returns
-returns c = ?
+returns c =
+    let a = c .before .before .before .before .before .before .before .before .before .before .before .before .before .before .before .args in
+    over-15 (a .table .now) (a .h) (lists (a .symbols .now) (a .partial .now) (a .not-found .now) (a .mappings .now) (a .intervals .now)) (a .bytes .now) (a .ends .now) (a .names) (a .name-bytes) (c .before .before .before .before .before .clear .ensures) (c .before .before .lengths .ensures) (c .before .memory-fits .ensures) (c .if1 .taken)
 
--- src/over_time.rt:377:9
 is-list-requires : tie.Need-is-list-requires
-is-list-requires c κs = ?
+is-list-requires c κs =
+    let a = c .before .before .before .before .before .before .before .before .before .before .before .before .before .before .before .args in
+    over-list (a .table .now) (a .h) (lists (a .symbols .now) (a .partial .now) (a .not-found .now) (a .mappings .now) (a .intervals .now)) (a .bytes .now) (a .ends .now) (a .names) (a .name-bytes) (c .before .before .before .before .before .clear .ensures) (c .before .before .lengths .ensures) (c .before .memory-fits .ensures) (c .if1 .left)
 
--- src/over_time.rt:378:9
 same-length-2 : tie.Need-same-length-2
 same-length-2 c = search needs
 
--- src/over_time.rt:378:9
 returns-2 : tie.Need-returns-2
-returns-2 c = ?
+returns-2 c =
+    let a = c .before .before .before .before .before .before .before .before .before .before .before .before .before .before .before .before .before .args in
+    over-14 (a .table .now) (a .h) (lists (a .symbols .now) (a .partial .now) (a .not-found .now) (a .mappings .now) (a .intervals .now)) (a .bytes .now) (a .ends .now) (a .names) (a .name-bytes) (c .before .before .before .before .before .before .before .clear .ensures) (c .before .before .before .before .lengths .ensures) (c .before .before .before .memory-fits .ensures) (c .before .before .if1 .left) (c .before .is-list .ensures) (c .if2 .taken)
 
--- src/over_time.rt:380:5
 build-requires : tie.Need-build-requires
-build-requires c κs = ?
+build-requires c κs =
+    let a = c .before .before .before .before .before .before .before .before .before .before .before .before .before .before .before .before .before .before .args in
+    over-ready (a .table .now) (a .h) (lists (a .symbols .now) (a .partial .now) (a .not-found .now) (a .mappings .now) (a .intervals .now)) (a .bytes .now) (a .ends .now) (a .names) (a .name-bytes) (c .before .before .before .before .before .before .before .before .clear .ensures) (c .before .before .before .before .before .lengths .ensures) (c .before .before .before .before .memory-fits .ensures) (c .before .before .before .if1 .left) (c .before .before .is-list .ensures) (c .before .if2 .left)
 
--- src/over_time.rt:341:1
 same-length-3 : tie.Need-same-length-3
 same-length-3 c = search needs
 
--- src/over_time.rt:341:1
 returns-3 : tie.Need-returns-3
-returns-3 c = ?
+returns-3 c =
+    let a = c .before .before .before .before .before .before .before .before .before .before .before .before .before .before .before .before .before .before .before .before .before .args in
+    over-built (a .table .now) (a .h) (lists (a .symbols .now) (a .partial .now) (a .not-found .now) (a .mappings .now) (a .intervals .now)) (a .bytes .now) (a .ends .now) (a .names) (a .name-bytes) (c .before .before .before .before .before .before .before .before .before .before .before .clear .ensures) (c .before .before .before .before .before .before .before .before .lengths .ensures) (c .before .before .before .before .before .before .before .memory-fits .ensures) (c .before .before .before .before .before .before .if1 .left) (c .before .before .before .before .before .is-list .ensures) (c .before .before .before .before .if2 .left) (c .before .before .build .result) (c .before .before .build .last .0) (c .before .before .build .ensures)
 
 pub over-time-spec : {M : Type 1} → statement M
 over-time-spec =
