@@ -3,4 +3,5 @@ pub mod ReadingLaws
 pub mod OverTime
 pub mod PointInTime
 pub mod OverTimeLaws
+pub mod OverTimeHistory
 pub mod Examples
