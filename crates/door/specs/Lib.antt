@@ -4,4 +4,4 @@ pub mod Merge
 pub mod MergeLaws
 pub mod Merger
 pub mod MergerLaws
-pub mod Builds
+pub mod Build

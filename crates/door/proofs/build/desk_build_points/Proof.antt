@@ -6,10 +6,10 @@ use denote.Ref.{now}
 use Rattle.form.specs.Header.{lists}
 use Rattle.point_builds.specs.Build.{builtOf, pointInTimeAnswer, pointInTimeMemory}
 use Rattle.point_builds.specs.declared.build.Built.the-variants.{Done, Refused}
-use Rattle.door.specs.Builds.{build-unfit, build-done, build-refused}
+use Rattle.door.specs.Build.{build-unfit, build-done, build-refused}
 use borrow.Author.Needs.{needs}
-use Rattle.door.proofs.builds.desk_build_points.Statement.{statement}
-use Rattle.door.proofs.builds.desk_build_points.Tie as tie
+use Rattle.door.proofs.build.desk_build_points.Statement.{statement}
+use Rattle.door.proofs.build.desk_build_points.Tie as tie
 
 is-header-requires : tie.Need-is-header-requires
 is-header-requires c κs = search needs
