@@ -6,11 +6,10 @@ use mathlib.Core.Logic.{_≢_}
 use mathlib.Core.Bool.{Bool, true, false, _&&_, cond}
 use mathlib.Core.List.{List, [], _∷_, append-nil}
 use lib.Dec.{leb, eqb}
-use lib.ListN.{length, getD, take, drop, drop-of-length-le}
+use lib.ListN.{length, getD, drop, drop-of-length-le}
 use lib.Seq.{paste, take-all}
 use native.Mathlib.Numerals.{add-one}
 use borrow.Author.Tests.{leb-true, lt-leb, le-leb}
-use Rattle.theory.specs.Answer.{Answer, answer}
 use Rattle.leaves.specs.Refusal.{numberOf, refused}
 use Rattle.leaves.specs.declared.refusal.Refusal.{Refusal}
 use Rattle.leaves.specs.declared.refusal.Refusal.the-variants.{Reversed, NoRoom, UnknownSymbol, BadName, NoNameRoom, Differ, Conflict, NotNumber, NoInstrumentId, OutsideQuery, NoDate, BadStreams, Damaged, IllFormed, BadMemory}

@@ -1,8 +1,6 @@
 // Runs the cases that stand on standard input over the metadata merge, and prints a line for each kind of them. The data
-// itself says what a line means; a case that is answered otherwise than expected is printed. Memory over the limit of
-// intervals is tried by calls.
+// itself says what a line means; a case that is answered otherwise than expected is printed.
 mod calls;
-mod limits;
 mod sides;
 
 ghost use mathlib.Core.Path.{_≡_};
@@ -63,5 +61,4 @@ fn main() {
     run(text, b"finish", FINISH);
     run(text, b"dbn_open", OPEN);
     run(text, b"dbn_merge", MERGE);
-    limits::run();
 }
