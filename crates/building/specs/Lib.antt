@@ -5,3 +5,4 @@ pub mod PointInTime
 pub mod OverTimeLaws
 pub mod OverTimeHistory
 pub mod Examples
+pub mod PointInTimeLaws

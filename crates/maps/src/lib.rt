@@ -4,7 +4,6 @@ pub mod entries;
 pub mod insert;
 pub mod interval;
 pub mod lookup;
-pub mod mapping;
 pub mod moves;
 pub mod points;
 pub mod search;
