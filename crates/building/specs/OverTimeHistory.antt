@@ -2,17 +2,17 @@
 -- demand 3's theorems hold of it. Assumes nothing.
 use mathlib.Core.Path.{_≡_, refl, sym, ap, _∙_, subst}
 use mathlib.Core.Logic.{_↔_}
-use Prim.Native.Nat.{ℕ, zero, suc, _+_, _≤_, _<_}
+use Prim.Native.Nat.{ℕ, _+_, _≤_}
 use native.Mathlib.Omega.{arith}
-use mathlib.Core.Bool.{Bool, true, false, not, _||_, cond}
+use mathlib.Core.Bool.{Bool, true, false, not, _||_}
 use mathlib.Core.List.{List, [], _∷_}
 use lib.ListN.{length}
 use lib.Dec.{T, ltb}
 use lib.Arith.{le→nltb}
 use Rattle.theory.specs.Runs.{Mem, IsRun}
 use Rattle.theory.specs.RunsTools.{cond-yes, cond-no}
-use Rattle.tables.specs.Table.{Row, intervalOf, answerFor, Ordered, ordered, allKnown, Outcome, refusedBy, stored, nowStored, badRoom, badNames, wellFormed, entered, inserted}
-use Rattle.tables.specs.Tests.{Good, good-room}
+use Rattle.tables.specs.Table.{Row, intervalOf, answerFor, ordered, allKnown, Outcome, refusedBy, stored, nowStored, badRoom, badNames, wellFormed, entered, inserted}
+use Rattle.tables.specs.Tests.{good-room}
 use Rattle.tables.specs.Memory.{sameValue, knownValue}
 use Rattle.tables.specs.Pieces.{symbols}
 use Rattle.tables.specs.History.{Event, insertion, after, accepted, noted, Accepted, entered-ok, Told, told, stored-runs}
