@@ -2,17 +2,17 @@
 -- demand 3's theorems hold of it. Assumes nothing.
 use mathlib.Core.Path.{_≡_, refl, sym, ap, _∙_, subst}
 use mathlib.Core.Logic.{_↔_}
-use Prim.Native.Nat.{ℕ, zero, suc, _+_, _≤_, _<_}
+use Prim.Native.Nat.{ℕ, _+_, _≤_}
 use native.Mathlib.Omega.{arith}
-use mathlib.Core.Bool.{Bool, true, false, not, _||_, cond}
+use mathlib.Core.Bool.{Bool, true, false, not, _||_}
 use mathlib.Core.List.{List, [], _∷_}
 use lib.ListN.{length}
 use lib.Dec.{T, ltb}
 use lib.Arith.{le→nltb}
 use Rattle.theory.specs.Runs.{Mem, IsRun}
 use Rattle.theory.specs.RunsTools.{cond-yes, cond-no}
-use Rattle.tables.specs.Table.{Row, intervalOf, answerFor, Ordered, ordered, allKnown, Outcome, refusedBy, stored, nowStored, badRoom, badNames, wellFormed, entered, inserted}
-use Rattle.tables.specs.Tests.{Good, good-room}
+use Rattle.tables.specs.Table.{Row, intervalOf, answerFor, ordered, allKnown, Outcome, refusedBy, stored, nowStored, badRoom, badNames, wellFormed, entered, inserted}
+use Rattle.tables.specs.Tests.{good-room}
 use Rattle.tables.specs.Memory.{sameValue, knownValue}
 use Rattle.tables.specs.Pieces.{symbols}
 use Rattle.tables.specs.History.{Event, insertion, after, accepted, noted, Accepted, entered-ok, Told, told, stored-runs}
@@ -78,6 +78,12 @@ pub record Comes (names room : ℕ) (ns ys : List (Row ℕ)) : Type 0 where
   pub each : accepted sameValue knownValue (events names room ns) ≡ ns
   pub formed : T (wellFormed sameValue knownValue names ys)
   pub fits : length ys ≤ room
+
+-- demand 3 of a table after these inserts: it is well-formed, the latest that covers a moment decides, the rows are the longest runs
+pub record Demanded (names : ℕ) (ns ys : List (Row ℕ)) : Type 0 where
+  pub well-formed : T (wellFormed sameValue knownValue names ys)
+  pub latest : (i m : ℕ) → answerFor ys i m ≡ answerFor ns i m
+  pub runs : (x : Row ℕ) → Mem x ys ↔ IsRun (answerFor ns (x .instrument)) (intervalOf x)
 
 module _ (names room : ℕ) (few : names ≤ 4096) (small : room ≤ 65536) where
   -- an insert into a well-formed table within the limits is judged by its own order alone
@@ -160,13 +166,8 @@ module _ (room : ℕ) (texts : List (List ℕ)) (few : length texts ≤ 4096) (s
       go (fault q) e = absurd (let z : _≡_ {A = ℕ} 0 1 = cc in omega arith)
       go (value d) e = comes-mappings d 0 (m .mappings) [] [] ys (record { history = refl; each = refl; formed = tt; fits = omega arith }) e
 
-  -- so demand 3 holds of it: it is well-formed, the latest insert that covers a moment decides, and its rows are the longest runs
-  pub record Demanded (ns ys : List (Row ℕ)) : Type 0 where
-    pub well-formed : T (wellFormed sameValue knownValue (length texts) ys)
-    pub latest : (i m : ℕ) → answerFor ys i m ≡ answerFor ns i m
-    pub runs : (x : Row ℕ) → Mem x ys ↔ IsRun (answerFor ns (x .instrument)) (intervalOf x)
-
-  pub built-demanded : (m : Metadata) (ys : List (Row ℕ)) → overTime room texts m ≡ built ys → Demanded (insertsAsked texts m) ys
+  -- so demand 3 holds of it
+  pub built-demanded : (m : Metadata) (ys : List (Row ℕ)) → overTime room texts m ≡ built ys → Demanded (length texts) (insertsAsked texts m) ys
   built-demanded m ys e =
       let c : Comes (length texts) room (insertsAsked texts m) ys = built-history m ys e in
       let es : List (Event ℕ) = events (length texts) room (insertsAsked texts m) in

@@ -79,3 +79,12 @@ builtMemory long (built ys) = written (replicate long 0) 0 ys
 unfoldable pub overTimeMemory : List ℕ → Header → Lists → List ℕ → List ℕ → ℕ → ℕ → List ℕ
 unfolding overTimeBuild builtMemory
 overTimeMemory table h l bytes ends names used = builtMemory (length table) (overTimeBuild table h l bytes ends names used)
+
+-- the rows that stand there: a refused build leaves none
+unfoldable pub builtRows : Build (Row ℕ) → List (Row ℕ)
+builtRows (stopped c t k) = []
+builtRows (built ys) = ys
+
+unfoldable pub overTimeRows : List ℕ → Header → Lists → List ℕ → List ℕ → ℕ → ℕ → List (Row ℕ)
+unfolding overTimeBuild builtRows
+overTimeRows table h l bytes ends names used = builtRows (overTimeBuild table h l bytes ends names used)

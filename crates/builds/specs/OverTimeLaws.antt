@@ -1,15 +1,14 @@
 -- What the functions of the build promise one another: the table holds rows in order and 0 in every other place, and the rest of the
 -- build on it is the whole. Assumes nothing.
 use mathlib.Core.Path.{_≡_, refl, sym, ap, _∙_, subst}
-use mathlib.Core.Logic.{_≢_}
 use Prim.Native.Nat.{ℕ, _+_, _-_, _*_, _/_, _≤_, _<_}
 use native.Mathlib.Omega.{arith}
 use mathlib.Core.Bool.{Bool, true, false, not, _&&_, cond}
 use mathlib.Core.List.{List, [], _∷_}
 use lib.ListN.{length, getD, replicate, length-replicate}
 use lib.Dec.{T}
-use Rattle.theory.specs.Answer.{Answer, answer}
-use Rattle.leaves.specs.Refusal.{numberOf, valuesOf, refused}
+use Rattle.theory.specs.Answer.{answer}
+use Rattle.leaves.specs.Refusal.{numberOf, refused}
 use Rattle.leaves.specs.declared.refusal.Refusal.{Refusal}
 use Rattle.leaves.specs.declared.refusal.Refusal.the-variants.{Reversed, NoRoom, UnknownSymbol, BadName, NoNameRoom, Differ, Conflict, NotNumber, NoInstrumentId, OutsideQuery, NoDate, BadStreams, Damaged, IllFormed, BadMemory}
 use Rattle.maps.specs.Interval.{rowOf}
@@ -50,13 +49,14 @@ use Rattle.building.specs.declared.reading.Heading.the-variants as heading
 use Rattle.building.specs.Reading.{Read, fault, andThen, textOf, numberIn, momentIn, directionBy, directionOf, symbolIn, headingRead, instrumentRead, momentRead}
 use Rattle.building.specs.OverTime.{Step, stop, skip, set, reading, dated, forwardStep, inverseStep, taken, Build, stopped, built, layIntervals, layRead, layMapping, layMappings, directed, overTime, buildAnswer}
 use Rattle.building.specs.OverTimeLaws.{unknown-stops, empty-skips, filled-known, filled-reads, dated-start, dated-end, dated-row, name-unknown, name-known, Plain, PlainStep, text-plain, number-plain, direction-plain, andThen-plain, forward-plain, inverse-plain, intervals-end, intervals-turn, intervals-stop, mappings-end, mappings-turn, mappings-stop, laid-blank, written-again}
+use Rattle.building.specs.OverTimeHistory.{insertsAsked, Demanded, built-demanded}
 use Rattle.builds.specs.declared.over_time.Built.{Built}
 use Rattle.builds.specs.declared.over_time.Built.the-variants.{Done, Refused}
 use Rattle.builds.specs.declared.over_time.Way.{Way}
 use Rattle.builds.specs.declared.over_time.Way.the-variants.{Forward, Inverse}
 use Rattle.builds.specs.declared.over_time.Asked.{Asked}
 use Rattle.builds.specs.declared.over_time.Asked.the-variants.{Refuse, Nothing, Insert}
-use Rattle.builds.specs.OverTime.{builtOf, isDone, usedOf, askedOf, wayStep, memoryFits, overTimeBuild, overTimeAnswer, builtMemory, overTimeMemory}
+use Rattle.builds.specs.OverTime.{builtOf, isDone, usedOf, askedOf, wayStep, memoryFits, overTimeBuild, overTimeAnswer, builtMemory, overTimeMemory, builtRows, overTimeRows}
 
 -- ---- what holds between two steps
 
@@ -77,10 +77,11 @@ pub record Lays (names : ℕ) (b : Build (Row ℕ)) (r : Built) (t′ : List ℕ
   pub answers : builtOf r ≡ buildAnswer b
   pub on : (used : ℕ) → r ≡ Done used → (b ≡ built (rows t′ used)) × Holds names t′ used
 
--- the whole build: its answer, and all the memory of so many bytes
+-- the whole build: its answer, all the memory of so many bytes, and the rows that stand there
 pub record Leaves (b : Build (Row ℕ)) (long : ℕ) (r : Built) (t′ : List ℕ) : Type 0 where
   pub answers : builtOf r ≡ buildAnswer b
   pub memory : t′ ≡ builtMemory long b
+  pub stands : rows t′ (length (builtRows b)) ≡ builtRows b
 
 -- ---- one interval's step
 
@@ -102,7 +103,7 @@ plain-refused (Damaged stream place reason) p = absurd (p .no-damage refl)
 plain-refused IllFormed p = refl
 plain-refused BadMemory p = refl
 
-way-plain : (texts : List (List ℕ)) (way : Way) (x : _) → PlainStep (wayStep texts way x)
+way-plain : (texts : List (List ℕ)) (way : Way) (x : Span) → PlainStep (wayStep texts way x)
 way-plain texts (Forward name) x = forward-plain texts name x
 way-plain texts (Inverse instrument) x = inverse-plain texts instrument x
 
@@ -400,7 +401,7 @@ module _ (bytes ends : List ℕ) (names : ℕ) (name room : ℕ) (xs : List Span
 -- ---- the mappings, one after the other
 
 -- before the mapping of number k, whose intervals begin at this place: what is left of them on this table is the whole
-pub record Mapping-on (names : ℕ) (texts : List (List ℕ)) (d : Direction) (m v : List ℕ) (count : ℕ) (t₀ t : List ℕ) (used from k : ℕ) : Type 0 where
+pub record Mapped (names : ℕ) (texts : List (List ℕ)) (d : Direction) (m v : List ℕ) (count : ℕ) (t₀ t : List ℕ) (used from k : ℕ) : Type 0 where
   pub upto : k ≤ count
   pub begins : from ≡ before m k
   pub long : length t ≡ length t₀
@@ -409,13 +410,13 @@ pub record Mapping-on (names : ℕ) (texts : List (List ℕ)) (d : Direction) (m
       ≡ layMappings (roomOf t₀) texts d k (mappingsFrom m v k from (count - k)) (rows t used)
 
 module _ (names : ℕ) (texts : List (List ℕ)) (d : Direction) (m v : List ℕ) (count : ℕ) (t₀ : List ℕ) where
-  pub mapping-start : Holds names t₀ 0 → Mapping-on names texts d m v count t₀ t₀ 0 0 0
+  pub mapping-start : Holds names t₀ 0 → Mapped names texts d m v count t₀ t₀ 0 0 0
   unfolding before rowsFrom
   mapping-start h =
       let e : count ≡ count - 0 = omega arith in
       record { upto = omega arith; begins = refl; long = refl; holds = h; left = λ i. layMappings (roomOf t₀) texts d 0 (mappingsFrom m v 0 0 (e i)) [] }
 
-  module _ (t : List ℕ) (used from k : ℕ) (l : Mapping-on names texts d m v count t₀ t used from k) (h : k < count) where
+  module _ (t : List ℕ) (used from k : ℕ) (l : Mapped names texts d m v count t₀ t used from k) (h : k < count) where
     -- its intervals are within the lent ones
     pub mapping-within : (n : ℕ) → n ≡ countAt m k → 3 * before m count ≤ length v → 3 * (from + n) ≤ length v
     mapping-within n e w = omega (arith, before-next m k, before-up m (k + 1) count (omega arith), l .begins)
@@ -430,7 +431,7 @@ module _ (names : ℕ) (texts : List (List ℕ)) (d : Direction) (m v : List ℕ
       read : Lays names (layMapping (roomOf t) texts d k (mapping (nameAt m k) (stretch v from (countAt m k))) (rows t used)) r t′
       read = subst (λ (b : Build (Row ℕ)). Lays names b r t′) (λ i. layMapping (roomOf t) texts d k (mapping (y i) (stretch v from (z i))) (rows t used)) (w k)
 
-      pub mapping-turn : (u : ℕ) → length t′ ≡ length t → isDone r ≡ true → u ≡ usedOf r → Mapping-on names texts d m v count t₀ t′ u (from + n) (k + 1)
+      pub mapping-turn : (u : ℕ) → length t′ ≡ length t → isDone r ≡ true → u ≡ usedOf r → Mapped names texts d m v count t₀ t′ u (from + n) (k + 1)
       mapping-turn u g e f =
           let p = read .on u (done-is r e ∙ ap Done (sym f)) in
           let b : count - k - 1 ≡ count - (k + 1) = omega arith in
@@ -453,7 +454,7 @@ module _ (names : ℕ) (texts : List (List ℕ)) (d : Direction) (m v : List ℕ
         on = λ u x. absurd (not-done e x);
       }
 
-  pub mapping-end : (t : List ℕ) (used from k : ℕ) → Mapping-on names texts d m v count t₀ t used from k → count ≤ k
+  pub mapping-end : (t : List ℕ) (used from k : ℕ) → Mapped names texts d m v count t₀ t used from k → count ≤ k
       → Lays names (layMappings (roomOf t₀) texts d 0 (mappingsFrom m v 0 0 count) []) (Done used) t
   unfolding buildAnswer
   mapping-end t used from k l h =
@@ -476,11 +477,11 @@ module _ (names : ℕ) (t : List ℕ) (texts : List (List ℕ)) (ms : List Mappi
 
   pub build-undirected : {s : Heading} {why : Refusal} (i o : ℕ) → Holds names t 0 → headingRead s ≡ directionBy i o → s ≡ heading.Refused why
       → Leaves (directed (roomOf t) texts ms (directionBy i o)) (length t) (Refused why) t
-  unfolding directed buildAnswer builtMemory
+  unfolding directed buildAnswer builtMemory builtRows rowsFrom
   build-undirected {s} {why} i o h e d =
       let f : directionBy i o ≡ fault (numberOf why) = sym e ∙ ap headingRead d in
       let p : Plain (numberOf why) = direction-plain i o (numberOf why) f in
-      rw f (record { answers = plain-refused why p; memory = empty-memory h })
+      rw f (record { answers = plain-refused why p; memory = empty-memory h; stands = refl })
 
   module _ {s : Heading} {d : Direction} (i o : ℕ) (e : headingRead s ≡ directionBy i o) (f : s ≡ heading.Is d) (r : Built) (t′ : List ℕ) (g : length t′ ≡ length t)
       (l : Lays names (layMappings (roomOf t) texts d 0 ms []) r t′) where
@@ -489,24 +490,31 @@ module _ (names : ℕ) (t : List ℕ) (texts : List (List ℕ)) (ms : List Mappi
     on-way = ap (directed (roomOf t) texts ms) (sym e ∙ ap headingRead f)
 
     pub build-done : isDone r ≡ true → Leaves (directed (roomOf t) texts ms (directionBy i o)) (length t) r t′
-    unfolding builtMemory
+    unfolding builtMemory builtRows
     build-done c =
         let p = l .on (usedOf r) (done-is r c) in
         record {
           answers = l .answers ∙ sym (ap buildAnswer on-way);
           memory = p .1 .memory ∙ ap (λ (n : ℕ). written (replicate n 0) 0 (rows t′ (usedOf r))) g ∙ sym (ap (builtMemory (length t)) (on-way ∙ p .0));
+          stands = rw (on-way ∙ p .0) (ap (λ (n : ℕ). rows t′ n) (length-rows t′ 0 (usedOf r)));
         }
 
     pub build-cleared : (t″ : List ℕ) → isDone r ≡ false → t″ ≡ replicate (length t′) 0 → Leaves (directed (roomOf t) texts ms (directionBy i o)) (length t) r t″
-    unfolding builtMemory buildAnswer
+    unfolding builtMemory buildAnswer builtRows rowsFrom
     build-cleared t″ c z = record {
       answers = l .answers ∙ sym (ap buildAnswer on-way);
       memory = z ∙ ap (λ (n : ℕ). replicate n 0) g ∙ sym (ap (builtMemory (length t)) on-way ∙ stops (layMappings (roomOf t) texts d 0 ms []) (l .answers));
+      stands =
+          subst (λ (b : Build (Row ℕ)). rows t″ (length (builtRows b)) ≡ builtRows b) (sym on-way) (none (layMappings (roomOf t) texts d 0 ms []) (l .answers));
     }
       where
         stops : (b : Build (Row ℕ)) → builtOf r ≡ buildAnswer b → builtMemory (length t) b ≡ replicate (length t) 0
         stops (stopped c s k) y = refl
         stops (built ys) y = absurd (no-refusal r (length ys) c y)
+
+        none : (b : Build (Row ℕ)) → builtOf r ≡ buildAnswer b → rows t″ (length (builtRows b)) ≡ builtRows b
+        none (stopped c s k) y = refl
+        none (built ys) y = absurd (no-refusal r (length ys) c y)
 
 -- ---- the lent memory
 
@@ -538,6 +546,13 @@ module _ (long : ℕ) (h : Header) (l : Lengths) (m : List ℕ) (bytes places na
       let j : sizedOf h l m ≡ true = holds f g in
       k ∙ rw (i, j) refl
 
+  fits-facts : memoryFits long h l m bytes places names used ≡ true → (badTable long 0 ≡ false) × (sizedOf h l m ≡ true) × (memoryOk bytes places names used ≡ true)
+  unfolding memoryFits
+  fits-facts e =
+      let p = and-parts (not (badTable long 0)) _ e in
+      let r = and-parts (sizedOf h l m) _ (p .1) in
+      (not-true (badTable long 0) (p .0), r .0, r .1)
+
 -- an emptied table
 pub empty-holds : (long names : ℕ) (z : List ℕ) → z ≡ replicate long 0 → badTable long 0 ≡ false → Holds names z 0
 unfolding wellFormed ordered allKnown rowsFrom rowsBytes
@@ -555,13 +570,17 @@ empty-holds long names z e d =
 -- ---- the call
 
 module _ (t : List ℕ) (h : Header) (l : Lists) (bytes ends : List ℕ) (names used : ℕ) where
-  -- what the call owes: the answer, and the table's memory
-  abbrev Owed : Built → List ℕ → Type 0
-  Owed r t′ = (builtOf r ≡ overTimeAnswer t h l bytes ends names used) × (t′ ≡ overTimeMemory t h l bytes ends names used)
+  -- what the call owes: the answer, the table's memory, and the rows that stand there
+  abbrev pub Owed : Built → List ℕ → Type 0
+  Owed r t′ =
+      (builtOf r ≡ overTimeAnswer t h l bytes ends names used)
+      × ((t′ ≡ overTimeMemory t h l bytes ends names used) × (rows t′ (length (overTimeRows t h l bytes ends names used)) ≡ overTimeRows t h l bytes ends names used))
 
-  owed : (b : Build (Row ℕ)) (r : Built) (t′ : List ℕ) → overTimeBuild t h l bytes ends names used ≡ b → builtOf r ≡ buildAnswer b → t′ ≡ builtMemory (length t) b → Owed r t′
-  unfolding overTimeAnswer overTimeMemory
-  owed b r t′ e f g = (f ∙ sym (ap buildAnswer e), g ∙ sym (ap (builtMemory (length t)) e))
+  owed : (b : Build (Row ℕ)) (r : Built) (t′ : List ℕ) → overTimeBuild t h l bytes ends names used ≡ b → builtOf r ≡ buildAnswer b → t′ ≡ builtMemory (length t) b
+      → rows t′ (length (builtRows b)) ≡ builtRows b → Owed r t′
+  unfolding overTimeAnswer overTimeMemory overTimeRows
+  owed b r t′ e f g k =
+      (f ∙ sym (ap buildAnswer e), (g ∙ sym (ap (builtMemory (length t)) e), subst (λ (b : Build (Row ℕ)). rows t′ (length (builtRows b)) ≡ builtRows b) (sym e) k))
 
   module _ {f : Bool} {q : Lengths} {z : List ℕ} (e : z ≡ replicate (length t) 0) (d : q ≡ lengthsOf l)
       (y : f ≡ memoryFits (length z) h q (l .mappings) (length bytes) (length ends) names used) where
@@ -571,31 +590,27 @@ module _ (t : List ℕ) (h : Header) (l : Lists) (bytes ends : List ℕ) (names 
     fit : f ≡ memoryFits (length t) h (lengthsOf l) (l .mappings) (length bytes) (length ends) names used
     fit = y ∙ (λ i. memoryFits (long i) h (d i) (l .mappings) (length bytes) (length ends) names used)
 
-    pub over-15 : not f ≡ true → (refused BadMemory ≡ overTimeAnswer t h l bytes ends names used) × (z ≡ overTimeMemory t h l bytes ends names used)
-    unfolding overTimeBuild buildAnswer builtMemory
-    over-15 g = let j = fails fit g in owed (stopped 15 0 0) (Refused BadMemory) z (rw j refl) refl e
+    pub over-15 : not f ≡ true → Owed (Refused BadMemory) z
+    unfolding overTimeBuild buildAnswer builtMemory builtRows rowsFrom
+    over-15 g = let j = fails fit g in owed (stopped 15 0 0) (Refused BadMemory) z (rw j refl) refl e refl
 
     module _ (g : not f ≡ false) where
       good : memoryFits (length t) h (lengthsOf l) (l .mappings) (length bytes) (length ends) names used ≡ true
       good = holds fit g
 
       parts : (badTable (length t) 0 ≡ false) × (sizedOf h (lengthsOf l) (l .mappings) ≡ true) × (memoryOk (length bytes) (length ends) names used ≡ true)
-      unfolding memoryFits
-      parts =
-          let p = and-parts (not (badTable (length t) 0)) _ good in
-          let r = and-parts (sizedOf h (lengthsOf l) (l .mappings)) _ (p .1) in
-          (not-true (badTable (length t) 0) (p .0), r .0, r .1)
+      parts = fits-facts (length t) h (lengthsOf l) (l .mappings) (length bytes) (length ends) names used good
 
       pub over-list : (names ≤ length ends) × (used ≤ length bytes)
       over-list = let m = memory (length bytes) (length ends) names used (parts .2) in (m .held, m .room)
 
       module _ {w : Bool} (k : w ≡ wellFormedNames bytes ends names used) where
-        pub over-14 : not w ≡ true → (refused IllFormed ≡ overTimeAnswer t h l bytes ends names used) × (z ≡ overTimeMemory t h l bytes ends names used)
-        unfolding overTimeBuild buildAnswer builtMemory
+        pub over-14 : not w ≡ true → Owed (Refused IllFormed) z
+        unfolding overTimeBuild buildAnswer builtMemory builtRows rowsFrom
         over-14 c =
             let j = good in
             let i = fails k c in
-            owed (stopped 14 0 0) (Refused IllFormed) z (rw (j, i) refl) refl e
+            owed (stopped 14 0 0) (Refused IllFormed) z (rw (j, i) refl) refl e refl
 
         module _ (c : not w ≡ false) where
           pub over-ready : Ordered-names bytes ends names × Holds names z 0 × (2 * h .mappings ≤ length (l .mappings)) × (3 * before (l .mappings) (h .mappings) ≤ length (l .intervals))
@@ -612,7 +627,7 @@ module _ (t : List ℕ) (h : Header) (l : Lists) (bytes ends : List ℕ) (names 
 
           pub over-built : (r : Built) (t′ : List ℕ)
               → Leaves (directed (roomOf z) (namesOf bytes ends names) (mappingsFrom (l .mappings) (l .intervals) 0 0 (h .mappings)) (directionBy (h .«stype_in») (h .«stype_out»))) (length z) r t′
-              → (builtOf r ≡ overTimeAnswer t h l bytes ends names used) × (t′ ≡ overTimeMemory t h l bytes ends names used)
+              → Owed r t′
           unfolding overTimeBuild overTime directionOf metadataOf
           over-built r t′ x =
               let j = good in
@@ -620,4 +635,32 @@ module _ (t : List ℕ) (h : Header) (l : Lists) (bytes ends : List ℕ) (names 
               let b : Build (Row ℕ) = directed (length z / 24) (namesOf bytes ends names) (mappingsFrom (l .mappings) (l .intervals) 0 0 (h .mappings)) (directionBy (h .«stype_in») (h .«stype_out»)) in
               owed b r t′
               (rw (j, i) (ap (λ (n : ℕ). directed (n / 24) (namesOf bytes ends names) (mappingsFrom (l .mappings) (l .intervals) 0 0 (h .mappings)) (directionBy (h .«stype_in») (h .«stype_out»))) (sym long)))
-              (x .answers) (x .memory ∙ ap (λ (n : ℕ). builtMemory n b) long)
+              (x .answers) (x .memory ∙ ap (λ (n : ℕ). builtMemory n b) long) (x .stands)
+
+  -- ---- demand 3 of a done call
+
+  pub over-demanded : (u : ℕ) → overTimeAnswer t h l bytes ends names used ≡ answer 0 (u ∷ [])
+      → (u ≡ length (overTimeRows t h l bytes ends names used))
+      × Demanded (length (namesOf bytes ends names)) (insertsAsked (namesOf bytes ends names) (metadataOf h l)) (overTimeRows t h l bytes ends names used)
+  unfolding overTimeAnswer overTimeRows overTimeBuild buildAnswer builtRows
+  over-demanded u =
+      go (memoryFits (length t) h (lengthsOf l) (l .mappings) (length bytes) (length ends) names used) refl (wellFormedNames bytes ends names used)
+      (overTime (roomOf t) (namesOf bytes ends names) (metadataOf h l)) refl
+    where
+      go : (f : Bool) → memoryFits (length t) h (lengthsOf l) (l .mappings) (length bytes) (length ends) names used ≡ f → (w : Bool) (b : Build (Row ℕ))
+          → overTime (roomOf t) (namesOf bytes ends names) (metadataOf h l) ≡ b
+          → buildAnswer (cond f (cond w b (stopped 14 0 0)) (stopped 15 0 0)) ≡ answer 0 (u ∷ [])
+          → (u ≡ length (builtRows (cond f (cond w b (stopped 14 0 0)) (stopped 15 0 0))))
+          × Demanded (length (namesOf bytes ends names)) (insertsAsked (namesOf bytes ends names) (metadataOf h l)) (builtRows (cond f (cond w b (stopped 14 0 0)) (stopped 15 0 0)))
+      go false y w b z e = absurd (let q : _≡_ {A = ℕ} 15 0 = cc in omega arith)
+      go true y false b z e = absurd (let q : _≡_ {A = ℕ} 14 0 = cc in omega arith)
+      go true y true (stopped c s k) z e = absurd (let q : _≡_ {A = ℕ} 0 1 = cc in omega arith)
+      go true y true (built ys) z e =
+          let p = fits-facts (length t) h (lengthsOf l) (l .mappings) (length bytes) (length ends) names used y in
+          let m = memory (length bytes) (length ends) names used (p .2) in
+          let a : names ≤ length ends = m .held in
+          let b : length ends ≤ 4096 = m .few in
+          let n : length (namesOf bytes ends names) ≡ names = names-length bytes ends names in
+          let d : length t / 24 ≤ 65536 = table-lent (length t) 0 (p .0) .limit in
+          let q : length ys ≡ u = cc in
+          (sym q, built-demanded (roomOf t) (namesOf bytes ends names) (omega arith) d (metadataOf h l) ys z)

@@ -34,7 +34,7 @@ ghost use Rattle.form.specs.Header.{lists};
 ghost use Rattle.tables.specs.Memory.{rows, roomOf};
 ghost use Rattle.building.specs.Reading.{andThen, textOf, numberIn, directionBy, instrumentRead};
 ghost use Rattle.building.specs.OverTime.{dated, taken, layIntervals, layMapping, layMappings, directed};
-ghost use Rattle.builds.specs.OverTime.{askedOf, wayStep, isDone, usedOf, builtOf, lengthsBy, memoryFits, overTimeAnswer, overTimeMemory};
+ghost use Rattle.builds.specs.OverTime.{askedOf, wayStep, isDone, usedOf, builtOf, lengthsBy, memoryFits, overTimeAnswer, overTimeMemory, overTimeRows};
 ghost use Rattle.builds.specs.OverTimeLaws.{Holds, Took, Lays, Leaves};
 
 // What a build answers: done, with how many intervals the table has, or refused.
@@ -371,6 +371,7 @@ pub fn over_time(
 ) -> Built
     ensures { λ r. ⌜ builtOf r ≡ overTimeAnswer (now (table .entry)) h (lists (now (symbols .entry)) (now (partial .entry)) (now («not_found» .entry)) (now (mappings .entry)) (now (intervals .entry))) (now (bytes .entry)) (now (ends .entry)) names «name_bytes» ⌝ }
     ensures { λ _. ⌜ now (table .exit) ≡ overTimeMemory (now (table .entry)) h (lists (now (symbols .entry)) (now (partial .entry)) (now («not_found» .entry)) (now (mappings .entry)) (now (intervals .entry))) (now (bytes .entry)) (now (ends .entry)) names «name_bytes» ⌝ }
+    ensures { λ _. ⌜ rows (now (table .exit)) (length (overTimeRows (now (table .entry)) h (lists (now (symbols .entry)) (now (partial .entry)) (now («not_found» .entry)) (now (mappings .entry)) (now (intervals .entry))) (now (bytes .entry)) (now (ends .entry)) names «name_bytes»)) ≡ overTimeRows (now (table .entry)) h (lists (now (symbols .entry)) (now (partial .entry)) (now («not_found» .entry)) (now (mappings .entry)) (now (intervals .entry))) (now (bytes .entry)) (now (ends .entry)) names «name_bytes» ⌝ }
 {
     clear(table);
     let l = lengths(
