@@ -3,7 +3,6 @@
 // intervals is tried by calls.
 mod calls;
 mod limits;
-mod sides;
 
 ghost use mathlib.Core.Path.{_≡_};
 ghost use lib.ListN.{length};
