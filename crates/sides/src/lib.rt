@@ -36,7 +36,7 @@ pub struct Compared {
 }
 
 // A number in so many bits; one that doesn't fit becomes the largest.
-pub fn of_8(n: u64) -> u8 {
+fn of_8(n: u64) -> u8 {
     if n <= 255 { n as u8 } else { 255 }
 }
 
