@@ -2,5 +2,6 @@ pub mod Reading
 pub mod ReadingLaws
 pub mod OverTime
 pub mod PointInTime
+pub mod OverTimeLaws
 pub mod Examples
 pub mod PointInTimeLaws

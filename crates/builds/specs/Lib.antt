@@ -1,0 +1,2 @@
+pub mod OverTime
+pub mod OverTimeLaws

@@ -1,0 +1,2 @@
+// The build over time from metadata.
+pub mod over_time;
