@@ -35,7 +35,7 @@ fn too_many() -> [u32; 196611]
     [0; 196611]
 }
 
-// A header of nothing, with the symbols' numbers on the instrument's side.
+// A header with nothing in use, its stype_out instrument ID.
 fn header() -> Header {
     Header {
         version: 3,
