@@ -4,7 +4,7 @@ use mathlib.Core.Path.{_≡_, refl, sym, ap, _∙_}
 use mathlib.Core.Logic.{_≢_}
 use Prim.Native.Nat.{ℕ, zero, suc, _+_, _-_, _*_, _≤_, _<_, max}
 use native.Mathlib.Omega.{arith}
-use mathlib.Core.Bool.{Bool, true, false, not, _&&_, cond}
+use mathlib.Core.Bool.{Bool, false, _&&_, cond}
 use mathlib.Core.List.{List, [], _∷_, _++_}
 use lib.ListN.{length, getD, drop, replicate, length-append, replicate-append-replicate}
 use lib.Seq.{drop-nil, drop-append-add}
@@ -14,7 +14,7 @@ use Rattle.theory.specs.RunsTools.{cond-case, ltb-case, cond-lt, cond-ge}
 use Rattle.leaves.specs.NumberText.{numberText, someDigits, digits, isDigit, stuck}
 use Rattle.leaves.specs.Days.{dayOf, inRange}
 use Rattle.leaves.specs.Calendar.{isDate, dayNumber}
-use Rattle.tables.specs.Table.{Row, Outcome, refusedBy, stored}
+use Rattle.tables.specs.Table.{Row, refusedBy, stored}
 use Rattle.tables.specs.Memory.{rowsBytes, rowBytes, written}
 use Rattle.tables.specs.MemoryLaws.{length-row}
 use Rattle.merging.specs.declared.Interval.{Interval}
@@ -23,9 +23,8 @@ use Rattle.merging.specs.Words.{nameAt, countAt, intervalAt, stretch, mappingsF
 use Rattle.building.specs.Reading.{Read, fault, value, andThen, readOf, textOf, numberIn, dayIn, dayLength, momentIn, isEmpty, directionBy, symbolUnder, symbolIn}
 use Rattle.building.specs.declared.reading.Direction.{Direction}
 use Rattle.building.specs.declared.reading.Direction.the-variants.{Forward, Inverse}
-use Rattle.building.specs.declared.reading.Symbol.{Symbol}
 use Rattle.building.specs.declared.reading.Symbol.the-variants.{Unknown, Empty, Filled}
-use Rattle.building.specs.OverTime.{Step, stop, skip, set, reading, unlessEmpty, dated, forwardStep, inverseStep, taken, Build, stopped, built, onward, further, layIntervals, layRead, layMapping, layMappings}
+use Rattle.building.specs.OverTime.{Step, stop, skip, set, reading, unlessEmpty, dated, forwardStep, inverseStep, taken, stopped, built, onward, further, layIntervals, layMapping, layMappings}
 
 -- ---- what stands under an interval's symbol
 

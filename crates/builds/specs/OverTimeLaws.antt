@@ -1,15 +1,14 @@
 -- What the functions of the build promise one another: the table holds rows in order and 0 in every other place, and the rest of the
 -- build on it is the whole. Assumes nothing.
 use mathlib.Core.Path.{_≡_, refl, sym, ap, _∙_, subst}
-use mathlib.Core.Logic.{_≢_}
 use Prim.Native.Nat.{ℕ, _+_, _-_, _*_, _/_, _≤_, _<_}
 use native.Mathlib.Omega.{arith}
-use mathlib.Core.Bool.{Bool, true, false, not, _&&_, cond}
+use mathlib.Core.Bool.{Bool, true, false, not, _&&_}
 use mathlib.Core.List.{List, [], _∷_}
 use lib.ListN.{length, getD, replicate, length-replicate}
 use lib.Dec.{T}
-use Rattle.theory.specs.Answer.{Answer, answer}
-use Rattle.leaves.specs.Refusal.{numberOf, valuesOf, refused}
+use Rattle.theory.specs.Answer.{answer}
+use Rattle.leaves.specs.Refusal.{numberOf, refused}
 use Rattle.leaves.specs.declared.refusal.Refusal.{Refusal}
 use Rattle.leaves.specs.declared.refusal.Refusal.the-variants.{Reversed, NoRoom, UnknownSymbol, BadName, NoNameRoom, Differ, Conflict, NotNumber, NoInstrumentId, OutsideQuery, NoDate, BadStreams, Damaged, IllFormed, BadMemory}
 use Rattle.maps.specs.Interval.{rowOf}
@@ -102,7 +101,7 @@ plain-refused (Damaged stream place reason) p = absurd (p .no-damage refl)
 plain-refused IllFormed p = refl
 plain-refused BadMemory p = refl
 
-way-plain : (texts : List (List ℕ)) (way : Way) (x : _) → PlainStep (wayStep texts way x)
+way-plain : (texts : List (List ℕ)) (way : Way) (x : Span) → PlainStep (wayStep texts way x)
 way-plain texts (Forward name) x = forward-plain texts name x
 way-plain texts (Inverse instrument) x = inverse-plain texts instrument x
 
@@ -400,7 +399,7 @@ module _ (bytes ends : List ℕ) (names : ℕ) (name room : ℕ) (xs : List Span
 -- ---- the mappings, one after the other
 
 -- before the mapping of number k, whose intervals begin at this place: what is left of them on this table is the whole
-pub record Mapping-on (names : ℕ) (texts : List (List ℕ)) (d : Direction) (m v : List ℕ) (count : ℕ) (t₀ t : List ℕ) (used from k : ℕ) : Type 0 where
+pub record Mapped (names : ℕ) (texts : List (List ℕ)) (d : Direction) (m v : List ℕ) (count : ℕ) (t₀ t : List ℕ) (used from k : ℕ) : Type 0 where
   pub upto : k ≤ count
   pub begins : from ≡ before m k
   pub long : length t ≡ length t₀
@@ -409,13 +408,13 @@ pub record Mapping-on (names : ℕ) (texts : List (List ℕ)) (d : Direction) (m
       ≡ layMappings (roomOf t₀) texts d k (mappingsFrom m v k from (count - k)) (rows t used)
 
 module _ (names : ℕ) (texts : List (List ℕ)) (d : Direction) (m v : List ℕ) (count : ℕ) (t₀ : List ℕ) where
-  pub mapping-start : Holds names t₀ 0 → Mapping-on names texts d m v count t₀ t₀ 0 0 0
+  pub mapping-start : Holds names t₀ 0 → Mapped names texts d m v count t₀ t₀ 0 0 0
   unfolding before rowsFrom
   mapping-start h =
       let e : count ≡ count - 0 = omega arith in
       record { upto = omega arith; begins = refl; long = refl; holds = h; left = λ i. layMappings (roomOf t₀) texts d 0 (mappingsFrom m v 0 0 (e i)) [] }
 
-  module _ (t : List ℕ) (used from k : ℕ) (l : Mapping-on names texts d m v count t₀ t used from k) (h : k < count) where
+  module _ (t : List ℕ) (used from k : ℕ) (l : Mapped names texts d m v count t₀ t used from k) (h : k < count) where
     -- its intervals are within the lent ones
     pub mapping-within : (n : ℕ) → n ≡ countAt m k → 3 * before m count ≤ length v → 3 * (from + n) ≤ length v
     mapping-within n e w = omega (arith, before-next m k, before-up m (k + 1) count (omega arith), l .begins)
@@ -430,7 +429,7 @@ module _ (names : ℕ) (texts : List (List ℕ)) (d : Direction) (m v : List ℕ
       read : Lays names (layMapping (roomOf t) texts d k (mapping (nameAt m k) (stretch v from (countAt m k))) (rows t used)) r t′
       read = subst (λ (b : Build (Row ℕ)). Lays names b r t′) (λ i. layMapping (roomOf t) texts d k (mapping (y i) (stretch v from (z i))) (rows t used)) (w k)
 
-      pub mapping-turn : (u : ℕ) → length t′ ≡ length t → isDone r ≡ true → u ≡ usedOf r → Mapping-on names texts d m v count t₀ t′ u (from + n) (k + 1)
+      pub mapping-turn : (u : ℕ) → length t′ ≡ length t → isDone r ≡ true → u ≡ usedOf r → Mapped names texts d m v count t₀ t′ u (from + n) (k + 1)
       mapping-turn u g e f =
           let p = read .on u (done-is r e ∙ ap Done (sym f)) in
           let b : count - k - 1 ≡ count - (k + 1) = omega arith in
@@ -453,7 +452,7 @@ module _ (names : ℕ) (texts : List (List ℕ)) (d : Direction) (m v : List ℕ
         on = λ u x. absurd (not-done e x);
       }
 
-  pub mapping-end : (t : List ℕ) (used from k : ℕ) → Mapping-on names texts d m v count t₀ t used from k → count ≤ k
+  pub mapping-end : (t : List ℕ) (used from k : ℕ) → Mapped names texts d m v count t₀ t used from k → count ≤ k
       → Lays names (layMappings (roomOf t₀) texts d 0 (mappingsFrom m v 0 0 count) []) (Done used) t
   unfolding buildAnswer
   mapping-end t used from k l h =

@@ -252,7 +252,18 @@ fn lay_mappings(
     while t < count {
         let name = name_at(mappings, t);
         let n = count_at(mappings, t);
-        let laid = lay_mapping(table, used, bytes, ends, names, direction, name, intervals, from, n);
+        let laid = lay_mapping(
+            table,
+            used,
+            bytes,
+            ends,
+            names,
+            direction,
+            name,
+            intervals,
+            from,
+            n,
+        );
         if !is_done(laid) {
             return laid;
         }
@@ -283,7 +294,14 @@ fn build(
         Heading::Refused(why) => Built::Refused(why),
         Heading::Is(direction) => {
             let laid = lay_mappings(
-                table, bytes, ends, names, direction, mappings, intervals, count,
+                table,
+                bytes,
+                ends,
+                names,
+                direction,
+                mappings,
+                intervals,
+                count,
             );
             if is_done(laid) {
                 return laid;

@@ -4,14 +4,14 @@ use Prim.Native.Nat.{_-_}
 use native.Mathlib.Omega.{arith}
 use Rattle.leaves.specs.Names.{namesOf}
 use Rattle.leaves.specs.NamesLaws.{holds, fails}
-use Rattle.builds.specs.OverTimeLaws.{Mapping-on, mapping-start, mapping-within, mapping-turn, mapping-stop, mapping-end}
+use Rattle.builds.specs.OverTimeLaws.{Mapped, mapping-start, mapping-within, mapping-turn, mapping-stop, mapping-end}
 use borrow.Author.Needs.{needs}
 use Rattle.builds.proofs.over_time.lay_mappings.Statement.{statement}
 use Rattle.builds.proofs.over_time.lay_mappings.Tie as tie
 
 abbrev Inv-loop : tie.InvT-loop
 Inv-loop table₀ bytes ends names direction mappings intervals count used₀ from₀ t₀ table used from t =
-    Mapping-on names (namesOf bytes ends names) direction mappings intervals count table₀ table used from t
+    Mapped names (namesOf bytes ends names) direction mappings intervals count table₀ table used from t
 
 abbrev μ-loop : tie.MeasureT-loop
 μ-loop table₀ bytes ends names direction mappings intervals count used₀ from₀ t₀ table used from t =
