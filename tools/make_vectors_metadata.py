@@ -22,23 +22,12 @@ import model  # noqa: E402
 import traps  # noqa: E402
 from answer import Case, answer_of  # noqa: E402
 from answer import words as spelled  # noqa: E402
-from model import Lent, Metadata  # noqa: E402
+from model import Metadata  # noqa: E402
+from sides import WIDTHS, laid, side  # noqa: E402
 
 NAMES = 9
 A, B, C, NONE = 1, 2, 3, 99
 D1, D2, D3, D4, BAD = 19700102, 19700103, 19700104, 19700105, 21000229
-WIDTHS = [1, 1, 1, 2, 3]
-
-
-def side(given):
-    """A lent metadata; a list as its places, how many are given, and those: the others hold 0."""
-    out = [*given.head, *given.counts]
-    for words in given.lists:
-        count = len(words)
-        while count and words[count - 1] == 0:
-            count -= 1
-        out += [len(words), count, *words[:count]]
-    return " ".join(map(str, out))
 
 
 def show(kind, handed, answer, after=None):
@@ -65,12 +54,6 @@ def finish(given):
     """Finishing changes nothing."""
     answer, _ = answer_of(given.taken)
     show("finish", side(given), answer, given if answer == (0,) else None)
-
-
-def laid(given, spare):
-    """A metadata in lent memory with so many places to spare of each list, which hold 9."""
-    lists = [words + [9] * (width * more) for words, width, more in zip(model.lists_of(given), WIDTHS, spare)]
-    return Lent(model.head_of(given), [*map(len, model.lists_of(given)[:3]), len(given.mappings)], lists)
 
 
 # Ways to earn a refusal. Each changes a case: names, and both sides, whose lists have room for the outcome.

@@ -1,17 +1,17 @@
 // Cases of the three calls. What each leaves is compared place by place: of a done call with the side that stands behind its
 // 0, of a refused one with the side that it was handed. The side that is merged in must be as it was, whatever the answer.
-use crate::sides::Side;
-use crate::sides::is_side;
-use crate::sides::side_at;
 use cases::Token;
 use form::header::Header;
 use leaves::refusal::Refusal;
 use metadata::merger::Finished;
 use metadata::merger::Merged;
 use metadata::merger::Opened;
+use sides::Side;
+use sides::is_side;
+use sides::side_at;
 ghost use mathlib.Core.Path.{_≡_};
 ghost use lib.ListN.{length};
-ghost use Rattle.vectors_metadata.specs.Sides.{Within};
+ghost use Rattle.sides.specs.Sides.{Within};
 
 // What a call says: its number, the field that comes with 6 (else 0), and the header after it.
 struct Said {

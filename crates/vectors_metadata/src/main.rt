@@ -1,7 +1,6 @@
 // Runs the cases that stand on standard input over the metadata merge, and prints a line for each kind of them. The data
 // itself says what a line means; a case that is answered otherwise than expected is printed.
 mod calls;
-mod sides;
 
 ghost use mathlib.Core.Path.{_≡_};
 ghost use lib.ListN.{length};

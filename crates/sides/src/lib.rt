@@ -4,7 +4,7 @@
 use form::header::Header;
 ghost use Prim.Native.Nat.{_≤_, _<_};
 ghost use lib.ListN.{length};
-ghost use Rattle.vectors_metadata.specs.Sides.{Within};
+ghost use Rattle.sides.specs.Sides.{Within};
 
 // A side: its header, the places lent of each list, and the place behind it in the text.
 pub struct Side {
@@ -24,9 +24,9 @@ struct Headed {
 }
 
 // A list read from the text: the places lent, and the place behind it.
-struct Listed {
-    places: usize,
-    next: usize,
+pub struct Listed {
+    pub places: usize,
+    pub next: usize,
 }
 
 // Whether all that was compared so far is the same, and the place behind it in the text.
@@ -44,7 +44,7 @@ fn of_16(n: u64) -> u16 {
     if n <= 65535 { n as u16 } else { 65535 }
 }
 
-fn of_32(n: u64) -> u32 {
+pub fn of_32(n: u64) -> u32 {
     if n <= 4294967295 {
         n as u32
     } else {
@@ -90,7 +90,7 @@ fn header_at(text: &[u8], at: usize) -> Headed {
 }
 
 // So many places, or all that there are.
-fn at_most(places: u64, all: usize) -> usize
+pub fn at_most(places: u64, all: usize) -> usize
     ensures { λ r. ⌜ r ≤ all ⌝ }
 {
     if places < all as u64 {
@@ -101,7 +101,7 @@ fn at_most(places: u64, all: usize) -> usize
 }
 
 // Reads a list into out, which holds 0 behind what is given.
-fn list_at(text: &[u8], at: usize, out: &mut [u32]) -> Listed
+pub fn list_at(text: &[u8], at: usize, out: &mut [u32]) -> Listed
     ensures { λ r. ⌜ r .places ≤ length (now (out .exit)) ⌝ }
 {
     let lent = cases::number_at(text, at);

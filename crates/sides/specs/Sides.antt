@@ -1,6 +1,6 @@
 -- The places lent of a side lie within the memory that holds it.
 use Prim.Native.Nat.{ℕ, _≤_}
-use Rattle.vectors_metadata.specs.declared.sides.Side.{Side}
+use Rattle.sides.specs.declared.Side.{Side}
 
 pub record Within (a : Side) (symbols partial not-found mappings intervals : ℕ) : Type 0 where
   pub in-symbols : a .symbols ≤ symbols

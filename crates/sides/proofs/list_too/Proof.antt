@@ -1,17 +1,15 @@
--- Loop: the length stays. Assumes nothing.
-use native.Mathlib.Omega.{arith}
-use mathlib.Core.Path.{_≡_}
+-- Loop: it ends with the list. Assumes nothing.
 use Prim.Native.Nat.{_-_}
-use lib.ListN.{length, length-set}
+use lib.ListN.{length}
 use borrow.Author.Needs.{needs}
-use Rattle.vectors_metadata.proofs.sides.list_at.Statement.{statement}
-use Rattle.vectors_metadata.proofs.sides.list_at.Tie as tie
+use Rattle.sides.proofs.list_too.Statement.{statement}
+use Rattle.sides.proofs.list_too.Tie as tie
 
 abbrev Inv-loop : tie.InvT-loop
-Inv-loop text at out₀ lent given place₀ i₀ out place i = length out ≡ length out₀
+Inv-loop text list given same₀ place₀ i₀ same place i = Unit {0}
 
 abbrev μ-loop : tie.MeasureT-loop
-μ-loop text at out₀ lent given place₀ i₀ out place i = length out₀ - i
+μ-loop text list given same₀ place₀ i₀ same place i = length list - i
 
 number-at-requires : tie.Need-number-at-requires Inv-loop μ-loop
 number-at-requires c κs = search needs
@@ -28,11 +26,11 @@ number-at-requires-3 c κs = search needs
 of-32-requires : tie.Need-of-32-requires Inv-loop μ-loop
 of-32-requires c κs = search needs
 
-mul-out : tie.Need-mul-out Inv-loop μ-loop
-mul-out c = search needs
+mul-if2 : tie.Need-mul-if2 Inv-loop μ-loop
+mul-if2 c = search needs
 
-slice-write-out : tie.Need-slice-write-out Inv-loop μ-loop
-slice-write-out c = search needs
+shared-slice-read-if2 : tie.Need-shared-slice-read-if2 Inv-loop μ-loop
+shared-slice-read-if2 c = search needs
 
 add-i : tie.Need-add-i Inv-loop μ-loop
 add-i c = search needs
@@ -41,19 +39,13 @@ loop-less : tie.Need-loop-less Inv-loop μ-loop
 loop-less c = search needs
 
 loop-again : tie.Need-loop-again Inv-loop μ-loop
-loop-again c = simp length-set (omega arith)
-
-at-most-requires : tie.Need-at-most-requires Inv-loop μ-loop
-at-most-requires c κs = search needs
-
-same-length : tie.Need-same-length Inv-loop μ-loop
-same-length c = search needs
+loop-again c = search needs
 
 returns : tie.Need-returns Inv-loop μ-loop
 returns c = search needs
 
-pub list-at-spec : {M : Type 1} → statement M
-list-at-spec =
+pub list-too-spec : {M : Type 1} → statement M
+list-too-spec =
     tie.close
     (tie.spec
     Inv-loop
@@ -63,11 +55,9 @@ list-at-spec =
     loop-holds
     number-at-requires-3
     of-32-requires
-    mul-out
-    slice-write-out
+    mul-if2
+    shared-slice-read-if2
     add-i
     loop-less
     loop-again
-    at-most-requires
-    same-length
     returns)

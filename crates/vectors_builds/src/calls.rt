@@ -1,0 +1,305 @@
+// Cases of both builds: what each answers, and every byte that the lent table then holds; before, it holds 9s. Metadata and name
+// list are only read.
+use form::header::Header;
+use sides::Side;
+use sides::at_most;
+use sides::list_at;
+use sides::of_32;
+use sides::side_at;
+ghost use mathlib.Core.Path.{_≡_};
+ghost use lib.ListN.{length};
+ghost use Rattle.sides.specs.Sides.{Within};
+ghost use Rattle.vectors_builds.specs.Memory.{Listed};
+
+// Which build: over time, or for a date.
+pub enum Call {
+    OverTime,
+    PointInTime(u32),
+}
+
+// What a build says: its number, and how many places are in use, 0 where it is refused.
+pub struct Said {
+    pub number: u64,
+    pub used: u64,
+}
+
+// A name list: what is in use, the lengths of its memory, and the place behind it in the text.
+pub struct Names {
+    pub names: usize,
+    pub size: usize,
+    pub bytes: usize,
+    pub ends: usize,
+    pub next: usize,
+}
+
+// The most bytes of a table here.
+const TABLE: usize = 1024;
+
+// A table before a build.
+fn nines() -> [u8; 1024]
+    ensures { λ r. ⌜ 1024 ≡ length r ⌝ }
+{
+    [9; 1024]
+}
+
+// A table that holds nothing.
+fn zeros() -> [u8; 1024]
+    ensures { λ r. ⌜ 1024 ≡ length r ⌝ }
+{
+    [0; 1024]
+}
+
+// Memory for name list and metadata: one byte, name, entry and mapping more than document 01 allows, and some intervals.
+fn name_bytes() -> [u8; 65537]
+    ensures { λ r. ⌜ 65537 ≡ length r ⌝ }
+{
+    [0; 65537]
+}
+
+fn entries() -> [u32; 4097]
+    ensures { λ r. ⌜ 4097 ≡ length r ⌝ }
+{
+    [0; 4097]
+}
+
+fn mapping_words() -> [u32; 8194]
+    ensures { λ r. ⌜ 8194 ≡ length r ⌝ }
+{
+    [0; 8194]
+}
+
+fn interval_words() -> [u32; 240]
+    ensures { λ r. ⌜ 240 ≡ length r ⌝ }
+{
+    [0; 240]
+}
+
+fn over_time_says(built: builds::over_time::Built) -> Said {
+    match built {
+        builds::over_time::Built::Done(used) => Said {
+            number: 0,
+            used: used as u64,
+        },
+        builds::over_time::Built::Refused(r) => Said {
+            number: leaves::refusal::number(r) as u64,
+            used: 0,
+        },
+    }
+}
+
+fn point_says(built: point_builds::build::Built) -> Said {
+    match built {
+        point_builds::build::Built::Done(used) => Said {
+            number: 0,
+            used: used as u64,
+        },
+        point_builds::build::Built::Refused(r) => Said {
+            number: leaves::refusal::number(r) as u64,
+            used: 0,
+        },
+    }
+}
+
+// What a build on lent memory says.
+pub fn says(
+    call: Call,
+    table: &mut [u8],
+    h: Header,
+    symbols: &[u32],
+    partial: &[u32],
+    not_found: &[u32],
+    mappings: &[u32],
+    intervals: &[u32],
+    bytes: &[u8],
+    ends: &[u32],
+    names: usize,
+    size: usize,
+) -> Said {
+    match call {
+        Call::OverTime => {
+            let built = builds::over_time::over_time(
+                table,
+                h,
+                symbols,
+                partial,
+                not_found,
+                mappings,
+                intervals,
+                bytes,
+                ends,
+                names,
+                size,
+            );
+            over_time_says(built)
+        }
+        Call::PointInTime(date) => {
+            let built = point_builds::build::point_in_time(
+                table,
+                h,
+                symbols,
+                partial,
+                not_found,
+                mappings,
+                intervals,
+                bytes,
+                ends,
+                names,
+                size,
+                date,
+            );
+            point_says(built)
+        }
+    }
+}
+
+// Reads a name list: names and bytes in use, the length of its bytes and those given, its ends. The bytes hold 0 before.
+fn names_at(text: &[u8], at: usize, bytes: &mut [u8], ends: &mut [u32]) -> Names
+    ensures { λ r. ⌜ Listed r (length (now (bytes .exit))) (length (now (ends .exit))) ⌝ }
+{
+    let names = cases::number_at(text, at);
+    let size = cases::number_at(text, names.next);
+    let lent = cases::number_at(text, size.next);
+    let given = cases::bytes_at(text, lent.next, bytes);
+    let list = list_at(text, given.next, ends);
+    Names {
+        names: names.value as usize,
+        size: size.value as usize,
+        bytes: at_most(lent.value, bytes.len()),
+        ends: list.places,
+        next: list.next,
+    }
+}
+
+// What a build says of the table and of the lent part of each list.
+fn builds(
+    call: Call,
+    table: &mut [u8],
+    n: Names,
+    bytes: &[u8],
+    ends: &[u32],
+    a: Side,
+    symbols: &[u32],
+    partial: &[u32],
+    not_found: &[u32],
+    mappings: &[u32],
+    intervals: &[u32],
+) -> Said
+    requires { ⌜ Listed n (length (now bytes)) (length (now ends)) ⌝ }
+    requires { ⌜ Within a (length (now symbols)) (length (now partial)) (length (now «not_found»)) (length (now mappings)) (length (now intervals)) ⌝ }
+{
+    let h = a.header;
+    let i = a.symbols;
+    let j = a.partial;
+    let k = a.not_found;
+    let m = a.mappings;
+    let v = a.intervals;
+    let b = n.bytes;
+    let e = n.ends;
+    says(
+        call,
+        table,
+        h,
+        &symbols[..i],
+        &partial[..j],
+        &not_found[..k],
+        &mappings[..m],
+        &intervals[..v],
+        &bytes[..b],
+        &ends[..e],
+        n.names,
+        n.size,
+    )
+}
+
+// Whether a build says what stands at a place, and leaves the bytes that stand behind it, and 0 in every other place.
+fn is_expected(text: &[u8], at: usize, said: Said, table: &[u8]) -> bool {
+    let number = cases::number_at(text, at);
+    let used = cases::number_at(text, number.next);
+    if number.value != said.number {
+        return false;
+    }
+    if used.value != said.used {
+        return false;
+    }
+    let l = table.len();
+    if TABLE < l {
+        return false;
+    }
+    let mut expected = zeros();
+    cases::bytes_at(text, used.next, &mut expected);
+    check::same(table, &expected[..l])
+}
+
+// Whether the build on a table and on the lists that were read is answered as expected.
+fn is_so(
+    text: &[u8],
+    call: Call,
+    table: &mut [u8],
+    n: Names,
+    bytes: &[u8],
+    ends: &[u32],
+    a: Side,
+    symbols: &[u32],
+    partial: &[u32],
+    not_found: &[u32],
+    mappings: &[u32],
+    intervals: &[u32],
+) -> bool
+    requires { ⌜ Listed n (length (now bytes)) (length (now ends)) ⌝ }
+    requires { ⌜ Within a (length (now symbols)) (length (now partial)) (length (now «not_found»)) (length (now mappings)) (length (now intervals)) ⌝ }
+{
+    let said = builds(
+        call,
+        table,
+        n,
+        bytes,
+        ends,
+        a,
+        symbols,
+        partial,
+        not_found,
+        mappings,
+        intervals,
+    );
+    let behind = cases::past_equals(text, a.next);
+    is_expected(text, behind, said, table)
+}
+
+// Whether the build at a place of the text is answered as expected.
+fn is_built(text: &[u8], at: usize, call: Call) -> bool {
+    let mut b = name_bytes();
+    let mut e = entries();
+    let mut s = entries();
+    let mut p = entries();
+    let mut n = entries();
+    let mut m = mapping_words();
+    let mut v = interval_words();
+    let lent = cases::number_at(text, at);
+    let names = names_at(text, lent.next, &mut b, &mut e);
+    let a = side_at(text, names.next, &mut s, &mut p, &mut n, &mut m, &mut v);
+    let mut table = nines();
+    let l = at_most(lent.value, TABLE);
+    is_so(
+        text,
+        call,
+        &mut table[..l],
+        names,
+        &b,
+        &e,
+        a,
+        &s,
+        &p,
+        &n,
+        &m,
+        &v,
+    )
+}
+
+// A line `TABLE NAMES METADATA = NUMBER`, behind 0 the places in use and their bytes; point in time, the date comes first.
+pub fn is_right(text: &[u8], at: usize, over_time: bool) -> bool {
+    if over_time {
+        return is_built(text, at, Call::OverTime);
+    }
+    let date = cases::number_at(text, at);
+    is_built(text, date.next, Call::PointInTime(of_32(date.value)))
+}

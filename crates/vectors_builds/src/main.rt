@@ -1,0 +1,44 @@
+// Runs the cases that stand on standard input over both builds, and prints a line for each kind of them. The data itself says
+// what a line means; a case that is answered otherwise than expected is printed. Tables and intervals over their limits are tried
+// by calls.
+mod calls;
+mod limits;
+
+ghost use mathlib.Core.Path.{_≡_};
+ghost use lib.ListN.{length};
+
+// Room for the whole data.
+fn room() -> [u8; 262144]
+    ensures { λ r. ⌜ 262144 ≡ length r ⌝ }
+{
+    [0; 262144]
+}
+
+// Runs the lines of one kind and prints the group's line.
+fn run(text: &[u8], name: &[u8], over_time: bool) {
+    let mut cases = 0u64;
+    let mut wrong = 0u64;
+    let mut at = 0;
+    while at < text.len() {
+        if cases::is_word(text, at, name) {
+            cases = cases::one_more(cases);
+            if !calls::is_right(text, cases::word_end(text, at), over_time) {
+                wrong = cases::one_more(wrong);
+                cases::print_wrong(text, at);
+            }
+        }
+        at = cases::next_line(text, at);
+    }
+    cases::print_group(name, cases, wrong);
+}
+
+fn main() {
+    let mut data = room();
+    let n = io::read_full(0, &mut data);
+    let text = &data[..n];
+    run(text, b"over_time", true);
+    run(text, b"point_in_time", false);
+    run(text, b"dbn_over_time", true);
+    run(text, b"dbn_point_in_time", false);
+    limits::run();
+}
