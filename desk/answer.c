@@ -601,6 +601,74 @@ static void merge_all(void) {
     }
 }
 
+/* ---- Builds. */
+
+/* A build for a date, or over time where the date is 0. */
+static uint32_t build(uint8_t *table, size_t len, size_t *used, const struct metadata *m, const struct names *list, uint32_t date) {
+    return date == 0
+               ? desk_build(table, len, used, m->header, DESK_HEADER_WORDS, m->list[SYMBOLS], m->len[SYMBOLS], m->list[PARTIAL],
+                            m->len[PARTIAL], m->list[NOT_FOUND], m->len[NOT_FOUND], m->list[MAPPINGS], m->len[MAPPINGS],
+                            m->list[INTERVALS], m->len[INTERVALS], list->bytes, list->bytes_len, list->ends, list->ends_len,
+                            list->names, list->size)
+               : desk_build_points(table, len, used, m->header, DESK_HEADER_WORDS, m->list[SYMBOLS], m->len[SYMBOLS],
+                                   m->list[PARTIAL], m->len[PARTIAL], m->list[NOT_FOUND], m->len[NOT_FOUND], m->list[MAPPINGS],
+                                   m->len[MAPPINGS], m->list[INTERVALS], m->len[INTERVALS], list->bytes, list->bytes_len,
+                                   list->ends, list->ends_len, list->names, list->size, date);
+}
+
+/* A name list of the names of a case, with no room to spare. */
+static struct names listed_names(void) {
+    size_t count = number(), size = 0, len;
+    struct names list = {count, 0, 0, count, lend(0), NULL};
+    uint32_t *ends = lend(count * 4);
+    const uint8_t *parts[DESK_NAMES];
+    if (DESK_NAMES < count) exit(2);
+    for (size_t i = 0; i < count; i++) {
+        parts[i] = bytes(&len);
+        size += len;
+        ends[i] = (uint32_t)size;
+    }
+    list.bytes = lend(size);
+    list.ends = ends;
+    list.size = list.bytes_len = size;
+    for (size_t i = 0, from = 0; i < count; from = ends[i++]) memcpy(list.bytes + from, parts[i], ends[i] - from);
+    return list;
+}
+
+static void whole_build(int on_day) {
+    uint32_t date = on_day ? (uint32_t)number() : 0;
+    struct names list = listed_names();
+    struct metadata m = whole_metadata();
+    size_t used = 7;
+    uint32_t answer = build(whole_table, DESK_ROOM * (on_day ? DESK_POINT_BYTES : DESK_INTERVAL_BYTES), &used, &m, &list, date);
+    put_number(answer);
+    if (answer != DESK_DONE) return;
+    if (!on_day) {
+        put_rows(whole_table, used);
+        return;
+    }
+    put_number(used);
+    for (size_t i = 0; i < used; i++) {
+        put_number(field(whole_table + i * DESK_POINT_BYTES, 4));
+        put_number(field(whole_table + i * DESK_POINT_BYTES + 4, 4));
+    }
+}
+
+static void lent_build(int on_day) {
+    size_t len, used = 7;
+    uint8_t *table = bytes(&len);
+    uint32_t date = on_day ? (uint32_t)number() : 0;
+    struct names list = name_list();
+    struct metadata m = lent_metadata();
+    put_number(on_day ? desk_build_points(table, len, &used, m.header, DESK_HEADER_WORDS, m.list[SYMBOLS], m.len[SYMBOLS],
+                                          m.list[PARTIAL], m.len[PARTIAL], m.list[NOT_FOUND], m.len[NOT_FOUND], m.list[MAPPINGS],
+                                          m.len[MAPPINGS], m.list[INTERVALS], m.len[INTERVALS], list.bytes, list.bytes_len,
+                                          list.ends, list.ends_len, list.names, list.size, date)
+                      : build(table, len, &used, &m, &list, 0));
+    put_number(used);
+    put_bytes(table, len);
+}
+
 /* ---- Cases. */
 
 static int is(const char *kind, size_t len, const char *name) { return len == strlen(name) && memcmp(kind, name, len) == 0; }
@@ -632,6 +700,10 @@ static void answer_case(void) {
     else if (is(kind, len, "merge")) merge_all();
     else if (is(kind, len, "open_metadata")) open_metadata();
     else if (is(kind, len, "merge_metadata")) merge_metadata();
+    else if (is(kind, len, "build")) whole_build(0);
+    else if (is(kind, len, "build_day")) whole_build(1);
+    else if (is(kind, len, "lent_build")) lent_build(0);
+    else if (is(kind, len, "lent_build_day")) lent_build(1);
     else put_word("?");
     put("\n", 1);
 }

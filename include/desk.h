@@ -212,6 +212,30 @@ uint32_t desk_metadata_finish(const uint64_t *header, size_t header_len, const u
                               const uint32_t *partial, size_t partial_len, const uint32_t *not_found, size_t not_found_len,
                               const uint32_t *mappings, size_t mappings_len, const uint32_t *intervals, size_t intervals_len);
 
+/* ---- Builds from metadata. The table's bytes are written whole, whatever they held; a refusal, by 15 too, leaves 0 in every byte and
+ * 0 in *used; after a done build every unused place holds 0. Metadata and name list are only read. If stype_out is instrument ID,
+ * an interval's symbol is the instrument's number and the mapping's name the symbol; else if stype_in is, the other way round; else 9.
+ * Mappings and intervals go in order, and the first fault met decides. */
+
+/* A table over time, 24 bytes an interval; *used becomes the intervals in use. 15, 14 for the name list, 9; then, where the mapping's
+ * name is the number, 3 and 8 for it; of each interval 3 for its symbol, nothing more where that is empty, 8 where it is the number,
+ * 11 for start and end, then as desk_insert: 1, start = end is done, 3, 2. */
+uint32_t desk_build(uint8_t *table, size_t table_len, size_t *used, const uint64_t *header, size_t header_len,
+                    const uint32_t *symbols, size_t symbols_len, const uint32_t *partial, size_t partial_len,
+                    const uint32_t *not_found, size_t not_found_len, const uint32_t *mappings, size_t mappings_len,
+                    const uint32_t *intervals, size_t intervals_len, const uint8_t *bytes, size_t bytes_len,
+                    const uint32_t *ends, size_t ends_len, size_t names, size_t size);
+
+/* A point-in-time table for a date (YYYYMMDD), 8 bytes an entry; *used becomes the entries in use. 15, 14 for the name list, 11 for the
+ * date, 9, 10 where the day is before the start's day, or an end exists and the day's start is not before it; then of each mapping
+ * the first interval with start <= day < end counts: 11 for a date up to it, 3 for its symbol, nothing more where that is empty, 3
+ * for the mapping's name, 8, 2. A later entry for one instrument replaces the earlier one. */
+uint32_t desk_build_points(uint8_t *table, size_t table_len, size_t *used, const uint64_t *header, size_t header_len,
+                           const uint32_t *symbols, size_t symbols_len, const uint32_t *partial, size_t partial_len,
+                           const uint32_t *not_found, size_t not_found_len, const uint32_t *mappings, size_t mappings_len,
+                           const uint32_t *intervals, size_t intervals_len, const uint8_t *bytes, size_t bytes_len,
+                           const uint32_t *ends, size_t ends_len, size_t names, size_t size, uint32_t date);
+
 /* ---- Merging records. All streams stand in one buffer; cuts, one more than streams, start at 0, never fall, and end at the
  * buffer's length. The state of a merge stands in five arrays of 256 places and in *held; between desk_open and the last
  * desk_next on it the caller hands in the same buffer and cuts and changes none of them. */
