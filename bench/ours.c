@@ -183,9 +183,9 @@ int main(int words, char **word) {
     else if (!strcmp(row, "append-one")) appends(steps, 4096, 4096);
     else if (!strcmp(row, "middle")) middles(steps, 1024, 256, 16);
     else if (!strcmp(row, "middle-one")) middles(steps, 1024, 1, 4096);
-    else if (!strcmp(row, "merge-4")) records(steps, 200000, 4);
-    else if (!strcmp(row, "merge-16")) records(steps, 200000, 16);
-    else if (!strcmp(row, "merge-256")) records(steps, 200000, 256);
+    else if (!strcmp(row, "merge-4") || !strcmp(row, "ready-4")) records(steps, 200000, 4);
+    else if (!strcmp(row, "merge-16") || !strcmp(row, "ready-16")) records(steps, 200000, 16);
+    else if (!strcmp(row, "merge-256") || !strcmp(row, "ready-256")) records(steps, 200000, 256);
     else if (!strcmp(row, "utf8-ascii")) names(steps, 1, 1);
     else if (!strcmp(row, "utf8-two")) names(steps, 2, 2);
     else if (!strcmp(row, "utf8-mixed")) names(steps, 1, 4);
