@@ -54,7 +54,7 @@ fn half(table: &[u8], used: usize, instrument: u32) -> usize
 }
 
 // The place of the instrument's first interval, or where it would stand.
-pub fn first_of(table: &[u8], used: usize, instrument: u32) -> usize
+pub fn beginning(table: &[u8], used: usize, instrument: u32) -> usize
     requires { ⌜ (used * width ≤ length (now table)) × (used ≤ 65536) ⌝ }
     ensures within { λ r. ⌜ r ≤ used ⌝ }
     ensures right { λ r. ⌜ (Ordered (rows (now (table .entry)) used) → Begun (now (table .entry)) used instrument r 0) ⌝ }

@@ -97,7 +97,7 @@ fn look_up(table: &[u8], used: usize, instrument: u32, moment: u64, hint: u64) -
     ensures right { λ r. ⌜ (Ordered (rows (now (table .entry)) used) → Tells (lookupRows (rows (now (table .entry)) used) instrument moment hint) (lookedOf r) (r .hint)) ⌝ }
     ensures accepted { λ r. ⌜ numberIn (lookedOf r) ≡ 0 ⌝ }
 {
-    let begin = crate::begin::first_of(table, used, instrument);
+    let begin = crate::begin::beginning(table, used, instrument);
     let end = crate::reach::reached(table, used, begin, instrument, moment, hint);
     last_started(table, used, begin, end, instrument, moment, hint)
 }

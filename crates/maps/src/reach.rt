@@ -108,14 +108,7 @@ fn followed(table: &[u8], used: usize, at: usize, instrument: u32, moment: u64) 
 }
 
 // The place, where the hinted interval stands at `at`.
-fn hinted(
-    table: &[u8],
-    used: usize,
-    begin: usize,
-    at: usize,
-    instrument: u32,
-    moment: u64,
-) -> usize
+fn hinted(table: &[u8], used: usize, begin: usize, at: usize, instrument: u32, moment: u64) -> usize
     requires { ⌜ (used * width ≤ length (now table)) × (used ≤ 65536) × (begin ≤ at) × (at < used) ⌝ }
     ensures within { λ r. ⌜ r ≤ used ⌝ }
     ensures right { λ r. ⌜ (Ordered (rows (now (table .entry)) used) → Begun (now (table .entry)) used instrument begin 0 → Reach (now (table .entry)) used instrument moment r r) ⌝ }

@@ -289,6 +289,9 @@ module _ (t : List ℕ) (used : ℕ) (w : Ordered (rows t used)) where
 pub begun-all : {t : List ℕ} {used i : ℕ} → Ordered (rows t used) → Begun t used i 0 used
 begun-all {t} {used} {i} w = record { from = omega arith; upto = omega (arith, begins-in t used w i) }
 
+pub begun-none : {t : List ℕ} {used i : ℕ} → used ≤ 0 → Ordered (rows t used) → Begun t used i 0 0
+begun-none {t} {used} {i} z w = record { from = omega arith; upto = omega (arith, begins-in t used w i) }
+
 -- one step: from lo, among n places, to r, among m
 pub record Onward (t : List ℕ) (used i lo step r : ℕ) : Type 0 where
   pub on : (n m : ℕ) → Ordered (rows t used) → n ≤ m + step → step ≤ m + 1 → Begun t used i lo n → Begun t used i r m
@@ -297,15 +300,15 @@ module _ {t : List ℕ} {used i lo step : ℕ} {x : Row ℕ} (e : x ≡ rowAt t 
   pub onward-yes : x .instrument < i → Onward t used i lo step (lo + step)
   onward-yes h = record {
     on = λ n m w f g b.
-    let k : lo + step - 1 < lower i (rows t used) = low-row t used w i (lo + step - 1) (omega arith) (rw (← e) h) in
-    record { from = omega arith; upto = omega (arith, b .upto) };
+        let k : lo + step - 1 < lower i (rows t used) = low-row t used w i (lo + step - 1) (omega arith) (rw (← e) h) in
+        record { from = omega arith; upto = omega (arith, b .upto) };
   }
 
   pub onward-no : i ≤ x .instrument → Onward t used i lo step lo
   onward-no h = record {
     on = λ n m w f g b.
-    let k : lower i (rows t used) ≤ lo + step - 1 = high-row t used w i (lo + step - 1) (omega arith) (rw (← e) h) in
-    record { from = b .from; upto = omega arith };
+        let k : lower i (rows t used) ≤ lo + step - 1 = high-row t used w i (lo + step - 1) (omega arith) (rw (← e) h) in
+        record { from = b .from; upto = omega arith };
   }
 
 -- the search's two numbers, from lo and n to at and left
@@ -390,8 +393,8 @@ module _ {t : List ℕ} {used i m : ℕ} (w : Ordered (rows t used)) where
 
 -- rows from the instrument's first to one of its own are its own
 pub own-upto : {t : List ℕ} {used i b j : ℕ} {x : Row ℕ} → Ordered (rows t used) → Begun t used i b 0 → x ≡ rowAt t j → j < used → x .instrument ≡ i
-    → (lo : ℕ) → b ≤ lo → Own t i lo (j + 1)
-own-upto {t} {used} {i} {b} {j} w g e l d lo h k p q = own-row t used w i k j (omega (arith, g .upto)) (omega arith) l (rw (← e) d)
+    → (lo hi : ℕ) → b ≤ lo → hi ≤ j + 1 → Own t i lo hi
+own-upto {t} {used} {i} {b} {j} w g e l d lo hi h f k p q = own-row t used w i k j (omega (arith, g .upto)) (omega arith) l (rw (← e) d)
 
 -- a search among an instrument's own rows, from lo and hi to low and high
 pub record Parted (t : List ℕ) (m lo hi low high : ℕ) : Type 0 where

@@ -1,38 +1,30 @@
+-- What the two places tell, in an ordered table, is the last that has started. Assumes nothing.
+use mathlib.Core.Path.{refl, ap}
+use Rattle.tables.specs.Looks.{numberIn, arrive-covers, arrive-gap, arrive-none}
 use borrow.Author.Needs.{needs}
 use Rattle.maps.proofs.lookup.last_started.Statement.{statement}
 use Rattle.maps.proofs.lookup.last_started.Tie as tie
-use Rattle.maps.proofs.lookup.last_started.Reads as reads
-use Rattle.maps.proofs.lookup.last_started.Lts as lts
-use Rattle.maps.proofs.lookup.covers_at.Reads as covers-at-reads
-use Rattle.maps.proofs.lookup.seen_at.Reads as seen-at-reads
 
--- src/lookup.rt:77:18
 sub-at : tie.Need-sub-at
 sub-at c = search needs
 
--- src/lookup.rt:78:24
 sub-arrived : tie.Need-sub-arrived
 sub-arrived c = search needs
 
--- src/lookup.rt:79:12
 covers-at-requires : tie.Need-covers-at-requires
 covers-at-requires c κs = search needs
 
--- src/lookup.rt:80:13
 seen-at-requires : tie.Need-seen-at-requires
 seen-at-requires c κs = search needs
 
--- src/lookup.rt:63:1
 returns : tie.Need-returns
-returns c = ?
+returns c = (λ w a b. arrive-covers w a b _ (search needs) (c .before .before .covers-at .ensures) (search needs) (c .seen-at .ensures .0) (c .seen-at .ensures .1), ap numberIn (c .seen-at .ensures .0))
 
--- src/lookup.rt:63:1
 returns-2 : tie.Need-returns-2
-returns-2 c = ?
+returns-2 c = (λ w a b. search (needs, arrive-gap), refl)
 
--- src/lookup.rt:63:1
 returns-3 : tie.Need-returns-3
-returns-3 c = ?
+returns-3 c = (λ w a b. search (needs, arrive-none), refl)
 
 pub last-started-spec : {M : Type 1} → statement M
 last-started-spec =

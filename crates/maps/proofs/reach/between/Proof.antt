@@ -1,74 +1,60 @@
+-- The place lies between low and high. Assumes nothing.
+use borrow.Author.Needs.{needs}
+use Prim.Native.Nat.{_-_}
+use Rattle.tables.specs.Looks.{Searched, searched-all, searched-on, searched-low, searched-off, searched-high, searched-met}
 use Rattle.maps.proofs.reach.between.Statement.{statement}
 use Rattle.maps.proofs.reach.between.Tie as tie
-use Rattle.maps.proofs.reach.between.Reads as reads
-use Rattle.maps.proofs.reach.between.Lts as lts
-use Rattle.maps.proofs.interval.interval_at.Reads as interval-at-reads
 
 abbrev Inv-loop : tie.InvT-loop
-Inv-loop table used lo hi instrument moment low₀ high₀ low high = ?
+Inv-loop table used lo hi instrument moment low₀ high₀ low high = Searched table used instrument moment lo hi low high
 
 abbrev μ-loop : tie.MeasureT-loop
-μ-loop table used lo hi instrument moment low₀ high₀ low high = ?
+μ-loop table used lo hi instrument moment low₀ high₀ low high = high - low
 
--- src/reach.rt:41:5
 loop-holds : tie.Need-loop-holds Inv-loop μ-loop
-loop-holds c = ?
+loop-holds c = search (needs, searched-all)
 
--- src/reach.rt:42:26
 sub-mid : tie.Need-sub-mid Inv-loop μ-loop
-sub-mid c = ?
+sub-mid c = search needs
 
--- src/reach.rt:42:19
 add-mid : tie.Need-add-mid Inv-loop μ-loop
-add-mid c = ?
+add-mid c = search needs
 
--- src/reach.rt:43:13
 interval-at-requires : tie.Need-interval-at-requires Inv-loop μ-loop
-interval-at-requires c κs = ?
+interval-at-requires c κs = search needs
 
--- src/reach.rt:46:23
 add-low : tie.Need-add-low Inv-loop μ-loop
-add-low c = ?
+add-low c = search needs
 
--- src/reach.rt:41:5
 loop-less : tie.Need-loop-less Inv-loop μ-loop
-loop-less c = ?
+loop-less c = search needs
 
--- src/reach.rt:41:5
 loop-again : tie.Need-loop-again Inv-loop μ-loop
-loop-again c = ?
+loop-again c = search (needs, searched-on)
 
--- src/reach.rt:41:5
 loop-less-2 : tie.Need-loop-less-2 Inv-loop μ-loop
-loop-less-2 c = ?
+loop-less-2 c = search needs
 
--- src/reach.rt:41:5
 loop-again-2 : tie.Need-loop-again-2 Inv-loop μ-loop
-loop-again-2 c = ?
+loop-again-2 c = search (needs, searched-off)
 
--- src/reach.rt:51:19
 add-low-2 : tie.Need-add-low-2 Inv-loop μ-loop
-add-low-2 c = ?
+add-low-2 c = search needs
 
--- src/reach.rt:41:5
 loop-less-3 : tie.Need-loop-less-3 Inv-loop μ-loop
-loop-less-3 c = ?
+loop-less-3 c = search needs
 
--- src/reach.rt:41:5
 loop-again-3 : tie.Need-loop-again-3 Inv-loop μ-loop
-loop-again-3 c = ?
+loop-again-3 c = search (needs, searched-low)
 
--- src/reach.rt:41:5
 loop-less-4 : tie.Need-loop-less-4 Inv-loop μ-loop
-loop-less-4 c = ?
+loop-less-4 c = search needs
 
--- src/reach.rt:41:5
 loop-again-4 : tie.Need-loop-again-4 Inv-loop μ-loop
-loop-again-4 c = ?
+loop-again-4 c = search (needs, searched-high)
 
--- src/reach.rt:34:1
 returns : tie.Need-returns Inv-loop μ-loop
-returns c = ?
+returns c = search (needs, searched-met)
 
 pub between-spec : {M : Type 1} → statement M
 between-spec =
