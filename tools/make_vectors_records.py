@@ -1,11 +1,13 @@
 #!/usr/bin/env python3
-"""Writes the data of vectors_records: python3 tools/make_vectors_records.py
+"""Writes the data of vectors_records: oracle/build && python3 tools/make_vectors_records.py
 
 crates/vectors_records/stdin has the cases, crates/vectors_records/stdout what the program must write. The answers come from the
-plain model of document 01 (oracle/model.py); those of the traps and borders also stand below, by hand.
+plain model of document 01 (oracle/model.py); those of the traps and borders also stand below, by hand, and those that are headed
+`dbn` were given by dbn's own code (oracle/driver.rs).
 """
 import os
 import random
+import subprocess
 import sys
 
 ROOT = os.path.join(os.path.dirname(os.path.abspath(__file__)), "..")
@@ -140,10 +142,37 @@ def drawn():
         replayed(f"drawn {i}", bundle([stream(rng, 5) for _ in range(rng.randrange(1, 9))]))
 
 
+def answered_by_dbn(times, hints):
+    """What dbn's own decoder answers for streams of records at these times, record by record to the second end."""
+    words = [len(hints), *hints, len(times)]
+    for stream in times:
+        words += [0, len(stream), *stream]
+    case = "records " + " ".join(str(word) for word in words) + "\n"
+    run = subprocess.run([os.path.join(ROOT, "oracle/target/driver")], input=case, capture_output=True, text=True, check=True)
+    text = ""
+    for line in run.stdout.strip().split(" ; "):
+        kind, *numbers = line.split()
+        if kind == "r":
+            stream, place, time = (int(number) for number in numbers)
+            text += f"record {stream} {16 * place} 16 1 {stream} {time}\n"
+        else:
+            text += {"e": "end\n"}[kind]
+    return text
+
+
+def recorded():
+    rng = random.Random(5)
+    for i in range(40):
+        times = [[rng.choice([0, 1, 2, 3, 9, LATEST]) for _ in range(rng.randrange(6))] for _ in range(rng.randrange(1, 9))]
+        hints = [] if i % 2 else [rng.choice([0, 1, 2, 9]) for _ in times]
+        merged(f"dbn {i}", [b"".join(record(time, p) for time in stream) for p, stream in enumerate(times)], hints, answered_by_dbn(times, hints))
+
+
 def main():
     traps()
     borders()
     drawn()
+    recorded()
     for name, parts in [("stdin", [line + "\n" for line in cases]), ("stdout", written)]:
         with open(os.path.join(HERE, name), "w") as file:
             file.write("".join(parts))

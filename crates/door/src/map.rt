@@ -2,10 +2,10 @@
 use crate::DONE;
 use crate::damage::reason_in;
 use leaves::refusal::number;
+use mapping::mapping::Recorded;
 use maps::insert::Inserted;
 use maps::interval::Interval;
 use maps::lookup::Found;
-use maps::mapping::Recorded;
 use maps::table::Checked;
 ghost use mathlib.Core.Path.{_≡_};
 ghost use mathlib.Core.Bool.{false, _||_};
@@ -15,7 +15,7 @@ ghost use Rattle.tables.specs.Table.{ordered};
 ghost use Rattle.tables.specs.Memory.{sameValue, rows, badTable, checkAnswer, insertOutcome, outcomeAnswer, memoryAfter};
 ghost use Rattle.tables.specs.Looks.{lookupAnswer};
 ghost use Rattle.leaves.specs.Frame.{nameIn};
-ghost use Rattle.maps.specs.Mapping.{timeJudged, timeJoins, timeTable, timeAnswer, bytesThen, endsThen};
+ghost use Rattle.mapping.specs.Mapping.{timeJudged, timeJoins, timeTable, timeAnswer, bytesThen, endsThen};
 ghost use Rattle.door.specs.Answers.{numberIn, valueIn, givenIn, damageIn, row};
 
 // Whether the table is well-formed: 0, 14 or 15.
@@ -119,7 +119,7 @@ pub extern "C" fn desk_on_record(
     ensures { λ _. ⌜ now (bytes .exit) ≡ bytesThen (timeJoins (now (table .entry)) (now (used .entry)) (timeJudged (now (table .entry)) (now (used .entry)) (now (bytes .entry)) (now (ends .entry)) (now (names .entry)) (now (size .entry)) (now (rec .entry)))) (now (bytes .entry)) (now (size .entry)) (nameIn (now (rec .entry))) ⌝ }
     ensures { λ _. ⌜ now (ends .exit) ≡ endsThen (timeJoins (now (table .entry)) (now (used .entry)) (timeJudged (now (table .entry)) (now (used .entry)) (now (bytes .entry)) (now (ends .entry)) (now (names .entry)) (now (size .entry)) (now (rec .entry)))) (now (ends .entry)) (now (names .entry)) (now (size .entry)) (nameIn (now (rec .entry))) ⌝ }
 {
-    let recorded = maps::mapping::on_record(table, *used, bytes, ends, *names, *size, rec);
+    let recorded = mapping::mapping::on_record(table, *used, bytes, ends, *names, *size, rec);
     match recorded {
         Recorded::Done {
             used: rows,

@@ -2,8 +2,8 @@
 use crate::DONE;
 use crate::damage::reason_in;
 use leaves::refusal::number;
+use mapping::mapping::Recorded;
 use maps::lookup::Found;
-use maps::mapping::Recorded;
 use maps::table::Checked;
 ghost use mathlib.Core.Path.{_≡_};
 ghost use mathlib.Core.Bool.{true, not, _||_};
@@ -12,7 +12,7 @@ ghost use lib.Dec.{T};
 ghost use Rattle.leaves.specs.Frame.{nameIn};
 ghost use Rattle.maps.specs.Entries.{entries};
 ghost use Rattle.maps.specs.Points.{rising, pointsFit, pointsChecked, pointFound};
-ghost use Rattle.maps.specs.Mapping.{pointJudged, pointJoins, pointTable, pointAnswer, bytesThen, endsThen};
+ghost use Rattle.mapping.specs.Mapping.{pointJudged, pointJoins, pointTable, pointAnswer, bytesThen, endsThen};
 ghost use Rattle.door.specs.Answers.{numberIn, valueIn, givenIn, damageIn};
 
 // Whether a point-in-time table is well-formed: 0, 14 or 15.
@@ -79,7 +79,15 @@ pub extern "C" fn desk_on_record_point(
     ensures { λ _. ⌜ now (bytes .exit) ≡ bytesThen (pointJoins (now (table .entry)) (now (used .entry)) (pointJudged (now (table .entry)) (now (used .entry)) (now (bytes .entry)) (now (ends .entry)) (now (names .entry)) (now (size .entry)) (now (rec .entry)))) (now (bytes .entry)) (now (size .entry)) (nameIn (now (rec .entry))) ⌝ }
     ensures { λ _. ⌜ now (ends .exit) ≡ endsThen (pointJoins (now (table .entry)) (now (used .entry)) (pointJudged (now (table .entry)) (now (used .entry)) (now (bytes .entry)) (now (ends .entry)) (now (names .entry)) (now (size .entry)) (now (rec .entry)))) (now (ends .entry)) (now (names .entry)) (now (size .entry)) (nameIn (now (rec .entry))) ⌝ }
 {
-    let recorded = maps::mapping::on_record_point(table, *used, bytes, ends, *names, *size, rec);
+    let recorded = mapping::mapping::on_record_point(
+        table,
+        *used,
+        bytes,
+        ends,
+        *names,
+        *size,
+        rec,
+    );
     match recorded {
         Recorded::Done {
             used: rows,

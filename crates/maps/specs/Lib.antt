@@ -5,10 +5,5 @@ pub mod PointsLaws
 pub mod PointsSteps
 pub mod Interval
 pub mod Insert
-pub mod Mapping
-pub mod MappingLaws
-pub mod MappingInterval
 pub mod Table
-pub mod MappingHistory
-pub mod MappingExamples
 pub mod Lookup

@@ -5,7 +5,6 @@ pub mod entries;
 pub mod insert;
 pub mod interval;
 pub mod lookup;
-pub mod mapping;
 pub mod moves;
 pub mod points;
 pub mod reach;

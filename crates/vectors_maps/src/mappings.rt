@@ -1,7 +1,7 @@
 // Cases of the mapping call, each a call: what it answers, and what it leaves of table and name list.
 use cases::Tally;
 use cases::tried;
-use maps::mapping::Recorded;
+use mapping::mapping::Recorded;
 
 // A time that is missing, in a case.
 const MISSING: u8 = 255;
@@ -80,19 +80,19 @@ fn on_empty(tally: Tally) -> Tally {
     let mut table = [9u8; 24];
     let mut bytes = [9u8; 1];
     let mut ends = [9u32; 1];
-    let none = maps::mapping::on_record(&mut table, 0, &mut bytes, &mut ends, 0, 0, b"");
+    let none = mapping::mapping::on_record(&mut table, 0, &mut bytes, &mut ends, 0, 0, b"");
     let mut t = tried(tally, b"no bytes", is_refused(none, 13));
     let stored = mapping(MISSING, 0, b'A');
-    let empty = maps::mapping::on_record(&mut table, 0, &mut bytes, &mut ends, 0, 0, &stored);
+    let empty = mapping::mapping::on_record(&mut table, 0, &mut bytes, &mut ends, 0, 0, &stored);
     t = tried(t, b"missing start, end 0", is_done(empty, 0, 0, 0));
     let reversed = mapping(9, 5, b'A');
-    let back = maps::mapping::on_record(&mut table, 0, &mut bytes, &mut ends, 0, 0, &reversed);
+    let back = mapping::mapping::on_record(&mut table, 0, &mut bytes, &mut ends, 0, 0, &reversed);
     t = tried(t, b"start after end", is_refused(back, 1));
     let bad = mapping(9, 5, 0xFF);
-    let four = maps::mapping::on_record(&mut table, 0, &mut bytes, &mut ends, 0, 0, &bad);
+    let four = mapping::mapping::on_record(&mut table, 0, &mut bytes, &mut ends, 0, 0, &bad);
     t = tried(t, b"start after end, bad name", is_refused(four, 4));
     let level = mapping(5, 5, 0xFF);
-    let equal = maps::mapping::on_record(&mut table, 0, &mut bytes, &mut ends, 0, 0, &level);
+    let equal = mapping::mapping::on_record(&mut table, 0, &mut bytes, &mut ends, 0, 0, &level);
     t = tried(t, b"start = end, bad name", is_refused(equal, 4));
     t = tried(
         t,
@@ -100,7 +100,7 @@ fn on_empty(tally: Tally) -> Tally {
         bytes[0] == 9 && ends[0] == 9 && table[0] == 9,
     );
     let whole = mapping(1, MISSING, b'A');
-    let done = maps::mapping::on_record(&mut table, 0, &mut bytes, &mut ends, 0, 0, &whole);
+    let done = mapping::mapping::on_record(&mut table, 0, &mut bytes, &mut ends, 0, 0, &whole);
     t = tried(t, b"stored", is_done(done, 1, 1, 1));
     t = tried(t, b"the name joined", bytes[0] == b'A' && ends[0] == 1);
     tried(
@@ -141,21 +141,21 @@ fn on_full(tally: Tally) -> Tally {
     let mut bytes = [b'A', 9];
     let mut ends = [1u32, 9];
     let apart = mapping(7, 8, b'B');
-    let room = maps::mapping::on_record(&mut table, 1, &mut bytes, &mut ends, 1, 1, &apart);
+    let room = mapping::mapping::on_record(&mut table, 1, &mut bytes, &mut ends, 1, 1, &apart);
     let mut t = tried(tally, b"table full, list free", is_refused(room, 2));
     t = tried(t, b"no name joined", bytes[1] == 9 && ends[1] == 9);
     let mut one = [b'A'];
     let mut one_end = [1u32];
-    let five = maps::mapping::on_record(&mut table, 1, &mut one, &mut one_end, 1, 1, &apart);
+    let five = mapping::mapping::on_record(&mut table, 1, &mut one, &mut one_end, 1, 1, &apart);
     t = tried(t, b"table full, list full", is_refused(five, 5));
     let back = mapping(9, 5, b'B');
-    let first = maps::mapping::on_record(&mut table, 1, &mut one, &mut one_end, 1, 1, &back);
+    let first = mapping::mapping::on_record(&mut table, 1, &mut one, &mut one_end, 1, 1, &back);
     t = tried(t, b"start after end, list full", is_refused(first, 1));
     let level = mapping(5, 5, b'B');
-    let done = maps::mapping::on_record(&mut table, 1, &mut one, &mut one_end, 1, 1, &level);
+    let done = mapping::mapping::on_record(&mut table, 1, &mut one, &mut one_end, 1, 1, &level);
     t = tried(t, b"start = end, list full", is_done(done, 1, 1, 1));
     let joined = mapping(5, 9, b'A');
-    let longer = maps::mapping::on_record(&mut table, 1, &mut one, &mut one_end, 1, 1, &joined);
+    let longer = mapping::mapping::on_record(&mut table, 1, &mut one, &mut one_end, 1, 1, &joined);
     tried(
         t,
         b"an old name joins two intervals",
@@ -169,14 +169,30 @@ fn on_point(tally: Tally) -> Tally {
     let mut bytes = [9u8; 2];
     let mut ends = [9u32; 2];
     let back = mapping(9, 5, b'A');
-    let first = maps::mapping::on_record_point(&mut table, 0, &mut bytes, &mut ends, 0, 0, &back);
+    let first = mapping::mapping::on_record_point(
+        &mut table,
+        0,
+        &mut bytes,
+        &mut ends,
+        0,
+        0,
+        &back,
+    );
     let mut t = tried(
         tally,
         b"point-in-time: both times ignored",
         is_done(first, 1, 1, 1),
     );
     let next = mapping(5, 5, b'B');
-    let full = maps::mapping::on_record_point(&mut table, 1, &mut bytes, &mut ends, 1, 1, &next);
+    let full = mapping::mapping::on_record_point(
+        &mut table,
+        1,
+        &mut bytes,
+        &mut ends,
+        1,
+        1,
+        &next,
+    );
     t = tried(
         t,
         b"point-in-time: full, known instrument",
@@ -188,9 +204,25 @@ fn on_point(tally: Tally) -> Tally {
         table[0] == INSTRUMENT && table[4] == 1,
     );
     let other = [16, 0, 3, 0, INSTRUMENT, 0, 0, 0, 0, 0, 0, 0, 0, 0, 0, 0];
-    let kind = maps::mapping::on_record_point(&mut table, 1, &mut bytes, &mut ends, 2, 2, &other);
+    let kind = mapping::mapping::on_record_point(
+        &mut table,
+        1,
+        &mut bytes,
+        &mut ends,
+        2,
+        2,
+        &other,
+    );
     t = tried(t, b"point-in-time: another kind", is_done(kind, 1, 2, 2));
-    let ill = maps::mapping::on_record_point(&mut table, 1, &mut bytes, &mut ends, 1, 1, &other);
+    let ill = mapping::mapping::on_record_point(
+        &mut table,
+        1,
+        &mut bytes,
+        &mut ends,
+        1,
+        1,
+        &other,
+    );
     tried(
         t,
         b"another kind, an unknown symbol in the table",

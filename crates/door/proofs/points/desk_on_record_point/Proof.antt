@@ -1,5 +1,5 @@
 -- Each arm of the match is what its case says. Assumes nothing.
-use Rattle.maps.specs.Mapping.{recordedOf}
+use Rattle.mapping.specs.Mapping.{recordedOf}
 use Rattle.door.specs.AnswersLaws.{told, done-number, done-value, done-damage, not-number, not-value, not-damage}
 use borrow.Author.Needs.{needs}
 use Rattle.door.proofs.points.desk_on_record_point.Statement.{statement}

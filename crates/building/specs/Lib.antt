@@ -1,0 +1,5 @@
+pub mod Reading
+pub mod ReadingLaws
+pub mod OverTime
+pub mod PointInTime
+pub mod Examples

@@ -1,0 +1,2 @@
+// Both builds from metadata: definitions and laws stand in specs/; here is what both read.
+pub mod reading;

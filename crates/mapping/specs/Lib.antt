@@ -1,0 +1,5 @@
+pub mod Mapping
+pub mod MappingLaws
+pub mod MappingInterval
+pub mod MappingHistory
+pub mod MappingExamples
