@@ -154,6 +154,55 @@ static void records(uint64_t steps, uint64_t most, size_t streams) {
     }
 }
 
+/* ---- Metadata. */
+
+struct metadata {
+    uint64_t header[DESK_HEADER_WORDS];
+    uint32_t symbols[DESK_ENTRIES], partial[1], not_found[1];
+    uint32_t mappings[DESK_MAPPINGS * DESK_MAPPING_WORDS], intervals[DESK_INTERVALS * DESK_INTERVAL_WORDS];
+};
+
+/* The mappings from number `from` to before `to`, of 16 intervals each; a mapping's name and its intervals' symbol are the text of
+ * its instrument. */
+static void lay_metadata(struct metadata *m, uint32_t from, uint32_t to) {
+    uint32_t *symbol = m->symbols, *mapping = m->mappings, *interval = m->intervals;
+    for (uint32_t i = from; i < to; i++) {
+        *symbol++ = i;
+        *mapping++ = i;
+        *mapping++ = 16;
+        for (uint32_t k = 0; k < 16; k++) {
+            uint32_t month = (2020 + k / 12) * 10000 + (k % 12 + 1) * 100;
+            *interval++ = month + 1;
+            *interval++ = month + 15;
+            *interval++ = i;
+        }
+    }
+    m->header[DESK_SCHEMA] = DESK_NO_SCHEMA;
+    m->header[DESK_STYPE_IN] = 1;
+    m->header[DESK_SYMBOLS] = m->header[DESK_MAPPINGS_USED] = to - from;
+}
+
+#define LISTS(m) \
+    (m)->header, DESK_HEADER_WORDS, (m)->symbols, DESK_ENTRIES, (m)->partial, 0, (m)->not_found, 0, (m)->mappings, \
+        DESK_MAPPINGS * DESK_MAPPING_WORDS, (m)->intervals, DESK_INTERVALS * DESK_INTERVAL_WORDS
+
+/* The mappings from 0 to before `first`, with those from `from` to before `to` merged in. */
+static void merges(uint64_t steps, uint32_t first, uint32_t from, uint32_t to) {
+    enum { MOST = 4 };
+    struct metadata *given = room(MOST * sizeof *given), *added = room(sizeof *added);
+    for (int i = 0; i < MOST; i++) lay_metadata(&given[i], 0, first);
+    lay_metadata(added, from, to);
+    for (uint64_t i = 0; i < steps; i++) {
+        struct metadata *m = &given[i];
+        uint32_t field;
+        if (desk_metadata_open(LISTS(m)) != DESK_DONE || desk_metadata_merge(DESK_NAMES, LISTS(m), LISTS(added), &field) != DESK_DONE
+            || desk_metadata_finish(LISTS(m)) != DESK_DONE)
+            stop("a merge was refused");
+        digest += m->header[DESK_MAPPINGS_USED];
+        for (uint64_t k = 0; k < m->header[DESK_MAPPINGS_USED]; k++) digest += m->mappings[DESK_MAPPING_WORDS * k + 1];
+    }
+}
+
 /* ---- UTF-8. */
 
 /* Names of the greatest length, their characters drawn among those of `least` to `most` bytes. */
@@ -186,6 +235,8 @@ int main(int words, char **word) {
     else if (!strcmp(row, "merge-4") || !strcmp(row, "ready-4")) records(steps, 200000, 4);
     else if (!strcmp(row, "merge-16") || !strcmp(row, "ready-16")) records(steps, 200000, 16);
     else if (!strcmp(row, "merge-256") || !strcmp(row, "ready-256")) records(steps, 200000, 256);
+    else if (!strcmp(row, "metadata-copy")) merges(steps, 4096, 0, 4096);
+    else if (!strcmp(row, "metadata-apart")) merges(steps, 2048, 2048, 4096);
     else if (!strcmp(row, "utf8-ascii")) names(steps, 1, 1);
     else if (!strcmp(row, "utf8-two")) names(steps, 2, 2);
     else if (!strcmp(row, "utf8-mixed")) names(steps, 1, 4);

@@ -1,12 +1,14 @@
-//! dbn's side of the benchmark: `theirs ROW STEPS`, with the rows, the inputs and the digests of ours.c.
+//! dbn's side of the benchmark: `theirs ROW STEPS`, with the rows, the inputs and the digests of ours.c. What steps make or
+//! leave behind is not dropped, so that taking it apart is not counted.
 
-use std::{env, hint::black_box};
+use std::{env, hint::black_box, mem::ManuallyDrop};
 
 use dbn::{
     decode::{merge::RecordDecoder, private::LastRecord, DecodeRecordRef},
     record::Other,
-    Error, Rec, Record, RecordHeader, RecordRef, TsSymbolMap,
+    Error, MappingInterval, Metadata, Rec, Record, RecordHeader, RecordRef, SType, SymbolMapping, TsSymbolMap,
 };
+use time::{Date, Month};
 
 const NAMES: u64 = 16;
 const SPACING: u64 = 1000;
@@ -71,7 +73,7 @@ fn lookups(mut drawn: Draw, steps: usize, most: u64, instruments: u64, intervals
 
 fn appends(steps: u64, intervals: u64) -> u64 {
     let symbols = symbols();
-    let mut map = TsSymbolMap::new();
+    let mut map = ManuallyDrop::new(TsSymbolMap::new());
     for i in 0..steps {
         let k = i % intervals;
         let symbol = symbols[(k % NAMES) as usize].as_str();
@@ -82,7 +84,7 @@ fn appends(steps: u64, intervals: u64) -> u64 {
 
 fn middles(mut drawn: Draw, steps: u64, instruments: u64, intervals: u64) -> u64 {
     let symbols = symbols();
-    let mut map = lay_map(instruments, intervals);
+    let mut map = ManuallyDrop::new(lay_map(instruments, intervals));
     for _ in 0..steps {
         let (which, k) = (drawn.draw(instruments), drawn.draw(intervals));
         let from = k * SPACING + 100 + drawn.draw(300);
@@ -214,6 +216,35 @@ fn names(mut drawn: Draw, steps: usize, least: u64, most: u64) -> u64 {
     (0..steps).map(|i| std::str::from_utf8(black_box(&texts[i % TEXTS])).is_ok() as u64).sum()
 }
 
+// Metadata.
+
+/// The mappings from number `from` to before `to`, of 16 intervals each; a mapping's name and its intervals' symbol are the
+/// text of its instrument.
+fn metadata(from: u64, to: u64) -> Metadata {
+    let text = |i: u64| instrument(i).to_string();
+    let date = |k: u64, day| Date::from_calendar_date(2020 + (k / 12) as i32, Month::try_from((k % 12 + 1) as u8).unwrap(), day).unwrap();
+    let interval = |i, k| MappingInterval { start_date: date(k, 1), end_date: date(k, 15), symbol: text(i) };
+    Metadata {
+        mappings: (from..to)
+            .map(|i| SymbolMapping { raw_symbol: text(i), intervals: (0..16).map(|k| interval(i, k)).collect() })
+            .collect(),
+        symbols: (from..to).map(text).collect(),
+        ..Metadata::builder().dataset("").schema(None).start(0).stype_in(Some(SType(1))).stype_out(SType::InstrumentId).build()
+    }
+}
+
+/// The mappings and the intervals of a metadata.
+fn size(metadata: &Metadata) -> u64 {
+    metadata.mappings.len() as u64 + metadata.mappings.iter().map(|mapping| mapping.intervals.len() as u64).sum::<u64>()
+}
+
+fn merges(steps: usize, first: Metadata, added: Metadata) -> u64 {
+    const MOST: usize = 4;
+    let mut given = ManuallyDrop::new(vec![(first, added); MOST]);
+    let merged = given.drain(..steps).map(|(first, added)| ManuallyDrop::new(first.merge([added]).expect("a merge")));
+    merged.map(|merged| size(&merged)).sum()
+}
+
 fn main() {
     let words: Vec<String> = env::args().collect();
     let [_, row, steps] = words.as_slice() else {
@@ -236,6 +267,8 @@ fn main() {
         "ready-4" => records(steps, streams(drawn, 200_000, 4), ready),
         "ready-16" => records(steps, streams(drawn, 200_000, 16), ready),
         "ready-256" => records(steps, streams(drawn, 200_000, 256), ready),
+        "metadata-copy" => merges(steps as usize, metadata(0, 4096), metadata(0, 4096)),
+        "metadata-apart" => merges(steps as usize, metadata(0, 2048), metadata(2048, 4096)),
         "utf8-ascii" => names(drawn, steps as usize, 1, 1),
         "utf8-two" => names(drawn, steps as usize, 2, 2),
         "utf8-mixed" => names(drawn, steps as usize, 1, 4),
