@@ -453,6 +453,154 @@ static void records(void) {
     merge(buffer, len, cuts, count + 1, hints, hints_len, 0);
 }
 
+/* ---- Metadata. */
+
+enum { SYMBOLS, PARTIAL, NOT_FOUND, MAPPINGS, INTERVALS, LISTS, SETS = MAPPINGS };
+
+struct metadata {
+    uint64_t header[DESK_HEADER_WORDS];
+    uint32_t *list[LISTS];
+    size_t len[LISTS];
+};
+
+static uint32_t *list(size_t *len) {
+    *len = number();
+    uint32_t *piece = lend(*len * 4);
+    for (size_t i = 0; i < *len; i++) piece[i] = (uint32_t)number();
+    return piece;
+}
+
+static struct metadata lent_metadata(void) {
+    struct metadata m;
+    for (size_t i = 0; i < DESK_HEADER_WORDS; i++) m.header[i] = number();
+    for (size_t k = 0; k < LISTS; k++) m.list[k] = list(&m.len[k]);
+    return m;
+}
+
+static void put_list(const uint32_t *words, size_t len) {
+    put_number(len);
+    for (size_t i = 0; i < len; i++) put_number(words[i]);
+}
+
+static void put_lent(const struct metadata *m) {
+    for (size_t i = 0; i < DESK_HEADER_WORDS; i++) put_number(m->header[i]);
+    for (size_t k = 0; k < LISTS; k++) put_list(m->list[k], m->len[k]);
+}
+
+static uint32_t opened(struct metadata *m) {
+    return desk_metadata_open(m->header, DESK_HEADER_WORDS, m->list[SYMBOLS], m->len[SYMBOLS], m->list[PARTIAL], m->len[PARTIAL],
+                              m->list[NOT_FOUND], m->len[NOT_FOUND], m->list[MAPPINGS], m->len[MAPPINGS], m->list[INTERVALS],
+                              m->len[INTERVALS]);
+}
+
+/* Merges, and prints the number, and behind 6 the field. */
+static uint32_t put_merged(size_t names, struct metadata *m, const struct metadata *added) {
+    uint32_t field = 0;
+    uint32_t answer = desk_metadata_merge(
+        names, m->header, DESK_HEADER_WORDS, m->list[SYMBOLS], m->len[SYMBOLS], m->list[PARTIAL], m->len[PARTIAL],
+        m->list[NOT_FOUND], m->len[NOT_FOUND], m->list[MAPPINGS], m->len[MAPPINGS], m->list[INTERVALS], m->len[INTERVALS],
+        added->header, DESK_HEADER_WORDS, added->list[SYMBOLS], added->len[SYMBOLS], added->list[PARTIAL], added->len[PARTIAL],
+        added->list[NOT_FOUND], added->len[NOT_FOUND], added->list[MAPPINGS], added->len[MAPPINGS], added->list[INTERVALS],
+        added->len[INTERVALS], &field);
+    put_number(answer);
+    if (answer == DESK_DIFFER) put_number(field);
+    return answer;
+}
+
+static void open_metadata(void) {
+    struct metadata m = lent_metadata();
+    put_number(opened(&m));
+    put_lent(&m);
+}
+
+static void merge_metadata(void) {
+    size_t names = number();
+    struct metadata m = lent_metadata(), added = lent_metadata();
+    put_merged(names, &m, &added);
+    put_lent(&m);
+}
+
+/* A metadata as the Rust's is written: its mappings one after the other, each before its intervals. */
+static struct metadata whole_metadata(void) {
+    struct metadata m;
+    for (size_t i = 0; i < DESK_SYMBOLS; i++) m.header[i] = number();
+    for (size_t k = 0; k < SETS; k++) {
+        m.list[k] = list(&m.len[k]);
+        m.header[DESK_SYMBOLS + k] = m.len[k];
+    }
+    size_t mappings = number(), intervals = 0;
+    m.header[DESK_MAPPINGS_USED] = mappings;
+    m.len[MAPPINGS] = mappings * DESK_MAPPING_WORDS;
+    m.list[MAPPINGS] = lend(m.len[MAPPINGS] * 4);
+    m.list[INTERVALS] = lend(0);
+    for (size_t i = 0; i < mappings; i++) {
+        m.list[MAPPINGS][2 * i] = (uint32_t)number();
+        uint32_t count = m.list[MAPPINGS][2 * i + 1] = (uint32_t)number();
+        lend(count * DESK_INTERVAL_WORDS * 4); /* behind those before it */
+        for (size_t w = 0; w < count * DESK_INTERVAL_WORDS; w++)
+            m.list[INTERVALS][intervals * DESK_INTERVAL_WORDS + w] = (uint32_t)number();
+        intervals += count;
+    }
+    m.len[INTERVALS] = intervals * DESK_INTERVAL_WORDS;
+    return m;
+}
+
+static void sort(uint32_t *words, size_t len) {
+    for (size_t i = 1; i < len; i++)
+        for (size_t j = i; 0 < j && words[j] < words[j - 1]; j--) {
+            uint32_t word = words[j];
+            words[j] = words[j - 1];
+            words[j - 1] = word;
+        }
+}
+
+/* Prints a metadata with its sets and mappings sorted by name: dbn's order is a hash's. */
+static void put_sorted(const struct metadata *m) {
+    for (size_t i = 0; i < DESK_SYMBOLS; i++) put_number(m->header[i]);
+    for (size_t k = 0; k < SETS; k++) {
+        size_t used = m->header[DESK_SYMBOLS + k];
+        uint32_t *set = lend(used * 4);
+        memcpy(set, m->list[k], used * 4);
+        sort(set, used);
+        put_list(set, used);
+    }
+    size_t used = m->header[DESK_MAPPINGS_USED];
+    uint32_t *names = lend(used * 4);
+    for (size_t i = 0; i < used; i++) names[i] = m->list[MAPPINGS][2 * i];
+    sort(names, used);
+    put_number(used);
+    for (size_t n = 0; n < used; n++) {
+        const uint32_t *mapping = m->list[MAPPINGS], *interval = m->list[INTERVALS];
+        for (; mapping[0] != names[n]; mapping += DESK_MAPPING_WORDS) interval += mapping[1] * DESK_INTERVAL_WORDS;
+        put_number(mapping[0]);
+        put_number(mapping[1]);
+        for (size_t w = 0; w < mapping[1] * DESK_INTERVAL_WORDS; w++) put_number(interval[w]);
+    }
+}
+
+/* The first metadata opened, then one more merged in at a time, up to a refusal; room for all of them together. */
+static void merge_all(void) {
+    enum { most = 16 };
+    struct metadata given[most], m;
+    size_t names = number(), len;
+    for (size_t i = 0; i < names; i++) bytes(&len);
+    size_t count = number();
+    if (most < count) exit(2);
+    for (size_t i = 0; i < count; i++) given[i] = whole_metadata();
+    m = given[0];
+    for (size_t k = 0; k < LISTS; k++) {
+        for (size_t i = 1; i < count; i++) m.len[k] += given[i].len[k];
+        m.list[k] = lend(m.len[k] * 4);
+        memcpy(m.list[k], given[0].list[k], given[0].len[k] * 4);
+    }
+    for (size_t i = 0; i < count; i++) {
+        next_answer();
+        if (i == 0) put_number(opened(&m));
+        else if (put_merged(names, &m, &given[i]) != DESK_DONE) return;
+        put_sorted(&m);
+    }
+}
+
 /* ---- Cases. */
 
 static int is(const char *kind, size_t len, const char *name) { return len == strlen(name) && memcmp(kind, name, len) == 0; }
@@ -481,6 +629,9 @@ static void answer_case(void) {
     else if (is(kind, len, "date")) date();
     else if (is(kind, len, "records") || is(kind, len, "decoder")) records();
     else if (is(kind, len, "streams")) streams();
+    else if (is(kind, len, "merge")) merge_all();
+    else if (is(kind, len, "open_metadata")) open_metadata();
+    else if (is(kind, len, "merge_metadata")) merge_metadata();
     else put_word("?");
     put("\n", 1);
 }

@@ -18,6 +18,8 @@ static void is(int holds, const char *what, int line) {
 /* ---- What is lent, all in one piece, so that one comparison finds any change. */
 
 enum { ROOM = 4, POINTS = 3, NAMES = 4, NAME_ROOM = 300, BUFFER = 96 };
+enum { SYMBOLS, PARTIAL, NOT_FOUND, MAPPINGS, INTERVALS, LISTS }; /* of a metadata */
+enum { LIST_ROOM = 24 };                                          /* words of each */
 
 static struct desk {
     uint64_t hint, moment, reason, stream, place, time;
@@ -28,6 +30,8 @@ static struct desk {
     uint16_t length, kind;
     uint8_t table[(ROOM + 1) * DESK_INTERVAL_BYTES], points[(POINTS + 1) * DESK_POINT_BYTES], bytes[NAME_ROOM + 1];
     uint8_t marks[DESK_STREAMS + 1], heap[DESK_STREAMS + 1];
+    uint64_t header[DESK_HEADER_WORDS + 1];
+    uint32_t list[LISTS][LIST_ROOM], field;
 } d, was;
 
 /* The call answers the number and leaves everything as it was. */
@@ -487,6 +491,262 @@ static void test_merge(void) {
     }
 }
 
+/* ---- Metadata. A side has its header, its lists in `of` and as many words of each as are lent. */
+
+struct side {
+    uint64_t *header;
+    size_t header_len;
+    uint32_t *of[LISTS];
+    size_t len[LISTS];
+};
+
+static uint64_t added_header[DESK_HEADER_WORDS + 1];
+static uint32_t added_list[LISTS][LIST_ROOM];
+
+static uint32_t open_side(struct side m) {
+    return desk_metadata_open(m.header, m.header_len, m.of[0], m.len[0], m.of[1], m.len[1], m.of[2], m.len[2], m.of[3], m.len[3],
+                              m.of[4], m.len[4]);
+}
+
+static uint32_t finish_side(struct side m) {
+    return desk_metadata_finish(m.header, m.header_len, m.of[0], m.len[0], m.of[1], m.len[1], m.of[2], m.len[2], m.of[3],
+                                m.len[3], m.of[4], m.len[4]);
+}
+
+static uint32_t merge_sides(size_t names, struct side m, struct side a) {
+    return desk_metadata_merge(names, m.header, m.header_len, m.of[0], m.len[0], m.of[1], m.len[1], m.of[2], m.len[2], m.of[3],
+                               m.len[3], m.of[4], m.len[4], a.header, a.header_len, a.of[0], a.len[0], a.of[1], a.len[1],
+                               a.of[2], a.len[2], a.of[3], a.len[3], a.of[4], a.len[4], &d.field);
+}
+
+/* Puts words into a list from its front. */
+static void put_words(uint32_t *to, const uint32_t *words, size_t len) {
+    while (len-- != 0) *to++ = *words++;
+}
+#define PUT(to, ...) put_words(to, (const uint32_t[]){__VA_ARGS__}, sizeof((const uint32_t[]){__VA_ARGS__}) / 4)
+
+static int words_are(const uint32_t *from, const uint32_t *words, size_t len) { return memcmp(from, words, len * 4) == 0; }
+#define WORDS_ARE(from, ...) words_are(from, (const uint32_t[]){__VA_ARGS__}, sizeof((const uint32_t[]){__VA_ARGS__}) / 4)
+
+static void put_header(uint64_t *header, uint64_t symbols, uint64_t partial, uint64_t not_found, uint64_t mappings) {
+    const uint64_t words[DESK_HEADER_WORDS] = {3, 0, 4, 50, 0, 7, 1, 0, 1, 71, symbols, partial, not_found, mappings};
+    memcpy(header, words, sizeof words);
+}
+
+enum { D1 = 20240228, D2 = 20240229, D3 = 20240301, D4 = 20240302 };
+#define GARBAGE 0xA5A5A5A5u
+
+/* The gathered side in `d`: symbols 1 2, partial 3, mappings 1:[D1,D2)5 and 2:[D2,D3)6, with room to spare. */
+static struct side gathered(void) {
+    struct side m = {d.header, DESK_HEADER_WORDS, {0}, {4, 2, 2, 8, 15}};
+    begin();
+    for (int k = 0; k < LISTS; k++) m.of[k] = d.list[k];
+    put_header(d.header, 2, 1, 0, 2);
+    PUT(d.list[SYMBOLS], 1, 2);
+    PUT(d.list[PARTIAL], 3);
+    PUT(d.list[MAPPINGS], 1, 1, 2, 1);
+    PUT(d.list[INTERVALS], D1, D2, 5, D2, D3, 6);
+    return m;
+}
+
+/* The added side: symbols 2 4, not_found 3, mappings 1:[D2,D3)5 and 3:[D1,D4)6. */
+static struct side added(void) {
+    struct side a = {added_header, DESK_HEADER_WORDS, {0}, {2, 0, 1, 4, 6}};
+    for (int k = 0; k < LISTS; k++) a.of[k] = added_list[k];
+    put_header(added_header, 2, 0, 1, 2);
+    added_header[DESK_SCHEMA] = 5;
+    added_header[DESK_START] = 40;
+    added_header[DESK_END] = 90;
+    PUT(added_list[SYMBOLS], 2, 4);
+    PUT(added_list[NOT_FOUND], 3);
+    PUT(added_list[MAPPINGS], 1, 1, 3, 1);
+    PUT(added_list[INTERVALS], D2, D3, 5, D1, D4, 6);
+    return a;
+}
+
+/* The merge answers the number, changes nothing in `d`, and nothing of the added side. */
+static void merge_refuses(uint32_t number, size_t names, struct side m, struct side a, int line) {
+    uint64_t header[DESK_HEADER_WORDS + 1];
+    uint32_t list[LISTS][LIST_ROOM];
+    memcpy(header, added_header, sizeof header);
+    memcpy(list, added_list, sizeof list);
+    was = d;
+    is(merge_sides(names, m, a) == number, "the merge's number", line);
+    is(memcmp(&d, &was, sizeof d) == 0, "a refused merge changes nothing", line);
+    is(memcmp(header, added_header, sizeof header) == 0 && memcmp(list, added_list, sizeof list) == 0, "nor what is added", line);
+}
+#define MERGE_REFUSES(number, names, m, a) merge_refuses(number, names, m, a, __LINE__)
+
+static void test_metadata_open(void) {
+    struct side m = gathered();
+    put_header(d.header, 4, 1, 0, 3);
+    PUT(d.list[SYMBOLS], 2, 1, 2, 2);
+    PUT(d.list[MAPPINGS], 1, 1, 2, 1, 1, 0);
+    DONE(open_side(m)); /* the last of two mappings with one name counts, at the place of the first */
+    IS(d.header[DESK_SYMBOLS] == 2 && d.header[DESK_PARTIAL] == 1 && d.header[DESK_NOT_FOUND] == 0);
+    IS(d.header[DESK_MAPPINGS_USED] == 2 && d.header[DESK_LIMIT] == 7 && d.header[DESK_VERSION] == 3);
+    IS(WORDS_ARE(d.list[SYMBOLS], 2, 1, 0, 0, GARBAGE) && WORDS_ARE(d.list[PARTIAL], 3, GARBAGE));
+    IS(WORDS_ARE(d.list[MAPPINGS], 1, 0, 2, 1, 0, 0, GARBAGE) && WORDS_ARE(d.list[INTERVALS], D2, D3, 6, 0, 0, 0, GARBAGE));
+    REFUSES(DESK_DONE, open_side(m)); /* once more changes nothing */
+    REFUSES(DESK_DONE, finish_side(m));
+}
+
+/* 15 from each call, whichever side the bad memory is. */
+static void bad_memory(struct side m, struct side a, int line) {
+    was = d;
+    is(open_side(m) == DESK_BAD_MEMORY && finish_side(m) == DESK_BAD_MEMORY, "15", line);
+    is(memcmp(&d, &was, sizeof d) == 0, "15 changes nothing", line);
+    merge_refuses(DESK_BAD_MEMORY, 9, m, a, line);
+    merge_refuses(DESK_BAD_MEMORY, 9, a, m, line);
+}
+#define BAD_MEMORY(change)                \
+    do {                                  \
+        struct side m = gathered(), a = added(); \
+        change;                           \
+        bad_memory(m, a, __LINE__);       \
+    } while (0)
+
+static void test_metadata_memory(void) {
+    BAD_MEMORY(m.header_len = DESK_HEADER_WORDS - 1);
+    BAD_MEMORY(m.header_len = DESK_HEADER_WORDS + 1);
+    BAD_MEMORY(m.header_len = 0);
+    BAD_MEMORY(d.header[DESK_VERSION] = 256);
+    BAD_MEMORY(d.header[DESK_DATASET] = UINT64_C(1) << 32);
+    BAD_MEMORY(d.header[DESK_SCHEMA] = 65536);
+    BAD_MEMORY(d.header[DESK_STYPE_IN] = 256);
+    BAD_MEMORY(d.header[DESK_STYPE_OUT] = UINT64_MAX);
+    BAD_MEMORY(d.header[DESK_TS_OUT] = 2);
+    for (int k = 0; k < 3; k++) {
+        BAD_MEMORY(d.header[DESK_SYMBOLS + k] = m.len[k] + 1);
+        BAD_MEMORY(d.header[DESK_SYMBOLS + k] = UINT64_MAX);
+    }
+    BAD_MEMORY(d.header[DESK_MAPPINGS_USED] = 5);
+    BAD_MEMORY(d.header[DESK_MAPPINGS_USED] = UINT64_MAX);
+    BAD_MEMORY(m.len[MAPPINGS] = 7);
+    BAD_MEMORY(m.len[MAPPINGS] = 9);
+    BAD_MEMORY(m.len[INTERVALS] = 14);
+    BAD_MEMORY(m.len[INTERVALS] = 16);
+    BAD_MEMORY(m.len[INTERVALS] = 3);
+    BAD_MEMORY(d.list[MAPPINGS][1] = 5);
+    BAD_MEMORY(d.list[MAPPINGS][1] = UINT32_MAX);
+    MERGE_REFUSES(DESK_BAD_MEMORY, DESK_NAMES + 1, gathered(), added());
+    MERGE_REFUSES(DESK_BAD_MEMORY, SIZE_MAX, gathered(), added());
+}
+
+static void test_metadata_merge(void) {
+    struct side m = gathered(), a = added();
+    a.header[DESK_TS_OUT] = 1;
+    DONE(merge_sides(9, m, a));
+    IS(d.header[DESK_SCHEMA] == DESK_NO_SCHEMA && d.header[DESK_START] == 40 && d.header[DESK_END] == 90 && d.header[DESK_LIMIT] == 0);
+    IS(d.header[DESK_VERSION] == 3 && d.header[DESK_TS_OUT] == 1 && d.header[DESK_SYMBOL_CSTR_LEN] == 71);
+    IS(d.header[DESK_SYMBOLS] == 3 && d.header[DESK_PARTIAL] == 1 && d.header[DESK_NOT_FOUND] == 1);
+    IS(d.header[DESK_MAPPINGS_USED] == 3 && d.header[DESK_HEADER_WORDS] == UINT64_C(0xA5A5A5A5A5A5A5A5) && d.field == GARBAGE);
+    IS(WORDS_ARE(d.list[SYMBOLS], 1, 2, 4, GARBAGE) && WORDS_ARE(d.list[NOT_FOUND], 3, GARBAGE));
+    IS(WORDS_ARE(d.list[MAPPINGS], 1, 2, 2, 1, 3, 1, GARBAGE, GARBAGE));
+    IS(WORDS_ARE(d.list[INTERVALS], D1, D2, 5, D2, D3, 5, D2, D3, 6, D1, D4, 6, GARBAGE));
+    REFUSES(DESK_DONE, finish_side(m));
+
+    static const int compared[] = {DESK_VERSION, DESK_DATASET, DESK_STYPE_IN, DESK_STYPE_OUT, DESK_TS_OUT, DESK_SYMBOL_CSTR_LEN};
+    for (uint32_t f = 6; f != 0; f--) { /* with every later field different, too, and a date that is none */
+        m = gathered(), a = added();
+        a.of[INTERVALS][0] = 20230229;
+        for (uint32_t other = f; other <= 6; other++) a.header[compared[other - 1]] ^= 1;
+        d.field = 0;
+        was = d;
+        IS(merge_sides(9, m, a) == DESK_DIFFER && d.field == f);
+        d.field = 0;
+        IS(memcmp(&d, &was, sizeof d) == 0);
+    }
+}
+
+/* Each refusal, with every later one earned as well. */
+static void test_metadata_refusals(void) {
+    for (int number = 0; number < 5; number++) {
+        struct side m = gathered(), a = added();
+        if (number <= 4) m.len[INTERVALS] = 9;                                           /* 2 */
+        if (number <= 3) PUT(added_list[INTERVALS], D1, D3, 6);                          /* 7 */
+        if (number <= 2) PUT(added_list[INTERVALS] + 3, D4, D1, 6);                      /* 1 */
+        if (number <= 1) added_list[NOT_FOUND][0] = 9;                                   /* 3 */
+        if (number <= 0) d.list[INTERVALS][4] = 20230229;                                /* 11 */
+        static const uint32_t numbers[] = {DESK_NO_DATE, DESK_UNKNOWN_SYMBOL, DESK_REVERSED, DESK_CONFLICT, DESK_NO_ROOM};
+        MERGE_REFUSES(numbers[number], 9, m, a);
+    }
+    for (int k = 0; k < LISTS; k++) { /* each room one short */
+        static const size_t needed[] = {3, 1, 1, 6, 12};
+        struct side m = gathered(), a = added();
+        added_list[PARTIAL][0] = 3;
+        m.len[k] = needed[k];
+        DONE(merge_sides(9, m, a));
+        m = gathered();
+        m.len[k] = needed[k] - (k == MAPPINGS ? 2 : k == INTERVALS ? 3 : 1);
+        if (k != PARTIAL) MERGE_REFUSES(DESK_NO_ROOM, 9, m, a);
+        else MERGE_REFUSES(DESK_BAD_MEMORY, 9, m, a);
+    }
+    struct side m = gathered(), a = added();
+    MERGE_REFUSES(DESK_UNKNOWN_SYMBOL, 6, m, a); /* the symbol 6 was not handed out */
+    d.header[DESK_DATASET] = added_header[DESK_DATASET] = 9;
+    MERGE_REFUSES(DESK_UNKNOWN_SYMBOL, 9, m, a);
+    d.list[INTERVALS][0] = 25540722; /* open and finish look at no date */
+    REFUSES(DESK_DONE, open_side(m));
+    REFUSES(DESK_DONE, finish_side(m));
+}
+
+/* Metadata at the limits, and one over them. */
+static void test_metadata_limits(void) {
+    static uint32_t sets[3][DESK_ENTRIES + 1], others[3][DESK_ENTRIES + 1], mappings[2][(DESK_MAPPINGS + 1) * DESK_MAPPING_WORDS];
+    static uint32_t intervals[2][(DESK_INTERVALS + 1) * DESK_INTERVAL_WORDS];
+    uint64_t header[2][DESK_HEADER_WORDS];
+    struct side m = {header[0], DESK_HEADER_WORDS, {sets[0], sets[1], sets[2], mappings[0], intervals[0]}, {0}}, a = m;
+    a.header = header[1];
+    for (int k = 0; k < 3; k++) a.of[k] = others[k], m.len[k] = a.len[k] = DESK_ENTRIES;
+    a.of[MAPPINGS] = mappings[1], a.of[INTERVALS] = intervals[1];
+    m.len[MAPPINGS] = a.len[MAPPINGS] = DESK_MAPPINGS * DESK_MAPPING_WORDS;
+    m.len[INTERVALS] = a.len[INTERVALS] = DESK_INTERVALS * DESK_INTERVAL_WORDS;
+    for (uint32_t i = 0; i < DESK_ENTRIES; i++)
+        for (int k = 0; k < 3; k++) sets[k][i] = i, others[k][i] = DESK_ENTRIES - 1 - i;
+    for (uint32_t i = 0; i < DESK_MAPPINGS; i++) {
+        for (int side = 0; side < 2; side++) mappings[side][2 * i] = i, mappings[side][2 * i + 1] = DESK_INTERVALS / DESK_MAPPINGS;
+    }
+    for (uint32_t i = 0; i < DESK_INTERVALS; i++)
+        for (int side = 0; side < 2; side++) {
+            uint32_t day = D1, interval = i % (DESK_INTERVALS / DESK_MAPPINGS);
+            desk_date_of(2 * interval, &day);
+            intervals[side][3 * i] = day;
+            desk_date_of(2 * interval + 1, &day);
+            intervals[side][3 * i + 1] = day;
+            intervals[side][3 * i + 2] = i % DESK_NAMES;
+        }
+    for (int side = 0; side < 2; side++) put_header(header[side], DESK_ENTRIES, DESK_ENTRIES, DESK_ENTRIES, DESK_MAPPINGS);
+    begin();
+    DONE(open_side(m));
+    DONE(merge_sides(DESK_NAMES, m, a));
+    IS(header[0][DESK_SYMBOLS] == DESK_ENTRIES && header[0][DESK_MAPPINGS_USED] == DESK_MAPPINGS && header[0][DESK_LIMIT] == 0);
+    IS(sets[0][DESK_ENTRIES - 1] == DESK_ENTRIES - 1 && memcmp(intervals[0], intervals[1], sizeof intervals[0]) == 0);
+    header[1][DESK_LIMIT] = header[0][DESK_LIMIT] = 5;
+    mappings[1][1]++; /* one interval more than there are */
+    REFUSES(DESK_BAD_MEMORY, merge_sides(DESK_NAMES, m, a));
+    mappings[1][1]--;
+    uint32_t day = D1; /* one interval of the added side lies beside the others: 65,537 in all */
+    desk_date_of(1000, &day);
+    intervals[1][3 * (DESK_INTERVALS - 1)] = intervals[1][3 * (DESK_INTERVALS - 1) + 1] = day;
+    static uint32_t before[(DESK_INTERVALS + 1) * DESK_INTERVAL_WORDS];
+    memcpy(before, intervals[0], sizeof before);
+    REFUSES(DESK_NO_ROOM, merge_sides(DESK_NAMES, m, a));
+    IS(memcmp(before, intervals[0], sizeof before) == 0 && header[0][DESK_LIMIT] == 5);
+    for (int k = 0; k < LISTS; k++) {
+        size_t one = k == MAPPINGS ? DESK_MAPPING_WORDS : k == INTERVALS ? DESK_INTERVAL_WORDS : 1;
+        m.len[k] += one;
+        REFUSES(DESK_BAD_MEMORY, open_side(m));
+        REFUSES(DESK_BAD_MEMORY, finish_side(m));
+        REFUSES(DESK_BAD_MEMORY, merge_sides(DESK_NAMES, m, a));
+        m.len[k] -= one;
+        a.len[k] += one;
+        REFUSES(DESK_BAD_MEMORY, merge_sides(DESK_NAMES, m, a));
+        a.len[k] -= one;
+    }
+    DONE(finish_side(m));
+}
+
 int main(void) {
     test_check();
     test_limits();
@@ -497,6 +757,11 @@ int main(void) {
     test_points();
     test_numbers_and_days();
     test_merge();
+    test_metadata_open();
+    test_metadata_memory();
+    test_metadata_merge();
+    test_metadata_refusals();
+    test_metadata_limits();
     printf("%u tried, %u failed\n", tried, failed);
     return failed != 0;
 }

@@ -2,7 +2,8 @@
 #
 # DESK_CC says how a C program is built. `cc`: by the machine's own compiler for x86-64, which on another machine is Debian's
 # x86_64-linux-gnu-gcc. `kit`: by the kit's clang and linker with the headers of desk/bare, which needs no package. Without it: cc
-# on x86-64 where that is there, else kit. On a machine that is not x86-64 the programs run under the kit's emulator.
+# on x86-64 where that is there, else kit. On a machine that is not x86-64 the programs run under the kit's emulator, as a plain
+# x86-64: on a later one the C library's memset is a string instruction, which the emulator steps through byte by byte.
 
 kit=$(dirname "$(dirname "$(rt doc)")")
 machine=$(uname -m)
@@ -11,7 +12,7 @@ libraries=$kit/toolchain/lib
 archive=target/staticlib/libdoor.a
 strict=(-O2 -Wall -Wextra -pedantic -Werror -Iinclude)
 if [ "$machine" = x86_64 ]; then compiler=(cc) emulator=(); else
-    compiler=(x86_64-linux-gnu-gcc -static) emulator=("$toolchain/bin/qemu-x86_64")
+    compiler=(x86_64-linux-gnu-gcc -static) emulator=("$toolchain/bin/qemu-x86_64" -cpu qemu64)
 fi
 if [ -n "${DESK_CC:-}" ]; then how=$DESK_CC; elif [ "$machine" = x86_64 ] && command -v cc >/dev/null; then how=cc; else how=kit; fi
 

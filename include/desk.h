@@ -11,8 +11,8 @@
  *   - nothing that a call may write overlaps anything else that the call is handed;
  *   - no other thread writes, during a call, what the call is handed; there is no state beside what is handed in, so that
  *     calls on different memory may run at the same time;
- *   - DESK_STACK bytes of stack are free.
- * Of the C library the archive needs memset alone.
+ *   - DESK_STACK bytes of stack are free; for desk_metadata_open and desk_metadata_merge the bytes named beside it.
+ * Of the C library the archive needs memcpy and memset alone.
  *
  * Lengths are in elements. Instruments, symbols and dates are 32 bits wide, moments, hints, cuts and places 64. A symbol is a
  * name's number. A moment is nanoseconds since the start of 1970-01-01. An interval holds its start and not its end. */
@@ -39,7 +39,16 @@ extern "C" {
 #define DESK_SYMBOL_MAPPING 2     /* the kind of a symbol mapping record: start 8, end 8, then the name */
 #define DESK_MISSING UINT64_MAX   /* a missing start or end of a symbol mapping */
 #define DESK_LAST_DAY 213503      /* 2554-07-21 */
+#define DESK_ENTRIES 4096         /* the most entries of each of a metadata's three sets */
+#define DESK_MAPPINGS 4096        /* the most mappings of a metadata */
+#define DESK_INTERVALS 65536      /* the most intervals of a metadata, of all its mappings together */
+#define DESK_MAPPING_WORDS 2      /* of a mapping: name, number of intervals */
+#define DESK_INTERVAL_WORDS 3     /* of an interval of a metadata: start date, end date, symbol */
+#define DESK_NO_SCHEMA 65535      /* a metadata without a schema, or with several */
+#define DESK_NO_STYPE 255         /* a metadata without a stype_in */
 #define DESK_STACK 4096           /* the stack that a call needs, in bytes */
+#define DESK_OPEN_STACK 1048576   /* the stack that desk_metadata_open needs: its outcome stands there before it is laid out */
+#define DESK_MERGE_STACK 5242880  /* the stack that desk_metadata_merge needs: both sides together stand there */
 
 /* What a call returns. */
 enum desk_number {
@@ -144,6 +153,64 @@ uint32_t desk_number_text(const uint8_t *text, size_t text_len, uint32_t *value)
 
 /* Is a text, of any length, UTF-8 (RFC 3629)? 0, 4. */
 uint32_t desk_utf8(const uint8_t *text, size_t text_len);
+
+/* ---- Metadata. A metadata is a header of 14 words and five lists of words: symbols, partial, not_found (a word an entry, a name's
+ * number), mappings (two words each: name, number of its intervals) and intervals (three words each: start date, end date,
+ * symbol), those of the mappings one after the other. The header says how much of each list is in use; the intervals in use are
+ * the sum of the mappings' numbers. 15 where a header has not 14 words or one of them is over the width named here, where a list
+ * is over its limit or not made of whole mappings or intervals, or where more is in use than is lent. */
+enum desk_header {
+    DESK_VERSION,         /* 8 bits */
+    DESK_DATASET,         /* 32 bits, a name's number */
+    DESK_SCHEMA,          /* 16 bits; DESK_NO_SCHEMA for none */
+    DESK_START,           /* 64 bits, a moment */
+    DESK_END,             /* 64 bits, a moment; 0 is missing */
+    DESK_LIMIT,           /* 64 bits; 0 is missing */
+    DESK_STYPE_IN,        /* 8 bits; 0 is instrument ID, DESK_NO_STYPE none */
+    DESK_STYPE_OUT,       /* 8 bits; 0 is instrument ID */
+    DESK_TS_OUT,          /* 0 or 1 */
+    DESK_SYMBOL_CSTR_LEN, /* 64 bits */
+    DESK_SYMBOLS,         /* entries in use, as the next two */
+    DESK_PARTIAL,
+    DESK_NOT_FOUND,
+    DESK_MAPPINGS_USED,   /* mappings in use */
+    DESK_HEADER_WORDS
+};
+
+/* The fields that 6 names: the place of the first that differs. */
+enum desk_field {
+    DESK_VERSION_DIFFERS = 1,
+    DESK_DATASET_DIFFERS = 2,
+    DESK_STYPE_IN_DIFFERS = 3,
+    DESK_STYPE_OUT_DIFFERS = 4,
+    DESK_TS_OUT_DIFFERS = 5,
+    DESK_SYMBOL_CSTR_LEN_DIFFERS = 6
+};
+
+/* The first metadata, which loses its repeats: equal entries of a set once, and of two mappings with one name the last, at the
+ * place of the first. The header's four numbers in use become those that are left; places that are freed hold 0, other unused
+ * ones keep what they held. 0, 15. */
+uint32_t desk_metadata_open(uint64_t *header, size_t header_len, uint32_t *symbols, size_t symbols_len, uint32_t *partial,
+                            size_t partial_len, uint32_t *not_found, size_t not_found_len, uint32_t *mappings,
+                            size_t mappings_len, uint32_t *intervals, size_t intervals_len);
+
+/* One more metadata into a gathered one (which loses its repeats first, where it was never opened); the added one stays as it is.
+ * An unequal schema becomes none, start the lesser, end the greater, limit none; sets and mappings keep the order of first
+ * arrival; the intervals of one name are merged by their heads. `names` is the number of names handed out. 15, also for names over
+ * 4,096; 6, and *field, which it alone sets; then, each over both sides whole: 11 for any date, 3 for any name number, 1 for any
+ * interval, 7, and 2, judged on the outcome. */
+uint32_t desk_metadata_merge(size_t names, uint64_t *header, size_t header_len, uint32_t *symbols, size_t symbols_len,
+                             uint32_t *partial, size_t partial_len, uint32_t *not_found, size_t not_found_len,
+                             uint32_t *mappings, size_t mappings_len, uint32_t *intervals, size_t intervals_len,
+                             const uint64_t *added, size_t added_len, const uint32_t *added_symbols, size_t added_symbols_len,
+                             const uint32_t *added_partial, size_t added_partial_len, const uint32_t *added_not_found,
+                             size_t added_not_found_len, const uint32_t *added_mappings, size_t added_mappings_len,
+                             const uint32_t *added_intervals, size_t added_intervals_len, uint32_t *field);
+
+/* The gathered metadata is finished: nothing changes. 0, 15. */
+uint32_t desk_metadata_finish(const uint64_t *header, size_t header_len, const uint32_t *symbols, size_t symbols_len,
+                              const uint32_t *partial, size_t partial_len, const uint32_t *not_found, size_t not_found_len,
+                              const uint32_t *mappings, size_t mappings_len, const uint32_t *intervals, size_t intervals_len);
 
 /* ---- Merging records. All streams stand in one buffer; cuts, one more than streams, start at 0, never fall, and end at the
  * buffer's length. The state of a merge stands in five arrays of 256 places and in *held; between desk_open and the last

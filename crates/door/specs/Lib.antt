@@ -2,3 +2,5 @@ pub mod Answers
 pub mod AnswersLaws
 pub mod Merge
 pub mod MergeLaws
+pub mod Merger
+pub mod MergerLaws

@@ -2,11 +2,16 @@
 // through lent numbers, which a refusal leaves as they were. `include/desk.h` says the same in C.
 pub mod damage;
 pub mod days;
+pub mod header;
 pub mod map;
 pub mod merge;
+pub mod merger;
 pub mod names;
 pub mod points;
 pub mod text;
 
 // The number of a call that is done.
 pub const DONE: u32 = 0;
+
+// The number of memory that is not of the form.
+pub const BAD_MEMORY: u32 = 15;
