@@ -79,15 +79,7 @@ pub extern "C" fn desk_on_record_point(
     ensures { λ _. ⌜ now (bytes .exit) ≡ bytesThen (pointJoins (now (table .entry)) (now (used .entry)) (pointJudged (now (table .entry)) (now (used .entry)) (now (bytes .entry)) (now (ends .entry)) (now (names .entry)) (now (size .entry)) (now (rec .entry)))) (now (bytes .entry)) (now (size .entry)) (nameIn (now (rec .entry))) ⌝ }
     ensures { λ _. ⌜ now (ends .exit) ≡ endsThen (pointJoins (now (table .entry)) (now (used .entry)) (pointJudged (now (table .entry)) (now (used .entry)) (now (bytes .entry)) (now (ends .entry)) (now (names .entry)) (now (size .entry)) (now (rec .entry)))) (now (ends .entry)) (now (names .entry)) (now (size .entry)) (nameIn (now (rec .entry))) ⌝ }
 {
-    let recorded = mapping::mapping::on_record_point(
-        table,
-        *used,
-        bytes,
-        ends,
-        *names,
-        *size,
-        rec,
-    );
+    let recorded = mapping::mapping::on_record_point(table, *used, bytes, ends, *names, *size, rec);
     match recorded {
         Recorded::Done {
             used: rows,

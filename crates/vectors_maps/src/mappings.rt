@@ -184,15 +184,7 @@ fn on_point(tally: Tally) -> Tally {
         is_done(first, 1, 1, 1),
     );
     let next = mapping(5, 5, b'B');
-    let full = mapping::mapping::on_record_point(
-        &mut table,
-        1,
-        &mut bytes,
-        &mut ends,
-        1,
-        1,
-        &next,
-    );
+    let full = mapping::mapping::on_record_point(&mut table, 1, &mut bytes, &mut ends, 1, 1, &next);
     t = tried(
         t,
         b"point-in-time: full, known instrument",
@@ -214,15 +206,7 @@ fn on_point(tally: Tally) -> Tally {
         &other,
     );
     t = tried(t, b"point-in-time: another kind", is_done(kind, 1, 2, 2));
-    let ill = mapping::mapping::on_record_point(
-        &mut table,
-        1,
-        &mut bytes,
-        &mut ends,
-        1,
-        1,
-        &other,
-    );
+    let ill = mapping::mapping::on_record_point(&mut table, 1, &mut bytes, &mut ends, 1, 1, &other);
     tried(
         t,
         b"another kind, an unknown symbol in the table",
