@@ -1,15 +1,17 @@
 -- The tests of a merge, and a loop's turn over what is left to test. Assumes nothing.
 use mathlib.Core.Path.{_≡_, refl, sym, ap, _∙_}
-use Prim.Native.Nat.{ℕ, zero, suc, _+_, _-_, _*_, _≤_, _<_}
+use Prim.Native.Nat.{ℕ, zero, suc, _+_, _-_, _*_, _/_, _%_, _≤_, _<_}
 use native.Mathlib.Omega.{arith}
 use mathlib.Core.Bool.{Bool, true, false, _&&_, cond}
 use mathlib.Core.List.{List, [], _∷_}
 use native.Mathlib.Numerals.{add-one}
 use lib.ListN.{length, getD, take, drop, drop-of-length-le}
 use lib.Seq.{slice-cons, length-take-le}
-use lib.Dec.{leb, ltb}
+use lib.Dec.{T, leb, ltb}
+use mir.Facts.{and-yes, yes-and, leb-yes, yes-leb}
 use Rattle.theory.specs.Answer.{Answer, answer}
-use Rattle.leaves.specs.Calendar.{isDate, dayNumber}
+use Rattle.leaves.specs.Calendar.{isLeap, monthDays, isDate, dayNumber}
+use Rattle.leaves.specs.CalendarDates.{yes-date}
 use Rattle.leaves.specs.Days.{inRange, dayOf, dayAnswerOf}
 use Rattle.leaves.specs.Refusal.{refused, numberOf}
 use Rattle.leaves.specs.FrameLaws.{refused-not-done}
@@ -48,6 +50,31 @@ unfolding namesFrom
 namesTo m t e = namesFrom m t (e - t)
 
 -- ---- laws
+
+-- every month has 28 days, so up to the 28th a day is one of its month in any year
+least : (n : ℕ) (xs : List ℕ) (k : ℕ) → T (every (leb n) xs) → k < length xs → n ≤ getD xs k 0
+unfolding every
+least n [] k t h = absurd (omega arith)
+least n (x ∷ xs) zero t h = leb-yes (and-yes (leb n x) _ t .0)
+least n (x ∷ xs) (suc k) t h = least n xs k (and-yes (leb n x) _ t .1) (omega arith)
+
+month-long : (leap : Bool) (month : ℕ) → 1 ≤ month → month ≤ 12 → 28 ≤ monthDays leap month
+unfolding monthDays every
+month-long leap zero h k = absurd (omega arith)
+month-long true (suc m) h k = least 28 (31 ∷ 29 ∷ 31 ∷ 30 ∷ 31 ∷ 30 ∷ 31 ∷ 31 ∷ 30 ∷ 31 ∷ 30 ∷ 31 ∷ []) m tt (omega arith)
+month-long false (suc m) h k = least 28 (31 ∷ 28 ∷ 31 ∷ 30 ∷ 31 ∷ 30 ∷ 31 ∷ 31 ∷ 30 ∷ 31 ∷ 30 ∷ 31 ∷ []) m tt (omega arith)
+
+T-true : (b : Bool) → T b → true ≡ b
+T-true true t = refl
+T-true false t = absurd t
+
+pub early-date : (d : ℕ) → 19700101 ≤ d → d ≤ 25540721 → 1 ≤ d / 100 % 100 → d / 100 % 100 ≤ 12 → 1 ≤ d % 100 → d % 100 ≤ 28 → true ≡ knownDate d
+unfolding knownDate
+early-date d a b e f g h =
+    T-true (isDate d && inRange d)
+    (yes-and (isDate d) (inRange d)
+    (yes-date d (record { from = g; to = omega (arith, month-long (isLeap (d / 10000)) (d / 100 % 100) e f) }))
+    (yes-and (leb 19700101 d) (leb d 25540721) (yes-leb a) (yes-leb b)))
 
 pub date-number : (d n : ℕ) → dayAnswerOf (Number n) ≡ dayOf d → true ≡ knownDate d
 unfolding dayOf knownDate

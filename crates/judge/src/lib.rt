@@ -7,6 +7,8 @@ use walk::words::interval_at;
 use walk::words::name_at;
 use walk::words::wide;
 ghost use mathlib.Core.Path.{_≡_};
+ghost use mathlib.Core.Logic.{_≢_};
+ghost use mathlib.Core.Bool.{true};
 ghost use Prim.Native.Nat.{_+_, _*_, _<_, _≤_};
 ghost use lib.ListN.{length, take};
 ghost use lib.Dec.{ltb, leb};
@@ -15,10 +17,52 @@ ghost use Rattle.merging.specs.Words.{namesFrom};
 ghost use Rattle.walk.specs.Words.{rest};
 ghost use Rattle.judge.specs.Judge.{knownDate, dated, known, forward, below, namesTo};
 
+// 1970-01-01 to 2554-07-21.
+const FIRST_DATE: u32 = 19700101;
+
+const LAST_DATE: u32 = 25540721;
+
+// YYYYMMDD: month and day take two digits each.
+const TWO_DIGITS: u32 = 100;
+
+const DECEMBER: u32 = 12;
+
+const SHORTEST_MONTH: u32 = 28;
+
+// Is a number a date within the range, up to the 28th of its month? 1: it is. Most are, and no year is needed to tell.
+fn is_early(date: u32) -> u32
+    ensures { λ r. ⌜ (r ≢ 0 → true ≡ knownDate date) ⌝ }
+{
+    if date < FIRST_DATE {
+        return 0;
+    }
+    if LAST_DATE < date {
+        return 0;
+    }
+    let month = date / TWO_DIGITS % TWO_DIGITS;
+    let day = date % TWO_DIGITS;
+    if month < 1 {
+        return 0;
+    }
+    if DECEMBER < month {
+        return 0;
+    }
+    if day < 1 {
+        return 0;
+    }
+    if SHORTEST_MONTH < day {
+        return 0;
+    }
+    1
+}
+
 // Whether a number is a date within the range.
 fn is_date(date: u32) -> bool
     ensures { λ r. ⌜ r ≡ knownDate date ⌝ }
 {
+    if is_early(date) != 0 {
+        return true;
+    }
     let d = day_of(date);
     match d {
         Day::Number(_) => true,

@@ -1,14 +1,16 @@
 -- What a step over one UTF8-char means for the text from a place on: the code's walk, a law for each way that a step goes.
 -- Assumes nothing.
-use Prim.Native.Nat.{ℕ, _+_, _-_, _≤_, _<_}
+use Prim.Native.Nat.{ℕ, zero, suc, _+_, _-_, _≤_, _<_}
 use mathlib.Core.List.{List, [], _∷_}
 use mathlib.Core.Bool.{Bool, true, false}
 use mathlib.Core.Path.{_≡_, refl, ap, _∙_, sym}
+use native.Mathlib.Decide.{decLt}
 use native.Mathlib.Omega.{arith}
 use native.Mathlib.Numerals.{add-one}
+use lib.Dec.{T, leb, le→leb}
 use lib.ListN.{length, getD}
 use lib.Seq.{slice, slice-cons, slice-empty, take-all}
-use Rattle.leaves.specs.Utf8.{utf8-1, utf8-2, three, utf8-3, four, utf8-4, isUtf8}
+use Rattle.leaves.specs.Utf8.{within, utf8-1, utf8-2, three, utf8-3, four, utf8-4, isUtf8}
 
 -- n is the length of the UTF8-char that stands at place at, of the bytes before to; 0 where none does
 pub record Stepped (s : List ℕ) (at to n : ℕ) : Type 0 where
@@ -116,6 +118,49 @@ none-left s at to e = ap (λ (n : ℕ). slice n to s) e ∙ slice-empty to s
 pub none-left-is : (s : List ℕ) (at to : ℕ) → at ≡ to → isUtf8 (slice at to s) ≡ true
 unfolding isUtf8
 none-left-is s at to e = ap isUtf8 (none-left s at to e)
+
+-- ---- UTF8-1 alone
+
+-- no byte of those from place at to before to is above n
+pub record Upto (s : List ℕ) (at to n : ℕ) : Type 0 where
+  pub each : (k : ℕ) → at ≤ k → k < to → getD s k 0 ≤ n
+
+pub upto-none : {s : List ℕ} {at : ℕ} → Upto s at at 0
+upto-none = record { each = λ k h l. absurd (omega arith) }
+
+module _ {s : List ℕ} {from at n x : ℕ} (u : Upto s from at n) (e : x ≡ getD s at 0) where
+  one-more : (m : ℕ) → n ≤ m → x ≤ m → Upto s from (at + 1) m
+  one-more m h l = record { each = λ k p q. go k p q (decLt k at) }
+    where
+      go : (k : ℕ) → from ≤ k → k < at + 1 → Dec (k < at) → getD s k 0 ≤ m
+      go k p q (yes o) = omega (arith, u .each k p o)
+      go k p q (no o) = let d : k ≡ at = omega arith in rw (d, ← e) l
+
+  pub upto-above : n < x → Upto s from (at + 1) x
+  upto-above h = one-more x (omega arith) (omega arith)
+
+  pub upto-below : x ≤ n → Upto s from (at + 1) n
+  upto-below h = one-more n (omega arith) h
+
+-- none is left
+pub upto-all : {s : List ℕ} {from at to n : ℕ} → Upto s from at n → at ≤ to → to ≤ at → Upto s from to n
+upto-all u h l = record { each = λ k p q. u .each k p (omega arith) }
+
+T-true : (b : Bool) → T b → b ≡ true
+T-true true t = refl
+T-true false t = absurd t
+
+first-yes : (a : ℕ) → a ≤ 0x7F → utf8-1 a ≡ true
+unfolding within
+first-yes a h = rw (T-true (leb 0 a) (le→leb 0 a (omega arith)), T-true (leb a 0x7F) (le→leb a 0x7F h))
+
+-- bytes up to %x7F are UTF-8
+pub upto-is : (s : List ℕ) (left at to n : ℕ) → at + left ≡ to → to ≤ length s → n ≤ 0x7F → Upto s at to n → isUtf8 (slice at to s) ≡ true
+upto-is s zero at to n e l h u = none-left-is s at to (omega arith)
+upto-is s (suc left) at to n e l h u =
+    ap isUtf8 (cut s at to (omega arith) l)
+    ∙ is-1 (getD s at 0) (slice (at + 1) to s) (first-yes (getD s at 0) (omega (arith, u .each at (omega arith) (omega arith))))
+    ∙ upto-is s left (at + 1) to n (omega arith) l h (record { each = λ k p q. u .each k (omega arith) q })
 
 -- ---- the ways that a step goes; f1 to f4 are what the tests of the four productions answered
 

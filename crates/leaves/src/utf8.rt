@@ -4,7 +4,7 @@ ghost use Prim.Native.Nat.{_<_, _≤_};
 ghost use lib.ListN.{length};
 ghost use lib.Seq.{slice};
 ghost use Rattle.leaves.specs.Utf8.{within, isTail, utf8-1, utf8-2, three, utf8-3, four, utf8-4, isUtf8};
-ghost use Rattle.leaves.specs.Utf8Laws.{Stepped};
+ghost use Rattle.leaves.specs.Utf8Laws.{Stepped, Upto};
 
 // Whether a byte lies from `low` to `high`, both included.
 fn is_within(low: u8, high: u8, x: u8) -> bool
@@ -124,11 +124,31 @@ fn char_len(text: &[u8], at: usize, to: usize) -> usize
     if is_4(a, b, c, d) { 4 } else { 0 }
 }
 
-// Whether the bytes from `from` to before `to` are UTF-8.
+// A byte that none from `from` to before `to` is above.
+fn greatest(text: &[u8], from: usize, to: usize) -> u8
+    requires { ⌜ (from ≤ to) × (to ≤ length (now text)) ⌝ }
+    ensures { λ r. ⌜ Upto (now (text .entry)) from to r ⌝ }
+{
+    let mut most: u8 = 0;
+    let mut at = from;
+    while at < to {
+        let x = text[at];
+        at += 1;
+        if most < x {
+            most = x;
+        }
+    }
+    most
+}
+
+// Whether the bytes from `from` to before `to` are UTF-8. Most texts are UTF8-1 alone, which the greatest byte tells.
 pub fn is_utf8_within(text: &[u8], from: usize, to: usize) -> bool
     requires { ⌜ (from ≤ to) × (to ≤ length (now text)) ⌝ }
     ensures { λ r. ⌜ r ≡ isUtf8 (slice from to (now (text .entry))) ⌝ }
 {
+    if greatest(text, from, to) <= 0x7F {
+        return true;
+    }
     let mut at = from;
     while at < to {
         let n = char_len(text, at, to);

@@ -1,6 +1,5 @@
 // Lookups in the table over time (01, The map over time): the hinted interval of the instrument, the following one, then the last
 // with start <= moment. No step is linear in the table.
-use crate::interval::Interval;
 use leaves::refusal::Refusal;
 ghost use mathlib.Core.Path.{_≡_};
 ghost use mathlib.Core.Bool.{false, _||_};
@@ -12,9 +11,7 @@ ghost use Rattle.theory.specs.Answer.{answer};
 ghost use Rattle.tables.specs.Table.{Ordered, ordered};
 ghost use Rattle.tables.specs.Lookup.{lookupRows};
 ghost use Rattle.tables.specs.Memory.{sameValue, width, rowAt, rows, badTable};
-ghost use Rattle.tables.specs.Search as search;
-ghost use Rattle.tables.specs.Looks.{numberIn, atMoment, coversAt, last, Tells, lookupAnswer, lookupHint};
-ghost use Rattle.maps.specs.Interval.{rowOf};
+ghost use Rattle.tables.specs.Looks.{numberIn, coversAt, Begun, Reach, last, Tells, lookupAnswer, lookupHint};
 ghost use Rattle.maps.specs.Lookup.{lookedOf};
 
 // What a lookup finds: the symbol, or nothing; or it is refused.
@@ -28,18 +25,6 @@ pub enum Found {
 pub struct Looked {
     pub found: Found,
     pub hint: u64,
-}
-
-// What a search for the instrument and the moment compares with: the stretch from 0 to the moment.
-fn at_moment(instrument: u32, moment: u64) -> Interval
-    ensures { λ r. ⌜ rowOf r ≡ atMoment instrument moment ⌝ }
-{
-    Interval {
-        instrument,
-        symbol: 0,
-        start: 0,
-        end: moment,
-    }
 }
 
 // Whether the interval at place k is one of those in use, of the instrument, with start <= moment < end.
@@ -73,21 +58,21 @@ fn seen_at(table: &[u8], k: usize, hint: u64) -> Looked
     Looked { found, hint }
 }
 
-// The last interval of the instrument with start <= moment, where those of the instrument begin at `begin`; with none the hint stays.
+// The last interval of the instrument with start <= moment, where those of the instrument begin at `begin` and the first that
+// starts later is at `end`; with none the hint stays.
 fn last_started(
     table: &[u8],
     used: usize,
     begin: usize,
+    end: usize,
     instrument: u32,
     moment: u64,
     hint: u64,
 ) -> Looked
-    requires { ⌜ used * width ≤ length (now table) ⌝ }
-    ensures right { λ r. ⌜ (Ordered (rows (now (table .entry)) used) → search.Found (now (table .entry)) used (atMoment instrument moment) 1 begin → Tells (last (now (table .entry)) used instrument moment hint) (lookedOf r) (r .hint)) ⌝ }
+    requires { ⌜ (used * width ≤ length (now table)) × (end ≤ used) ⌝ }
+    ensures right { λ r. ⌜ (Ordered (rows (now (table .entry)) used) → Begun (now (table .entry)) used instrument begin 0 → Reach (now (table .entry)) used instrument moment end end → Tells (last (now (table .entry)) used instrument moment hint) (lookedOf r) (r .hint)) ⌝ }
     ensures accepted { λ r. ⌜ numberIn (lookedOf r) ≡ 0 ⌝ }
 {
-    let n = at_moment(instrument, moment);
-    let end = crate::search::find(table, used, n, crate::search::AFTER);
     if begin < end {
         let at = end - 1;
         let arrived = (at - begin) as u64;
@@ -112,20 +97,9 @@ fn look_up(table: &[u8], used: usize, instrument: u32, moment: u64, hint: u64) -
     ensures right { λ r. ⌜ (Ordered (rows (now (table .entry)) used) → Tells (lookupRows (rows (now (table .entry)) used) instrument moment hint) (lookedOf r) (r .hint)) ⌝ }
     ensures accepted { λ r. ⌜ numberIn (lookedOf r) ≡ 0 ⌝ }
 {
-    let n = at_moment(instrument, moment);
-    let begin = crate::search::find(table, used, n, crate::search::TOUCHING);
-    if hint < used as u64 {
-        let at = begin + hint as usize;
-        if covers_at(table, used, at, instrument, moment) {
-            seen_at(table, at, hint)
-        } else if covers_at(table, used, at + 1, instrument, moment) {
-            seen_at(table, at + 1, hint + 1)
-        } else {
-            last_started(table, used, begin, instrument, moment, hint)
-        }
-    } else {
-        last_started(table, used, begin, instrument, moment, hint)
-    }
+    let begin = crate::begin::beginning(table, used, instrument);
+    let end = crate::reach::reached(table, used, begin, instrument, moment, hint);
+    last_started(table, used, begin, end, instrument, moment, hint)
 }
 
 // The symbol of the instrument at the moment, with any hint, and the new hint: 15 only. On a table that is not in order the

@@ -1,9 +1,10 @@
--- A lookup as the code does it: by places, with two searches. On an ordered table it is the lookup of the theory.
+-- A lookup as the code does it: by places, with two searches, of which the second begins at the hint. On an ordered table it is
+-- the lookup of the theory.
 -- Assumes nothing.
 use mathlib.Core.Path.{_≡_, refl, sym, ap, _∙_}
 use mathlib.Core.Logic.{_≢_, _⊎_, inl, inr}
-use Prim.Native.Nat.{ℕ, zero, suc, _+_, _-_, _*_, _≤_, _<_}
-use native.Mathlib.Decide.{decLt, ℕ-discrete}
+use Prim.Native.Nat.{ℕ, zero, suc, _+_, _-_, _*_, _/_, _≤_, _<_}
+use native.Mathlib.Decide.{decLe, decLt, ℕ-discrete}
 use native.Mathlib.Omega.{arith}
 use mathlib.Core.Bool.{Bool, true, false, not, _&&_, _||_, cond}
 use mathlib.Core.Option.{Option, none, some}
@@ -19,13 +20,13 @@ use Rattle.tables.specs.Table.{Row, intervalOf, group, Ordered, ordered}
 use Rattle.tables.specs.Tests.{ordered-iff}
 use Rattle.tables.specs.Groups.{Sorted, formed-iff}
 use Rattle.tables.specs.Cuts.{Behind, behind, row-some}
-use Rattle.tables.specs.Lookup.{Finding, says, seen, started, arrive, orElse, lookup, lookupRows}
-use Rattle.tables.specs.Places.{own, own-yes, own-no, lower, upper, group-place, started-place, lower-is, upper-is}
+use Rattle.tables.specs.Lookup.{Finding, says, seen, started, arrive, lookupRows, lookupRows-last}
+use Rattle.tables.specs.Places.{own, own-yes, own-no, lower, upper, group-place, started-place, Begins, lower-begins, Passed, Ahead, Reaches, upper-reaches}
 use Rattle.tables.specs.Memory.{width, sameValue, rowAt, rows, badTable}
 use Rattle.tables.specs.MemoryLaws.{blank, length-rows}
 use Rattle.tables.specs.Pieces.{symbols}
 use Rattle.tables.specs.Outcomes.{Lent, table-lent}
-use Rattle.tables.specs.Search.{sideOf, Found, at-row, Side, lies-before, lies-on, lies-after, side-is}
+use Rattle.tables.specs.Search.{at-row}
 
 -- ---- definitions
 
@@ -54,10 +55,6 @@ lookupHint t used i m h = cond (badTable (length t) used) h (lookupRows (rows t 
 pub record Tells (f : Finding ℕ) (a : Answer) (h : ℕ) : Type 0 where
   pub answers : a ≡ findingAnswer f
   pub hints : h ≡ f .hint
-
--- the row that a search for an instrument and a moment compares with
-abbrev pub atMoment : ℕ → ℕ → Row ℕ
-atMoment i m = record { instrument = i; start = 0; end = m; value = 0 }
 
 -- whether the row at place k is one of the `used`, of the instrument, and covers the moment
 unfoldable pub coversAt : List ℕ → ℕ → ℕ → ℕ → ℕ → Bool
@@ -177,49 +174,21 @@ module _ (t : List ℕ) (used k i m : ℕ) where
     covers-rest d l f =
         f ∙ (λ j. T-true (eqb (x .instrument) i) (rw d (eqb-refl i)) j && (T-true (leb (x .start) m) (le→leb (x .start) m l) j && ltb m (x .end))) ∙ sym inside
 
--- ---- places
+-- ---- places: where the instrument begins, and how far the moment reaches
 
-module _ (t : List ℕ) (used i m : ℕ) (w : Ordered (rows t used)) where
+-- its rows begin at lo or up to n places further on
+pub record Begun (t : List ℕ) (used i lo n : ℕ) : Type 0 where
+  pub from : lo ≤ lower i (rows t used)
+  pub upto : lower i (rows t used) ≤ lo + n
+
+-- the first row that the moment does not reach is lo, hi or between them
+pub record Reach (t : List ℕ) (used i m lo hi : ℕ) : Type 0 where
+  pub from : lo ≤ upper i m (rows t used)
+  pub upto : upper i m (rows t used) ≤ hi
+
+module _ (t : List ℕ) (used : ℕ) (w : Ordered (rows t used)) where
   sorted : Sorted (rows t used)
   sorted = formed-iff (rows t used) .0 w .sorted
-
-  -- what the sides say of a row, where the new one would start at 0 and end at m
-  side-low : (x : Row ℕ) → sideOf (atMoment i m) x < 1 → x .instrument < i
-  side-low x h = go (side-is (atMoment i m) x)
-    where
-      go : Side (atMoment i m) x → x .instrument < i
-      go (lies-before b e) = low (order (x .instrument) i) (b .upto) (b .ends)
-        where
-          low : Order (x .instrument) i → x .instrument ≤ i → (x .instrument ≡ i → x .end < 0) → x .instrument < i
-          low (less k) p q = k
-          low (equal k) p q = absurd (omega (arith, q k))
-          low (more k) p q = absurd (omega arith)
-      go (lies-on b e) = absurd (omega arith)
-      go (lies-after b e) = absurd (omega arith)
-
-  side-not-low : (x : Row ℕ) → 1 ≤ sideOf (atMoment i m) x → i ≤ x .instrument
-  side-not-low x h = go (side-is (atMoment i m) x)
-    where
-      go : Side (atMoment i m) x → i ≤ x .instrument
-      go (lies-before b e) = absurd (omega arith)
-      go (lies-on b e) = omega (arith, b .own)
-      go (lies-after b e) = b .from
-
-  side-passed : (x : Row ℕ) → sideOf (atMoment i m) x < 2 → (x .instrument ≤ i) × (x .instrument ≡ i → x .start ≤ m)
-  side-passed x h = go (side-is (atMoment i m) x)
-    where
-      go : Side (atMoment i m) x → (x .instrument ≤ i) × (x .instrument ≡ i → x .start ≤ m)
-      go (lies-before b e) = (b .upto, λ d. absurd (omega (arith, b .ends d)))
-      go (lies-on b e) = (omega (arith, b .own), λ d. b .reached)
-      go (lies-after b e) = absurd (omega arith)
-
-  side-past : (x : Row ℕ) → 2 ≤ sideOf (atMoment i m) x → (i ≤ x .instrument) × (x .instrument ≡ i → m < x .start)
-  side-past x h = go (side-is (atMoment i m) x)
-    where
-      go : Side (atMoment i m) x → (i ≤ x .instrument) × (x .instrument ≡ i → m < x .start)
-      go (lies-before b e) = absurd (omega arith)
-      go (lies-on b e) = absurd (omega arith)
-      go (lies-after b e) = (b .from, b .starts)
 
   behind-row : (p q : ℕ) → p < q → q < used → Behind (rowAt t p) (rowAt t q)
   behind-row p q h k =
@@ -229,122 +198,323 @@ module _ (t : List ℕ) (used i m : ℕ) (w : Ordered (rows t used)) where
   some-row : (k : ℕ) → k < used → rowAt t k .start < rowAt t k .end
   some-row k l = rw (at-row t used k l) at (row-some blank (rows t used) w k (rw (length-rows t 0 used) l))
 
-  found-lower : (g : ℕ) → Found t used (atMoment i m) 1 g → lower i (rows t used) ≡ g
-  found-lower g a =
-      lower-is i blank (rows t used) sorted g (rw (length-rows t 0 used) (a .within))
-      (λ k l. rw (at-row t used k (omega (arith, a .within))) (all k l (order k (g - 1))))
-      (λ l. let l′ : g < used = rw (length-rows t 0 used) at l in rw (at-row t used g l′) (side-not-low (rowAt t g) (a .above l′)))
+  module _ (i : ℕ) where
+    begins : Begins i (rows t used) blank (lower i (rows t used))
+    begins = lower-begins i blank (rows t used)
+
+    begins-in : lower i (rows t used) ≤ used
+    begins-in = rw (length-rows t 0 used) at (begins .within)
+
+    begin-row : (b : ℕ) → b ≡ lower i (rows t used) → b < used → i ≤ rowAt t b .instrument
+    begin-row b e l = rw (← at-row t used b l, e) (begins .from (rw (length-rows t 0 used, ← e) l))
+
+    -- a row of a lower instrument stands before them
+    low-row : (k : ℕ) → k < used → rowAt t k .instrument < i → k < lower i (rows t used)
+    low-row k l h = go (lower i (rows t used)) (begin-row (lower i (rows t used)) refl) (order k (lower i (rows t used)))
+      where
+        go : (b : ℕ) → (b < used → i ≤ rowAt t b .instrument) → Order k b → k < b
+        go b f (less o) = o
+        go b f (equal o) = absurd (let g : i ≤ rowAt t k .instrument = rw (← o) at f l in omega arith)
+        go b f (more o) = absurd (omega (arith, f (omega arith), behind-row b k o l .rises))
+
+    -- any other does not
+    high-row : (k : ℕ) → k < used → i ≤ rowAt t k .instrument → lower i (rows t used) ≤ k
+    high-row k l h = go (decLt k (lower i (rows t used)))
+      where
+        go : Dec (k < lower i (rows t used)) → lower i (rows t used) ≤ k
+        go (yes b) = absurd (let g : rowAt t k .instrument < i = rw (at-row t used k l) at (begins .below k b) in omega arith)
+        go (no b) = omega arith
+
+    module _ (m : ℕ) where
+      reaches : Reaches i m (rows t used) blank (upper i m (rows t used))
+      reaches = upper-reaches i m blank (rows t used)
+
+      reaches-in : upper i m (rows t used) ≤ used
+      reaches-in = rw (length-rows t 0 used) at (reaches .within)
+
+      reach-row : (u : ℕ) → u ≡ upper i m (rows t used) → u < used → Ahead i m (rowAt t u)
+      reach-row u e l = rw (← at-row t used u l, e) (reaches .from (rw (length-rows t 0 used, ← e) l))
+
+      passed-row : (k : ℕ) → k < used → k < upper i m (rows t used) → Passed i m (rowAt t k)
+      passed-row k l h = rw (at-row t used k l) at (reaches .below k h)
+
+      -- a row that the moment has passed stands before the first that it does not reach
+      on-row : (k : ℕ) → k < used → Passed i m (rowAt t k) → k < upper i m (rows t used)
+      on-row k l p = go (upper i m (rows t used)) (reach-row (upper i m (rows t used)) refl) (order k (upper i m (rows t used)))
+        where
+          go : (u : ℕ) → (u < used → Ahead i m (rowAt t u)) → Order k u → k < u
+          go u f (less o) = o
+          go u f (equal o) =
+              let f′ : Ahead i m (rowAt t k) = rw (← o) at f l in
+              let e : rowAt t k .instrument ≡ i = omega (arith, p .upto, f′ .from) in
+              absurd (omega (arith, p .starts e, f′ .starts e))
+          go u f (more o) =
+              let f′ : Ahead i m (rowAt t u) = f (omega arith) in
+              let b : Behind (rowAt t u) (rowAt t k) = behind-row u k o l in
+              let e : rowAt t k .instrument ≡ i = omega (arith, p .upto, f′ .from, b .rises) in
+              let e′ : rowAt t u .instrument ≡ i = omega (arith, p .upto, f′ .from, b .rises) in
+              absurd (omega (arith, p .starts e, f′ .starts e′, b .apart (omega arith), some-row u (omega arith)))
+
+      -- a row ahead of it does not
+      off-row : (k : ℕ) → k < used → Ahead i m (rowAt t k) → upper i m (rows t used) ≤ k
+      off-row k l a = go (decLt k (upper i m (rows t used)))
+        where
+          go : Dec (k < upper i m (rows t used)) → upper i m (rows t used) ≤ k
+          go (yes h) =
+              let p : Passed i m (rowAt t k) = passed-row k l h in
+              let e : rowAt t k .instrument ≡ i = omega (arith, p .upto, a .from) in
+              absurd (omega (arith, p .starts e, a .starts e))
+          go (no h) = omega arith
+
+      -- what follows a row that covers the moment is ahead of it
+      next-row : (k : ℕ) → k + 1 < used → rowAt t k .instrument ≡ i → m < rowAt t k .end → Ahead i m (rowAt t (k + 1))
+      next-row k l e h =
+          let b : Behind (rowAt t k) (rowAt t (k + 1)) = behind-row k (k + 1) (omega arith) l in
+          record { from = omega (arith, b .rises); starts = λ d. omega (arith, b .apart (omega arith)) }
+
+      started-from : upper i m (rows t used) ≡ lower i (rows t used) + started (group i (rows t used)) m
+      started-from = started-place i m (rows t used) sorted
+
+    own-row : (k j : ℕ) → lower i (rows t used) ≤ k → k ≤ j → j < used → rowAt t j .instrument ≡ i → rowAt t k .instrument ≡ i
+    own-row k j h o l e = go (order k j) (decLe i (rowAt t k .instrument))
+      where
+        go : Order k j → Dec (i ≤ rowAt t k .instrument) → rowAt t k .instrument ≡ i
+        go q (no f) = absurd (omega (arith, low-row k (omega arith) (omega arith)))
+        go (less q) (yes f) = omega (arith, behind-row k j q l .rises)
+        go (equal q) (yes f) = rw q e
+        go (more q) (yes f) = absurd (omega arith)
+
+-- ---- the search for where the instrument begins
+
+pub begun-all : {t : List ℕ} {used i : ℕ} → Ordered (rows t used) → Begun t used i 0 used
+begun-all {t} {used} {i} w = record { from = omega arith; upto = omega (arith, begins-in t used w i) }
+
+pub begun-none : {t : List ℕ} {used i : ℕ} → used ≤ 0 → Ordered (rows t used) → Begun t used i 0 0
+begun-none {t} {used} {i} z w = record { from = omega arith; upto = omega (arith, begins-in t used w i) }
+
+-- one step: from lo, among n places, to r, among m
+pub record Onward (t : List ℕ) (used i lo step r : ℕ) : Type 0 where
+  pub on : (n m : ℕ) → Ordered (rows t used) → n ≤ m + step → step ≤ m + 1 → Begun t used i lo n → Begun t used i r m
+
+module _ {t : List ℕ} {used i lo step : ℕ} {x : Row ℕ} (e : x ≡ rowAt t (lo + step - 1)) (z : 0 < step) (l : lo + step ≤ used) where
+  pub onward-yes : x .instrument < i → Onward t used i lo step (lo + step)
+  onward-yes h = record {
+    on = λ n m w f g b.
+        let k : lo + step - 1 < lower i (rows t used) = low-row t used w i (lo + step - 1) (omega arith) (rw (← e) h) in
+        record { from = omega arith; upto = omega (arith, b .upto) };
+  }
+
+  pub onward-no : i ≤ x .instrument → Onward t used i lo step lo
+  onward-no h = record {
+    on = λ n m w f g b.
+        let k : lower i (rows t used) ≤ lo + step - 1 = high-row t used w i (lo + step - 1) (omega arith) (rw (← e) h) in
+        record { from = b .from; upto = omega arith };
+  }
+
+-- the search's two numbers, from lo and n to at and left
+pub record Narrowed (t : List ℕ) (used i lo n at left : ℕ) : Type 0 where
+  pub some : 0 < left
+  pub upto : at + left ≤ used
+  pub begun : Ordered (rows t used) → Begun t used i lo n → Begun t used i at left
+
+pub narrowed-all : {t : List ℕ} {used i lo n : ℕ} → 0 < n → lo + n ≤ used → Narrowed t used i lo n lo n
+narrowed-all z l = record { some = z; upto = l; begun = λ w b. b }
+
+module _ {t : List ℕ} {used i lo n at left r : ℕ} (p : Narrowed t used i lo n at left) where
+  pub narrowed-on : 1 < left → Onward t used i at (left / 2) r → r ≤ at + left / 2 → Narrowed t used i lo n r (left - left / 2)
+  narrowed-on l o h = record {
+    some = omega arith;
+    upto = omega (arith, p .upto);
+    begun = λ w b. o .on left (left - left / 2) w (omega arith) (omega arith) (p .begun w b);
+  }
+
+  pub narrowed-end : left ≤ 1 → Onward t used i at 1 r → Ordered (rows t used) → Begun t used i lo n → Begun t used i r 0
+  narrowed-end l o w b = let e : left ≡ 1 = omega (arith, p .some) in o .on 1 0 w (omega arith) (omega arith) (rw e at p .begun w b)
+
+-- the last p places hold the beginning where the row before the place p is of a lower instrument, else the first p do
+module _ {t : List ℕ} {used i p : ℕ} {x : Row ℕ} (e : x ≡ rowAt t (p - 1)) (z : 0 < p) (l : p ≤ used) (w : Ordered (rows t used)) where
+  pub half-last : used ≤ p + p → x .instrument < i → Begun t used i (used - p) p
+  half-last l′ h =
+      let k : p - 1 < lower i (rows t used) = low-row t used w i (p - 1) (omega arith) (rw (← e) h) in
+      record { from = omega arith; upto = omega (arith, begins-in t used w i) }
+
+  pub half-first : i ≤ x .instrument → Begun t used i 0 p
+  half-first h =
+      let k : lower i (rows t used) ≤ p - 1 = high-row t used w i (p - 1) (omega arith) (rw (← e) h) in
+      record { from = omega arith; upto = omega arith }
+
+-- ---- the search for how far the moment reaches
+
+-- all rows from lo to before hi are of the instrument
+abbrev pub Own : List ℕ → ℕ → ℕ → ℕ → Type 0
+Own t i lo hi = (k : ℕ) → lo ≤ k → k < hi → rowAt t k .instrument ≡ i
+
+module _ {t : List ℕ} {used i m : ℕ} (w : Ordered (rows t used)) where
+  pub reach-all : {b : ℕ} → Begun t used i b 0 → Reach t used i m b used
+  reach-all g = record { from = omega (arith, g .from, started-from t used w i m); upto = reaches-in t used w i m }
+
+  module _ {lo hi k : ℕ} {x : Row ℕ} (r : Reach t used i m lo hi) (e : x ≡ rowAt t k) (l : k < used) where
+    pub reach-low : x .instrument < i → Reach t used i m (k + 1) hi
+    reach-low h =
+        let p : Passed i m (rowAt t k) = rw (← e) (record { upto = omega arith; starts = λ d. absurd (omega arith) }) in
+        record { from = omega (arith, on-row t used w i m k l p); upto = r .upto }
+
+    pub reach-on : x .instrument ≡ i → x .start ≤ m → Reach t used i m (k + 1) hi
+    reach-on d h =
+        let p : Passed i m (rowAt t k) = rw (← e) (record { upto = omega arith; starts = λ d′. h }) in
+        record { from = omega (arith, on-row t used w i m k l p); upto = r .upto }
+
+    pub reach-off : x .instrument ≡ i → m < x .start → Reach t used i m lo k
+    reach-off d h =
+        let a : Ahead i m (rowAt t k) = rw (← e) (record { from = omega arith; starts = λ d′. h }) in
+        record { from = r .from; upto = off-row t used w i m k l a }
+
+    pub reach-high : i < x .instrument → Reach t used i m lo k
+    reach-high h =
+        let a : Ahead i m (rowAt t k) = rw (← e) (record { from = omega arith; starts = λ d. absurd (omega arith) }) in
+        record { from = r .from; upto = off-row t used w i m k l a }
+
+    pub reach-covers : x .instrument ≡ i → x .start ≤ m → m < x .end → Reach t used i m (k + 1) (k + 1)
+    reach-covers d h g = record { from = reach-on d h .from; upto = go (decLt (k + 1) used) }
+      where
+        go : Dec (k + 1 < used) → upper i m (rows t used) ≤ k + 1
+        go (yes l′) = off-row t used w i m (k + 1) l′ (next-row t used w i m k l′ (rw (← e) d) (rw (← e) g))
+        go (no l′) = omega (arith, reaches-in t used w i m)
+
+  -- a row from the instrument's first on that is not its own is of a higher one
+  pub reach-other : {b lo hi k : ℕ} {x : Row ℕ} → Begun t used i b 0 → Reach t used i m lo hi → x ≡ rowAt t k → k < used → b ≤ k → x .instrument ≢ i
+      → Reach t used i m lo k
+  reach-other {lo = lo} {k = k} {x = x} g r e l h d = go (order (x .instrument) i)
     where
-      all : (k : ℕ) → k < g → Order k (g - 1) → rowAt t k .instrument < i
-      all k l (less h) =
-          let b : Behind (rowAt t k) (rowAt t (g - 1)) = behind-row k (g - 1) h (omega (arith, a .within)) in
-          omega (arith, b .rises, side-low (rowAt t (g - 1)) (a .below (g - 1) (omega arith)))
-      all k l (equal h) = side-low (rowAt t k) (a .below k (omega arith))
-      all k l (more h) = absurd (omega arith)
+      go : Order (x .instrument) i → Reach t used i m lo k
+      go (less o) = absurd (omega (arith, g .upto, low-row t used w i k l (rw (← e) o)))
+      go (equal o) = absurd (d o)
+      go (more o) = reach-high r e l o
 
-  found-upper : (u : ℕ) → Found t used (atMoment i m) 2 u → upper i m (rows t used) ≡ u
-  found-upper u a =
-      upper-is i m blank (rows t used) u (rw (length-rows t 0 used) (a .within))
-      (λ k l. rw (at-row t used k (omega (arith, a .within))) (all k l (order k (u - 1))))
-      (λ l. let l′ : u < used = rw (length-rows t 0 used) at l in rw (at-row t used u l′) (side-past (rowAt t u) (a .above l′)))
+-- rows from the instrument's first to one of its own are its own
+pub own-upto : {t : List ℕ} {used i b j : ℕ} {x : Row ℕ} → Ordered (rows t used) → Begun t used i b 0 → x ≡ rowAt t j → j < used → x .instrument ≡ i
+    → (lo hi : ℕ) → b ≤ lo → hi ≤ j + 1 → Own t i lo hi
+own-upto {t} {used} {i} {b} {j} w g e l d lo hi h f k p q = own-row t used w i k j (omega (arith, g .upto)) (omega arith) l (rw (← e) d)
+
+-- a search among an instrument's own rows, from lo and hi to low and high
+pub record Parted (t : List ℕ) (m lo hi low high : ℕ) : Type 0 where
+  pub from : lo ≤ low
+  pub met : low ≤ high
+  pub upto : high ≤ hi
+  pub reach : (used i : ℕ) → Ordered (rows t used) → hi ≤ used → Own t i lo hi → Reach t used i m lo hi → Reach t used i m low high
+
+pub parted-all : {t : List ℕ} {m lo hi : ℕ} → lo ≤ hi → Parted t m lo hi lo hi
+parted-all l = record { from = omega arith; met = l; upto = omega arith; reach = λ used i w h o r. r }
+
+module _ {t : List ℕ} {m lo hi low high : ℕ} {x : Row ℕ} (p : Parted t m lo hi low high) (l : low < high) (e : x ≡ rowAt t (low + (high - low) / 2)) where
+  pub parted-up : x .start ≤ m → Parted t m lo hi (low + (high - low) / 2 + 1) high
+  parted-up h = record {
+    from = omega (arith, p .from);
+    met = omega arith;
+    upto = p .upto;
+    reach = λ used i w k o r. reach-on w (p .reach used i w k o r) e (omega (arith, p .upto)) (rw e (o _ (omega (arith, p .from)) (omega (arith, p .upto)))) h;
+  }
+
+  pub parted-down : m < x .start → Parted t m lo hi low (low + (high - low) / 2)
+  parted-down h = record {
+    from = p .from;
+    met = omega arith;
+    upto = omega (arith, p .upto);
+    reach = λ used i w k o r. reach-off w (p .reach used i w k o r) e (omega (arith, p .upto)) (rw e (o _ (omega (arith, p .from)) (omega (arith, p .upto)))) h;
+  }
+
+pub parted-met : {t : List ℕ} {m lo hi low high : ℕ} → Parted t m lo hi low high → high ≤ low → (used i : ℕ) → Ordered (rows t used) → hi ≤ used
+    → Own t i lo hi → Reach t used i m lo hi → Reach t used i m low low
+parted-met {t} {m} {low = low} {high = high} p l used i w h o r = let q : Reach t used i m low high = p .reach used i w h o r in record { from = q .from; upto = omega (arith, q .upto) }
+
+-- a search among rows of any instrument
+pub record Searched (t : List ℕ) (used i m lo hi low high : ℕ) : Type 0 where
+  pub from : lo ≤ low
+  pub met : low ≤ high
+  pub upto : high ≤ hi
+  pub reach : Ordered (rows t used) → Reach t used i m lo hi → Reach t used i m low high
+
+pub searched-all : {t : List ℕ} {used i m lo hi : ℕ} → lo ≤ hi → Searched t used i m lo hi lo hi
+searched-all l = record { from = omega arith; met = l; upto = omega arith; reach = λ w r. r }
+
+module _ {t : List ℕ} {used i m lo hi low high : ℕ} {x : Row ℕ} (p : Searched t used i m lo hi low high) (l : low < high) (u : hi ≤ used)
+    (e : x ≡ rowAt t (low + (high - low) / 2)) where
+  up : (Ordered (rows t used) → Reach t used i m low high → Reach t used i m (low + (high - low) / 2 + 1) high)
+      → Searched t used i m lo hi (low + (high - low) / 2 + 1) high
+  up f = record { from = omega (arith, p .from); met = omega arith; upto = p .upto; reach = λ w r. f w (p .reach w r) }
+
+  down : (Ordered (rows t used) → Reach t used i m low high → Reach t used i m low (low + (high - low) / 2))
+      → Searched t used i m lo hi low (low + (high - low) / 2)
+  down f = record { from = p .from; met = omega arith; upto = omega (arith, p .upto); reach = λ w r. f w (p .reach w r) }
+
+  pub searched-on : x .instrument ≡ i → x .start ≤ m → Searched t used i m lo hi (low + (high - low) / 2 + 1) high
+  searched-on d h = up (λ w r. reach-on w r e (omega (arith, p .upto)) d h)
+
+  pub searched-low : x .instrument < i → Searched t used i m lo hi (low + (high - low) / 2 + 1) high
+  searched-low h = up (λ w r. reach-low w r e (omega (arith, p .upto)) h)
+
+  pub searched-off : x .instrument ≡ i → m < x .start → Searched t used i m lo hi low (low + (high - low) / 2)
+  searched-off d h = down (λ w r. reach-off w r e (omega (arith, p .upto)) d h)
+
+  pub searched-high : x .instrument ≢ i → i ≤ x .instrument → Searched t used i m lo hi low (low + (high - low) / 2)
+  searched-high d h = down (λ w r. reach-high w r e (omega (arith, p .upto)) (apart (order i (x .instrument))))
     where
-      all : (k : ℕ) → k < u → Order k (u - 1) → (rowAt t k .instrument ≤ i) × (rowAt t k .instrument ≡ i → rowAt t k .start ≤ m)
-      all k l (less h) =
-          let b : Behind (rowAt t k) (rowAt t (u - 1)) = behind-row k (u - 1) h (omega (arith, a .within)) in
-          let s : (rowAt t (u - 1) .instrument ≤ i) × (rowAt t (u - 1) .instrument ≡ i → rowAt t (u - 1) .start ≤ m) =
-          side-passed (rowAt t (u - 1)) (a .below (u - 1) (omega arith)) in (
-            omega (arith, b .rises, s .0),
-            λ e. omega (arith, b .apart (omega (arith, b .rises, s .0)), s .1 (omega (arith, b .rises, s .0)), some-row k (omega (arith, a .within))),
-          )
-      all k l (equal h) = side-passed (rowAt t k) (a .below k (omega arith))
-      all k l (more h) = absurd (omega arith)
+      apart : Order i (x .instrument) → i < x .instrument
+      apart (less o) = o
+      apart (equal o) = absurd (d (sym o))
+      apart (more o) = absurd (omega arith)
 
-  seen-place : (g : ℕ) → Found t used (atMoment i m) 1 g → (k : ℕ) → seen (group i (rows t used)) k m ≡ lookAt t used (g + k) i m
-  unfolding seen lookAt
-  seen-place g a k =
-      ap (λ (o : Option (Interval ℕ)). says o m) (group-place i (rows t used) sorted k)
-      ∙ ap (λ (c : ℕ). says (own i (getElem? (rows t used) (c + k))) m) (found-lower g a)
-
-  started-is : (g u : ℕ) → Found t used (atMoment i m) 1 g → Found t used (atMoment i m) 2 u → u ≡ g + started (group i (rows t used)) m
-  started-is g u a b =
-      sym (found-upper u b) ∙ started-place i m (rows t used) sorted ∙ ap (λ (c : ℕ). c + started (group i (rows t used)) m) (found-lower g a)
+pub searched-met : {t : List ℕ} {used i m lo hi low high : ℕ} → Searched t used i m lo hi low high → high ≤ low → Ordered (rows t used)
+    → Reach t used i m lo hi → Reach t used i m low low
+searched-met {t} {used} {i} {m} {low = low} {high = high} p l w r = let q : Reach t used i m low high = p .reach w r in record { from = q .from; upto = omega (arith, q .upto) }
 
 -- ---- the last that has started
 
 tells : (f : Finding ℕ) (o : Option ℕ) (h : ℕ) → f .said ≡ o → f .hint ≡ h → Tells f (saidAnswer h o) h
 tells f o h d e = record { answers = sym (λ j. saidAnswer (e j) (d j)); hints = sym e }
 
-module _ {t : List ℕ} {used i m : ℕ} (w : Ordered (rows t used)) {g : ℕ} (a : Found t used (atMoment i m) 1 g) where
-  arrive-at : (u h : ℕ) → Found t used (atMoment i m) 2 u → g < u → (o : Option ℕ) → lookAt t used (u - 1) i m ≡ o
-      → Tells (last t used i m h) (saidAnswer (u - 1 - g) o) (u - 1 - g)
-  unfolding arrive
-  arrive-at u h b l o e =
-      let z : started (group i (rows t used)) m ≡ suc (u - 1 - g) = omega (arith, started-is t used i m w g u a b) in
-      let q : g + (u - 1 - g) ≡ u - 1 = omega arith in
-      rw z (tells _ o (u - 1 - g) (seen-place t used i m w g a (u - 1 - g) ∙ ap (λ (k : ℕ). lookAt t used k i m) q ∙ e) refl)
+module _ {t : List ℕ} {used i m : ℕ} (w : Ordered (rows t used)) {g u : ℕ} (a : Begun t used i g 0) (b : Reach t used i m u u) where
+  begin-is : lower i (rows t used) ≡ g
+  begin-is = omega (arith, a .from, a .upto)
 
-  pub arrive-covers : {u k : ℕ} {b : Bool} {r : Answer} (h : ℕ) → Found t used (atMoment i m) 2 u → g < u → b ≡ coversAt t used (u - 1) i m → b ≡ true
+  seen-place : (k : ℕ) → seen (group i (rows t used)) k m ≡ lookAt t used (g + k) i m
+  unfolding seen lookAt
+  seen-place k =
+      ap (λ (o : Option (Interval ℕ)). says o m) (group-place i (rows t used) (sorted t used w) k)
+      ∙ ap (λ (c : ℕ). says (own i (getElem? (rows t used) (c + k))) m) begin-is
+
+  started-is : u ≡ g + started (group i (rows t used)) m
+  started-is = omega (arith, a .from, a .upto, b .from, b .upto, started-from t used w i m)
+
+  arrive-at : (h : ℕ) → g < u → (o : Option ℕ) → lookAt t used (u - 1) i m ≡ o → Tells (last t used i m h) (saidAnswer (u - 1 - g) o) (u - 1 - g)
+  unfolding arrive
+  arrive-at h l o e =
+      let z : started (group i (rows t used)) m ≡ suc (u - 1 - g) = omega (arith, started-is) in
+      let q : g + (u - 1 - g) ≡ u - 1 = omega arith in
+      rw z (tells _ o (u - 1 - g) (seen-place (u - 1 - g) ∙ ap (λ (k : ℕ). lookAt t used k i m) q ∙ e) refl)
+
+  pub arrive-covers : {k : ℕ} {b : Bool} {r : Answer} (h : ℕ) → g < u → b ≡ coversAt t used (u - 1) i m → b ≡ true
       → r ≡ answer 0 ((u - 1 - g) ∷ rowAt t (u - 1) .value ∷ []) → k ≡ u - 1 - g → Tells (last t used i m h) r k
   unfolding saidAnswer
-  arrive-covers {u} h b l e f p q = rw (p, q) (arrive-at u h b l (some (rowAt t (u - 1) .value)) (look-yes t used (u - 1) i m e f))
+  arrive-covers h l e f p q = rw (p, q) (arrive-at h l (some (rowAt t (u - 1) .value)) (look-yes t used (u - 1) i m e f))
 
-  pub arrive-gap : {u : ℕ} {b : Bool} (h : ℕ) → Found t used (atMoment i m) 2 u → g < u → b ≡ coversAt t used (u - 1) i m → b ≡ false
+  pub arrive-gap : {b : Bool} (h : ℕ) → g < u → b ≡ coversAt t used (u - 1) i m → b ≡ false
       → Tells (last t used i m h) (answer 0 ((u - 1 - g) ∷ [])) (u - 1 - g)
   unfolding saidAnswer
-  arrive-gap {u} h b l e f = arrive-at u h b l none (look-no t used (u - 1) i m e f)
+  arrive-gap h l e f = arrive-at h l none (look-no t used (u - 1) i m e f)
 
-  pub arrive-none : {u : ℕ} (h : ℕ) → Found t used (atMoment i m) 2 u → u ≤ g → Tells (last t used i m h) (answer 0 (h ∷ [])) h
+  pub arrive-none : (h : ℕ) → u ≤ g → Tells (last t used i m h) (answer 0 (h ∷ [])) h
   unfolding arrive saidAnswer
-  arrive-none {u} h b l =
-      let z : started (group i (rows t used)) m ≡ 0 = omega (arith, started-is t used i m w g u a b) in
+  arrive-none h l =
+      let z : started (group i (rows t used)) m ≡ 0 = omega (arith, started-is) in
       rw z (record { answers = refl; hints = refl })
 
--- ---- a lookup
+-- ---- a lookup: on an ordered table whatever the hint
 
-or-some : (o : Option ℕ) (k v : ℕ) (f : Finding ℕ) → o ≡ some v → orElse o k f ≡ record { said = some v; hint = k }
-unfolding orElse
-or-some o k v f e = ap (λ (p : Option ℕ). orElse p k f) e
-
-or-none : (o : Option ℕ) (k : ℕ) (f : Finding ℕ) → o ≡ none → orElse o k f ≡ f
-unfolding orElse
-or-none o k f e = ap (λ (p : Option ℕ). orElse p k f) e
-
-module _ {t : List ℕ} {used i m : ℕ} (w : Ordered (rows t used)) {g : ℕ} (a : Found t used (atMoment i m) 1 g) where
-  next : (h : ℕ) → seen (group i (rows t used)) (suc h) m ≡ lookAt t used (g + h + 1) i m
-  next h = seen-place t used i m w g a (suc h) ∙ (let q : g + suc h ≡ g + h + 1 = omega arith in ap (λ (k : ℕ). lookAt t used k i m) q)
-
-  pub look-first : {k : ℕ} {b : Bool} {r : Answer} (h : ℕ) → b ≡ coversAt t used (g + h) i m → b ≡ true
-      → r ≡ answer 0 (h ∷ rowAt t (g + h) .value ∷ []) → k ≡ h → Tells (lookupRows (rows t used) i m h) r k
-  unfolding lookupRows lookup saidAnswer
-  look-first h e f p q =
-      rw (p, q, or-some (seen (group i (rows t used)) h m) h (rowAt t (g + h) .value) _ (seen-place t used i m w g a h ∙ look-yes t used (g + h) i m e f))
-      (record { answers = refl; hints = refl })
-
-  pub look-second : {k : ℕ} {b c : Bool} {r : Answer} (h : ℕ) → b ≡ coversAt t used (g + h) i m → b ≡ false → c ≡ coversAt t used (g + h + 1) i m → c ≡ true
-      → r ≡ answer 0 ((h + 1) ∷ rowAt t (g + h + 1) .value ∷ []) → k ≡ h + 1 → Tells (lookupRows (rows t used) i m h) r k
-  unfolding lookupRows lookup saidAnswer
-  look-second h e f e′ f′ p q =
-      let s : suc h ≡ h + 1 = omega arith in
-      rw (
-        p,
-        q,
-        or-none (seen (group i (rows t used)) h m) h _ (seen-place t used i m w g a h ∙ look-no t used (g + h) i m e f),
-        or-some (seen (group i (rows t used)) (suc h) m) (suc h) (rowAt t (g + h + 1) .value) _ (next h ∙ look-yes t used (g + h + 1) i m e′ f′),
-      )
-      (tells _ (some (rowAt t (g + h + 1) .value)) (h + 1) refl s)
-
-  to-last : (h : ℕ) → lookAt t used (g + h) i m ≡ none → lookAt t used (g + h + 1) i m ≡ none → lookupRows (rows t used) i m h ≡ last t used i m h
-  unfolding lookupRows lookup
-  to-last h e e′ =
-      or-none (seen (group i (rows t used)) h m) h _ (seen-place t used i m w g a h ∙ e)
-      ∙ or-none (seen (group i (rows t used)) (suc h) m) (suc h) _ (next h ∙ e′)
-
-  pub look-third : {b c : Bool} {r : Answer} {k : ℕ} (h : ℕ) → b ≡ coversAt t used (g + h) i m → b ≡ false
-      → c ≡ coversAt t used (g + h + 1) i m → c ≡ false → Tells (last t used i m h) r k → Tells (lookupRows (rows t used) i m h) r k
-  look-third h e f e′ f′ s = rw (to-last h (look-no t used (g + h) i m e f) (look-no t used (g + h + 1) i m e′ f′)) s
-
-  pub look-far : {r : Answer} {k : ℕ} (h : ℕ) → used ≤ h → Tells (last t used i m h) r k → Tells (lookupRows (rows t used) i m h) r k
-  look-far h l s = rw (to-last h (look-out t used (g + h) i m (omega arith)) (look-out t used (g + h + 1) i m (omega arith))) s
+pub look-last : (t : List ℕ) (used i m h : ℕ) {r : Answer} {k : ℕ} → Ordered (rows t used) → Tells (last t used i m h) r k → Tells (lookupRows (rows t used) i m h) r k
+look-last t used i m h w s =
+    let e : lookupRows (rows t used) i m h ≡ last t used i m h = lookupRows-last (rows t used) w i m h in
+    rw e s
 
 -- ---- the whole
 
@@ -375,18 +545,6 @@ table-fits long used e f = let l : Lent long used = table-lent long used (sym e 
 
 pub table-limit : {b : Bool} (long used : ℕ) → b ≡ badTable long used → b ≡ false → used ≤ 65536
 table-limit long used e f = let l : Lent long used = table-lent long used (sym e ∙ f) in omega (arith, l .limit, l .in-use)
-
--- a place whose row covers the moment is one of those in use
-pub covers-fits : {b : Bool} (t : List ℕ) (used k i m : ℕ) → b ≡ coversAt t used k i m → b ≡ true → used * width ≤ length t → k * width + width ≤ length t
-unfolding coversAt
-covers-fits t used k i m e f l =
-    let p : Bool = eqb (rowAt t k .instrument) i && (leb (rowAt t k .start) m && ltb m (rowAt t k .end)) in
-    let h : k < used = ltb-yes (T-fst (ltb k used) p (true-T (ltb k used && p) (sym e ∙ f))) in
-    omega arith
-
--- what is compared with is the stretch up to the moment
-pub found-at : {t : List ℕ} {used i m c r : ℕ} {n : Row ℕ} → n ≡ atMoment i m → Found t used n c r → Found t used (atMoment i m) c r
-found-at e f = rw e at f
 
 pub bad-not : {b : Bool} (long used : ℕ) → b ≡ badTable long used → b ≡ true → badTable long used ≡ false → ⊥
 bad-not long used e f g = never (badTable long used) (true-T (badTable long used) (sym e ∙ f)) g

@@ -176,3 +176,13 @@ module _ {A : Type 0} where
   pub lookupRows-hint : (xs : List (Row A)) → Ordered xs → (i m h : ℕ) → lookupRows xs i m h .hint ≡ arrive (group i xs) m h (started (group i xs) m) .hint
   unfolding lookupRows
   lookupRows-hint xs w i m h = lookup-hint (group i xs) (formed-iff xs .0 w .groups i) h m
+
+  -- so a lookup in a table is a look at the last interval that has started
+  pub lookupRows-last : (xs : List (Row A)) → Ordered xs → (i m h : ℕ)
+      → lookupRows xs i m h ≡ arrive (group i xs) m h (started (group i xs) m)
+  unfolding lookupRows answerFor
+  lookupRows-last xs w i m h j =
+      record {
+        said = (lookupRows-right xs w i m h ∙ sym (arrive-right (group i xs) (formed-iff xs .0 w .groups i) m (started (group i xs) m) refl h)) j;
+        hint = lookupRows-hint xs w i m h j;
+      }

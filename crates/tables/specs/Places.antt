@@ -116,31 +116,72 @@ module _ {A : Type 0} where
           let g : started (picked i x (group i xs)) m ≡ 0 = ap (λ (rs : List (Interval A)). started rs m) (group-none i (x .instrument) (x ∷ xs) s (le-refl (x .instrument)) h) in
           u ∙ sym (λ q. l q + g q)
 
-  -- ---- what a search finds at its end is the place
+  -- ---- what the rows on both sides of a place tell
 
-  pub lower-is : (i : ℕ) (d : Row A) (xs : List (Row A)) → Sorted xs → (r : ℕ) → r ≤ length xs
-      → ((k : ℕ) → k < r → getD xs k d .instrument < i) → (r < length xs → i ≤ getD xs r d .instrument) → lower i xs ≡ r
+  -- r is the first place of a row that is not of a lower instrument
+  pub record Begins (i : ℕ) (xs : List (Row A)) (d : Row A) (r : ℕ) : Type 0 where
+    pub within : r ≤ length xs
+    pub below : (k : ℕ) → k < r → getD xs k d .instrument < i
+    pub from : r < length xs → i ≤ getD xs r d .instrument
+
+  pub lower-begins : (i : ℕ) (d : Row A) (xs : List (Row A)) → Begins i xs d (lower i xs)
   unfolding lower
-  lower-is i d [] s r h f g = omega arith
-  lower-is i d (x ∷ xs) s zero h f g = cond-ge (x .instrument) i _ _ (g (omega arith))
-  lower-is i d (x ∷ xs) s (suc r) h f g =
-      cond-lt (x .instrument) i _ _ (f 0 (omega arith)) ∙ ap suc (lower-is i d xs (s .1) r (omega arith) (λ k l. f (suc k) (omega arith)) (λ l. g (omega arith)))
+  lower-begins i d [] = record { within = omega arith; below = λ k l. absurd (omega arith); from = λ l. absurd (omega arith) }
+  lower-begins i d (x ∷ xs) = go (decLe i (x .instrument)) (lower-begins i d xs)
+    where
+      go : Dec (i ≤ x .instrument) → Begins i xs d (lower i xs) → Begins i (x ∷ xs) d (lower i (x ∷ xs))
+      go (yes h) b =
+          rw (cond-ge (x .instrument) i (suc (lower i xs)) 0 h) (record { within = omega arith; below = λ k l. absurd (omega arith); from = λ l. h })
+      go (no h) b =
+          rw (cond-lt (x .instrument) i (suc (lower i xs)) 0 (omega arith))
+          (record { within = omega (arith, b .within); below = all; from = λ l. b .from (omega arith) })
+        where
+          all : (k : ℕ) → k < suc (lower i xs) → getD (x ∷ xs) k d .instrument < i
+          all zero l = omega arith
+          all (suc k) l = b .below k (omega arith)
 
-  pub upper-is : (i m : ℕ) (d : Row A) (xs : List (Row A)) → (r : ℕ) → r ≤ length xs
-      → ((k : ℕ) → k < r → (getD xs k d .instrument ≤ i) × (getD xs k d .instrument ≡ i → getD xs k d .start ≤ m))
-      → (r < length xs → (i ≤ getD xs r d .instrument) × (getD xs r d .instrument ≡ i → m < getD xs r d .start)) → upper i m xs ≡ r
+  -- a row that is of a lower instrument, or of this one and starts at the moment or before
+  pub record Passed (i m : ℕ) (x : Row A) : Type 0 where
+    pub upto : x .instrument ≤ i
+    pub starts : x .instrument ≡ i → x .start ≤ m
+
+  -- one that is of a higher instrument, or of this one and starts later
+  pub record Ahead (i m : ℕ) (x : Row A) : Type 0 where
+    pub from : i ≤ x .instrument
+    pub starts : x .instrument ≡ i → m < x .start
+
+  -- r is the first place of a row that is ahead
+  pub record Reaches (i m : ℕ) (xs : List (Row A)) (d : Row A) (r : ℕ) : Type 0 where
+    pub within : r ≤ length xs
+    pub below : (k : ℕ) → k < r → Passed i m (getD xs k d)
+    pub from : r < length xs → Ahead i m (getD xs r d)
+
+  pub upper-reaches : (i m : ℕ) (d : Row A) (xs : List (Row A)) → Reaches i m xs d (upper i m xs)
   unfolding upper
-  upper-is i m d [] r h f g = omega arith
-  upper-is i m d (x ∷ xs) zero h f g = go (order (x .instrument) i) (g (omega arith))
+  upper-reaches i m d [] = record { within = omega arith; below = λ k l. absurd (omega arith); from = λ l. absurd (omega arith) }
+  upper-reaches i m d (x ∷ xs) = go (order (x .instrument) i) (decLe (x .start) m) (upper-reaches i m d xs)
     where
-      go : Order (x .instrument) i → (i ≤ x .instrument) × (x .instrument ≡ i → m < x .start) → upper i m (x ∷ xs) ≡ 0
-      go (less k) p = absurd (omega (arith, p .0))
-      go (equal k) p = cond-ge (x .instrument) i _ _ (omega arith) ∙ cond-ge i (x .instrument) _ _ (omega arith) ∙ cond-lt m (x .start) _ _ (p .1 k)
-      go (more k) p = cond-ge (x .instrument) i _ _ (omega arith) ∙ cond-lt i (x .instrument) _ _ k
-  upper-is i m d (x ∷ xs) (suc r) h f g =
-      go (order (x .instrument) i) (f 0 (omega arith)) (upper-is i m d xs r (omega arith) (λ k l. f (suc k) (omega arith)) (λ l. g (omega arith)))
-    where
-      go : Order (x .instrument) i → (x .instrument ≤ i) × (x .instrument ≡ i → x .start ≤ m) → upper i m xs ≡ r → upper i m (x ∷ xs) ≡ suc r
-      go (less k) p e = cond-lt (x .instrument) i _ _ k ∙ ap suc e
-      go (equal k) p e = cond-ge (x .instrument) i _ _ (omega arith) ∙ cond-ge i (x .instrument) _ _ (omega arith) ∙ cond-ge m (x .start) _ _ (p .1 k) ∙ ap suc e
-      go (more k) p e = absurd (omega (arith, p .0))
+      on : Reaches i m xs d (upper i m xs) → Passed i m x → Reaches i m (x ∷ xs) d (suc (upper i m xs))
+      on b p = record { within = omega (arith, b .within); below = all; from = λ l. b .from (omega arith) }
+        where
+          all : (k : ℕ) → k < suc (upper i m xs) → Passed i m (getD (x ∷ xs) k d)
+          all zero l = p
+          all (suc k) l = b .below k (omega arith)
+
+      off : Ahead i m x → Reaches i m (x ∷ xs) d 0
+      off p = record { within = omega arith; below = λ k l. absurd (omega arith); from = λ l. p }
+
+      same : x .instrument ≡ i → upper i m (x ∷ xs) ≡ cond (ltb m (x .start)) 0 (suc (upper i m xs))
+      same h = cond-ge (x .instrument) i _ _ (omega arith) ∙ cond-ge i (x .instrument) _ _ (omega arith)
+
+      high : i < x .instrument → upper i m (x ∷ xs) ≡ 0
+      high h = cond-ge (x .instrument) i _ _ (omega arith) ∙ cond-lt i (x .instrument) _ _ h
+
+      go : Order (x .instrument) i → Dec (x .start ≤ m) → Reaches i m xs d (upper i m xs) → Reaches i m (x ∷ xs) d (upper i m (x ∷ xs))
+      go (less h) e b =
+          rw (cond-lt (x .instrument) i (suc (upper i m xs)) (cond (ltb i (x .instrument)) 0 (cond (ltb m (x .start)) 0 (suc (upper i m xs)))) h)
+          (on b (record { upto = omega arith; starts = λ d. absurd (omega arith) }))
+      go (equal h) (yes e) b = rw (same h ∙ cond-ge m (x .start) 0 (suc (upper i m xs)) e) (on b (record { upto = omega arith; starts = λ d. e }))
+      go (equal h) (no e) b =
+          rw (same h ∙ cond-lt m (x .start) 0 (suc (upper i m xs)) (omega arith)) (off (record { from = omega arith; starts = λ d. omega arith }))
+      go (more h) e b = rw (high h) (off (record { from = omega arith; starts = λ d. absurd (omega arith) }))

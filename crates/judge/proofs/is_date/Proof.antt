@@ -7,6 +7,12 @@ use borrow.Author.Needs.{needs}
 use Rattle.judge.proofs.is_date.Statement.{statement}
 use Rattle.judge.proofs.is_date.Tie as tie
 
+is-early-requires : tie.Need-is-early-requires
+is-early-requires c κs = search needs
+
+returns : tie.Need-returns
+returns c = c .before .is-early .ensures (c .if1 .taken)
+
 day-of-requires : tie.Need-day-of-requires
 day-of-requires c κs = search needs
 
@@ -16,11 +22,11 @@ enum-told c = search needs
 enum-told-2 : tie.Need-enum-told-2
 enum-told-2 c = search needs
 
-returns : tie.Need-returns
-returns c = date-number _ _ (ap dayAnswerOf (sym (c .enum-told .given .1)) ∙ c .before .before .day-of .ensures)
-
 returns-2 : tie.Need-returns-2
-returns-2 c = date-refused _ (c .enum-told2 .given .0 .0) (ap dayAnswerOf (sym (c .enum-told2 .given .1)) ∙ c .before .before .day-of .ensures)
+returns-2 c = date-number _ _ (ap dayAnswerOf (sym (c .enum-told .given .1)) ∙ c .before .before .day-of .ensures)
+
+returns-3 : tie.Need-returns-3
+returns-3 c = date-refused _ (c .enum-told2 .given .0 .0) (ap dayAnswerOf (sym (c .enum-told2 .given .1)) ∙ c .before .before .day-of .ensures)
 
 pub is-date-spec : {M : Type 1} → statement M
-is-date-spec = tie.close (tie.spec day-of-requires enum-told enum-told-2 returns returns-2)
+is-date-spec = tie.close (tie.spec is-early-requires returns day-of-requires enum-told enum-told-2 returns-2 returns-3)

@@ -6,7 +6,7 @@ use native.Mathlib.Omega.{arith}
 use borrow.Author.Needs.{needs}
 use lib.Seq.{slice}
 use Rattle.leaves.specs.Utf8.{isUtf8}
-use Rattle.leaves.specs.Utf8Laws.{none-left-is}
+use Rattle.leaves.specs.Utf8Laws.{none-left-is, upto-is}
 use Rattle.leaves.proofs.utf8.is_utf8_within.Statement.{statement}
 use Rattle.leaves.proofs.utf8.is_utf8_within.Tie as tie
 
@@ -16,14 +16,22 @@ Inv-loop text from to at₀ at = (at ≤ to) × (isUtf8 (slice from to text) ≡
 abbrev μ-loop : tie.MeasureT-loop
 μ-loop text from to at₀ at = to - at
 
+greatest-requires : tie.Need-greatest-requires Inv-loop μ-loop
+greatest-requires c κs = search needs
+
+returns : tie.Need-returns Inv-loop μ-loop
+returns c =
+    let a = c .before .before .before .args in
+    sym (upto-is (a .text .now) (a .to - a .from) (a .from) (a .to) _ (omega arith) (omega arith) (omega arith) (c .before .greatest .ensures))
+
 loop-holds : tie.Need-loop-holds Inv-loop μ-loop
 loop-holds c = (search needs, refl)
 
 char-len-requires : tie.Need-char-len-requires Inv-loop μ-loop
 char-len-requires c κs = search needs
 
-returns : tie.Need-returns Inv-loop μ-loop
-returns c = sym (c .before .before .before .loop .inv .1 ∙ c .before .char-len .ensures .stuck (c .if1 .taken))
+returns-2 : tie.Need-returns-2 Inv-loop μ-loop
+returns-2 c = sym (c .before .before .before .loop .inv .1 ∙ c .before .char-len .ensures .stuck (c .if2 .taken))
 
 add-at : tie.Need-add-at Inv-loop μ-loop
 add-at c = omega arith
@@ -33,11 +41,11 @@ loop-less c = omega arith
 
 loop-again : tie.Need-loop-again Inv-loop μ-loop
 loop-again c =
-    (omega arith, c .before .before .before .loop .inv .1 ∙ c .before .char-len .ensures .onward (c .if1 .left))
+    (omega arith, c .before .before .before .loop .inv .1 ∙ c .before .char-len .ensures .onward (c .if2 .left))
 
-returns-2 : tie.Need-returns-2 Inv-loop μ-loop
-returns-2 c =
-    let a = c .before .before .before .args in
+returns-3 : tie.Need-returns-3 Inv-loop μ-loop
+returns-3 c =
+    let a = c .before .before .before .before .before .args in
     sym (c .before .loop .inv .1 ∙ none-left-is (a .text .now) (c .before .loop .at) (a .to) (omega arith))
 
 pub is-utf8-within-spec : {M : Type 1} → statement M
@@ -46,10 +54,12 @@ is-utf8-within-spec =
     (tie.spec
     Inv-loop
     μ-loop
+    greatest-requires
+    returns
     loop-holds
     char-len-requires
-    returns
+    returns-2
     add-at
     loop-less
     loop-again
-    returns-2)
+    returns-3)

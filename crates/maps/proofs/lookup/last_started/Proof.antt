@@ -1,15 +1,9 @@
--- What the search finds, in an ordered table, is how far the moment reaches. Assumes nothing.
+-- What the two places tell, in an ordered table, is the last that has started. Assumes nothing.
 use mathlib.Core.Path.{refl, ap}
-use Rattle.tables.specs.Looks.{numberIn, found-at, arrive-covers, arrive-gap, arrive-none}
+use Rattle.tables.specs.Looks.{numberIn, arrive-covers, arrive-gap, arrive-none}
 use borrow.Author.Needs.{needs}
 use Rattle.maps.proofs.lookup.last_started.Statement.{statement}
 use Rattle.maps.proofs.lookup.last_started.Tie as tie
-
-at-moment-requires : tie.Need-at-moment-requires
-at-moment-requires c κs = search needs
-
-find-requires : tie.Need-find-requires
-find-requires c κs = search needs
 
 sub-at : tie.Need-sub-at
 sub-at c = search needs
@@ -24,24 +18,15 @@ seen-at-requires : tie.Need-seen-at-requires
 seen-at-requires c κs = search needs
 
 returns : tie.Need-returns
-returns c = (λ w a. arrive-covers w a _ (found-at (c .before .before .before .before .before .at-moment .ensures) (c .before .before .before .before .find .ensures)) (search needs) (c .before .before .covers-at .ensures) (search needs) (c .seen-at .ensures .0) (c .seen-at .ensures .1), ap numberIn (c .seen-at .ensures .0))
+returns c = (λ w a b. arrive-covers w a b _ (search needs) (c .before .before .covers-at .ensures) (search needs) (c .seen-at .ensures .0) (c .seen-at .ensures .1), ap numberIn (c .seen-at .ensures .0))
 
 returns-2 : tie.Need-returns-2
-returns-2 c = (λ w a. search (needs, found-at, arrive-gap), refl)
+returns-2 c = (λ w a b. search (needs, arrive-gap), refl)
 
 returns-3 : tie.Need-returns-3
-returns-3 c = (λ w a. search (needs, found-at, arrive-none), refl)
+returns-3 c = (λ w a b. search (needs, arrive-none), refl)
 
 pub last-started-spec : {M : Type 1} → statement M
 last-started-spec =
     tie.close
-    (tie.spec
-    at-moment-requires
-    find-requires
-    sub-at
-    sub-arrived
-    covers-at-requires
-    seen-at-requires
-    returns
-    returns-2
-    returns-3)
+    (tie.spec sub-at sub-arrived covers-at-requires seen-at-requires returns returns-2 returns-3)

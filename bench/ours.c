@@ -1,0 +1,246 @@
+/* The desk's side of the benchmark: `ours ROW STEPS` lays the row's inputs out, takes so many steps over them through the C door,
+ * and prints a digest of the answers, which theirs.rs prints too. With 0 steps only the inputs are laid out. theirs.rs has the same
+ * rows and makes the same inputs with the same generator: a change here is a change there. */
+#include <stdint.h>
+#include <stdio.h>
+#include <stdlib.h>
+#include <string.h>
+
+#include "desk.h"
+
+/* A name's number is one less than its length, so that both sides can tell a symbol without reading the name. */
+#define NAMES 16
+#define SPACING 1000 /* from an interval's start to the next one's */
+#define COVERED 900  /* of which the interval covers so much */
+
+static uint64_t state = 1;
+
+/* splitmix64 */
+static uint64_t draw(uint64_t below) {
+    uint64_t z = state += 0x9e3779b97f4a7c15u;
+    z = (z ^ (z >> 30)) * 0xbf58476d1ce4e5b9u;
+    z = (z ^ (z >> 27)) * 0x94d049bb133111ebu;
+    return (z ^ (z >> 31)) % below;
+}
+
+static uint64_t digest;
+
+static void stop(const char *why) {
+    fprintf(stderr, "ours: %s\n", why);
+    exit(1);
+}
+
+static void *room(size_t bytes) {
+    void *p = calloc(bytes ? bytes : 1, 1);
+    if (!p) stop("no memory");
+    return p;
+}
+
+static void put(uint8_t *at, uint64_t value, int bytes) {
+    for (int i = 0; i < bytes; i++) at[i] = (uint8_t)(value >> (8 * i));
+}
+
+static uint32_t instrument(uint64_t i) { return (uint32_t)(1000 + 37 * i); }
+
+static uint32_t symbol(uint64_t k) { return (uint32_t)(k % NAMES); }
+
+/* ---- The map over time. */
+
+static uint8_t *table;
+static size_t table_len, used;
+
+/* A table of so many instruments with so many intervals each, in memory for `spare` more. */
+static void lay_table(uint64_t instruments, uint64_t intervals, uint64_t spare) {
+    table_len = (instruments * intervals + spare) * DESK_INTERVAL_BYTES;
+    table = room(table_len);
+    for (uint64_t i = 0; i < instruments; i++)
+        for (uint64_t k = 0; k < intervals; k++) {
+            uint8_t *row = table + used++ * DESK_INTERVAL_BYTES;
+            put(row, instrument(i), 4);
+            put(row + 4, symbol(k), 4);
+            put(row + 8, k * SPACING, 8);
+            put(row + 16, k * SPACING + COVERED, 8);
+        }
+    if (desk_check(table, table_len, used, NAMES) != DESK_DONE) stop("the table is not well-formed");
+}
+
+struct question {
+    uint64_t moment;
+    uint32_t which, instrument;
+};
+
+/* Lookups with a cursor for each instrument, the moments drawn, or going ahead from the first to the last interval. */
+static void lookups(uint64_t steps, uint64_t most, uint64_t instruments, uint64_t intervals, int ahead) {
+    lay_table(instruments, intervals, 0);
+    struct question *questions = room(most * sizeof *questions);
+    uint64_t *hints = room(instruments * sizeof *hints);
+    for (uint64_t i = 0; i < most; i++) {
+        questions[i].which = (uint32_t)draw(instruments);
+        questions[i].instrument = instrument(questions[i].which);
+        uint64_t moment = draw(intervals * SPACING);
+        questions[i].moment = ahead ? i * intervals * SPACING / most : moment;
+    }
+    for (uint64_t i = 0; i < steps; i++) {
+        const struct question *q = &questions[i];
+        uint32_t found, number;
+        if (desk_get_for_ts(table, table_len, used, q->instrument, q->moment, &hints[q->which], &found, &number) != DESK_DONE)
+            stop("a lookup was refused");
+        digest = digest * 31 + (found ? number + 1 : 0);
+    }
+}
+
+static void insert(uint32_t instrument, uint64_t start, uint64_t end, uint32_t number) {
+    if (desk_insert(table, table_len, &used, NAMES, instrument, start, end, number) != DESK_DONE) stop("an insert was refused");
+}
+
+/* From an empty table, so many intervals for each instrument in turn, in order of time. */
+static void appends(uint64_t steps, uint64_t most, uint64_t intervals) {
+    lay_table(0, 0, most);
+    for (uint64_t i = 0; i < steps; i++) {
+        uint64_t k = i % intervals;
+        insert(instrument(i / intervals), k * SPACING, k * SPACING + COVERED, symbol(k));
+    }
+    digest = used;
+}
+
+/* Inserts inside intervals that are there, with another symbol, so that one becomes three. */
+static void middles(uint64_t steps, uint64_t most, uint64_t instruments, uint64_t intervals) {
+    lay_table(instruments, intervals, 2 * most);
+    for (uint64_t i = 0; i < steps; i++) {
+        uint64_t which = draw(instruments), k = draw(intervals), from = k * SPACING + 100 + draw(300);
+        insert(instrument(which), from, from + 300, symbol(k + 1));
+    }
+    digest = used;
+}
+
+/* ---- The record merge. */
+
+/* So many records in all, each of a stream drawn, with times that never fall within a stream. */
+static void records(uint64_t steps, uint64_t most, size_t streams) {
+    struct record {
+        uint64_t stream, time, length;
+    } *drawn = room(most * sizeof *drawn);
+    uint64_t *cuts = room((streams + 1) * sizeof *cuts), *ends = room(streams * sizeof *ends), time = 0;
+    for (uint64_t i = 0; i < most; i++) {
+        drawn[i].stream = draw(streams);
+        drawn[i].time = time += draw(3);
+        drawn[i].length = DESK_RECORD_HEADER + draw(49);
+        cuts[drawn[i].stream + 1] += drawn[i].length;
+    }
+    for (size_t s = 0; s < streams; s++) ends[s] = cuts[s + 1] += cuts[s];
+    uint8_t *buffer = room(cuts[streams]);
+    for (uint64_t i = most; i-- > 0;) {
+        uint8_t *at = buffer + (ends[drawn[i].stream] -= drawn[i].length);
+        put(at, drawn[i].length, 2);
+        put(at + 2, 1, 2);
+        put(at + 4, i, 4);
+        put(at + 8, drawn[i].time, 8);
+    }
+    static uint8_t marks[DESK_STREAMS], heap[DESK_STREAMS];
+    static uint64_t times[DESK_STREAMS], places[DESK_STREAMS], heads[DESK_STREAMS];
+    size_t opened, held;
+    if (desk_open(buffer, cuts[streams], cuts, streams + 1, cuts, 0, marks, DESK_STREAMS, times, DESK_STREAMS, places, DESK_STREAMS,
+                  heads, DESK_STREAMS, heap, DESK_STREAMS, &opened, &held) != DESK_DONE)
+        stop("the streams were refused");
+    for (uint64_t i = 0; i < steps; i++) {
+        uint32_t found, number;
+        uint64_t stream, place, at, reason;
+        uint16_t length, kind;
+        if (desk_next(buffer, cuts[streams], cuts, streams + 1, marks, DESK_STREAMS, times, DESK_STREAMS, places, DESK_STREAMS, heads,
+                      DESK_STREAMS, heap, DESK_STREAMS, &held, &found, &stream, &place, &length, &kind, &number, &at, &reason)
+                != DESK_DONE || !found)
+            stop("a record was not handed out");
+        digest = digest * 31 + (at ^ number);
+    }
+}
+
+/* ---- Metadata. */
+
+struct metadata {
+    uint64_t header[DESK_HEADER_WORDS];
+    uint32_t symbols[DESK_ENTRIES], partial[1], not_found[1];
+    uint32_t mappings[DESK_MAPPINGS * DESK_MAPPING_WORDS], intervals[DESK_INTERVALS * DESK_INTERVAL_WORDS];
+};
+
+/* The mappings from number `from` to before `to`, of 16 intervals each; a mapping's name and its intervals' symbol are the text of
+ * its instrument. */
+static void lay_metadata(struct metadata *m, uint32_t from, uint32_t to) {
+    uint32_t *symbol = m->symbols, *mapping = m->mappings, *interval = m->intervals;
+    for (uint32_t i = from; i < to; i++) {
+        *symbol++ = i;
+        *mapping++ = i;
+        *mapping++ = 16;
+        for (uint32_t k = 0; k < 16; k++) {
+            uint32_t month = (2020 + k / 12) * 10000 + (k % 12 + 1) * 100;
+            *interval++ = month + 1;
+            *interval++ = month + 15;
+            *interval++ = i;
+        }
+    }
+    m->header[DESK_SCHEMA] = DESK_NO_SCHEMA;
+    m->header[DESK_STYPE_IN] = 1;
+    m->header[DESK_SYMBOLS] = m->header[DESK_MAPPINGS_USED] = to - from;
+}
+
+#define LISTS(m) \
+    (m)->header, DESK_HEADER_WORDS, (m)->symbols, DESK_ENTRIES, (m)->partial, 0, (m)->not_found, 0, (m)->mappings, \
+        DESK_MAPPINGS * DESK_MAPPING_WORDS, (m)->intervals, DESK_INTERVALS * DESK_INTERVAL_WORDS
+
+/* The mappings from 0 to before `first`, with those from `from` to before `to` merged in. */
+static void merges(uint64_t steps, uint32_t first, uint32_t from, uint32_t to) {
+    enum { MOST = 4 };
+    struct metadata *given = room(MOST * sizeof *given), *added = room(sizeof *added);
+    for (int i = 0; i < MOST; i++) lay_metadata(&given[i], 0, first);
+    lay_metadata(added, from, to);
+    for (uint64_t i = 0; i < steps; i++) {
+        struct metadata *m = &given[i];
+        uint32_t field;
+        if (desk_metadata_open(LISTS(m)) != DESK_DONE || desk_metadata_merge(DESK_NAMES, LISTS(m), LISTS(added), &field) != DESK_DONE
+            || desk_metadata_finish(LISTS(m)) != DESK_DONE)
+            stop("a merge was refused");
+        digest += m->header[DESK_MAPPINGS_USED];
+        for (uint64_t k = 0; k < m->header[DESK_MAPPINGS_USED]; k++) digest += m->mappings[DESK_MAPPING_WORDS * k + 1];
+    }
+}
+
+/* ---- UTF-8. */
+
+/* Names of the greatest length, their characters drawn among those of `least` to `most` bytes. */
+static void names(uint64_t steps, uint64_t least, uint64_t most) {
+    enum { TEXTS = 64 };
+    static const uint8_t characters[4][5] = {"a", "\xc3\xa9", "\xe2\x82\xac", "\xf0\x9f\x98\x80"};
+    static uint8_t texts[TEXTS][DESK_NAME_BYTES];
+    for (int t = 0; t < TEXTS; t++)
+        for (uint64_t at = 0; at < DESK_NAME_BYTES;) {
+            uint64_t bytes = least + draw(most - least + 1);
+            if (bytes > DESK_NAME_BYTES - at) bytes = 1;
+            memcpy(texts[t] + at, characters[bytes - 1], bytes);
+            at += bytes;
+        }
+    for (uint64_t i = 0; i < steps; i++) digest += desk_utf8(texts[i % TEXTS], DESK_NAME_BYTES) == DESK_DONE;
+}
+
+int main(int words, char **word) {
+    if (words != 3) stop("a row and a number of steps");
+    uint64_t steps = strtoull(word[2], NULL, 10);
+    const char *row = word[1];
+    if (!strcmp(row, "ahead")) lookups(steps, 1000000, 4096, 16, 1);
+    else if (!strcmp(row, "random")) lookups(steps, 1000000, 4096, 16, 0);
+    else if (!strcmp(row, "ahead-one")) lookups(steps, 1000000, 1, 50000, 1);
+    else if (!strcmp(row, "random-one")) lookups(steps, 1000000, 1, 50000, 0);
+    else if (!strcmp(row, "append")) appends(steps, 4096, 16);
+    else if (!strcmp(row, "append-one")) appends(steps, 4096, 4096);
+    else if (!strcmp(row, "middle")) middles(steps, 1024, 256, 16);
+    else if (!strcmp(row, "middle-one")) middles(steps, 1024, 1, 4096);
+    else if (!strcmp(row, "merge-4") || !strcmp(row, "ready-4")) records(steps, 200000, 4);
+    else if (!strcmp(row, "merge-16") || !strcmp(row, "ready-16")) records(steps, 200000, 16);
+    else if (!strcmp(row, "merge-256") || !strcmp(row, "ready-256")) records(steps, 200000, 256);
+    else if (!strcmp(row, "metadata-copy")) merges(steps, 4096, 0, 4096);
+    else if (!strcmp(row, "metadata-apart")) merges(steps, 2048, 2048, 4096);
+    else if (!strcmp(row, "utf8-ascii")) names(steps, 1, 1);
+    else if (!strcmp(row, "utf8-two")) names(steps, 2, 2);
+    else if (!strcmp(row, "utf8-mixed")) names(steps, 1, 4);
+    else stop("no such row");
+    printf("%016llx\n", (unsigned long long)digest);
+    return 0;
+}
