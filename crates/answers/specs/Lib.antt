@@ -1,0 +1,4 @@
+pub mod Leaves
+pub mod Maps
+pub mod Metadata
+pub mod Held
