@@ -1,13 +1,14 @@
 #!/usr/bin/env python3
 """Writes the cases of vectors_maps: oracle/build && python3 tools/make_vectors_maps.py > crates/vectors_maps/stdin
 
-Three sources, in this order: the traps of the rules' reading (oracle/traps.py), random lent memory answered by the plain
-model of document 01 (oracle/model.py), and histories answered by dbn's own code (oracle/driver.rs), each of their inserts
-and lookups on the table that the one before it left.
+Three sources: the traps of the rules' reading (oracle/traps.py), random lent memory answered by the plain model of document
+01 (oracle/model.py), and histories answered by dbn's own code (oracle/driver.rs), each of their inserts and lookups on the
+table that the one before it left.
 """
 import random
 import subprocess
 import sys
+from collections import Counter
 from pathlib import Path
 
 ORACLE = Path(__file__).resolve().parent.parent / "oracle"
@@ -20,7 +21,7 @@ import model  # noqa: E402
 import traps  # noqa: E402
 from answer import words  # noqa: E402
 
-KINDS = ["check", "insert", "get_for_ts", "check_point", "get_point"]
+KINDS = ["check", "insert", "get_for_ts", "check_point", "get_point", "on_record", "on_record_point"]
 LONGEST = 1500
 NAMES = 3
 ROOM = 8
@@ -61,6 +62,31 @@ def history(line):
             show(words("get_for_ts", table, used, instrument, moment, hint), words(0, *found, int(new_hint)))
 
 
+def lent_memory(part, faults):
+    """Random lent memory that the model answers."""
+    for _ in range(60):
+        case = part(rng, faults)
+        if is_served(case):
+            show(case, answer.answer(case))
+
+
+def mapping_calls():
+    """A call that joins two intervals, and random ones that the model answers, a few of each outcome: the number, and whether
+    the table changed."""
+    names = traps.listing(b"A")
+    (before, after), record = (traps.table(1, (7, 1, end, 0)) for end in (5, 9)), traps.mapping(7, 5, 9, b"A")
+    show(*traps.recording(record, 0, (before, 1, names), (after, 1, names)))
+    met = Counter()
+    for n in range(400):
+        case = lent.record_case(rng, (0, 0.3)[n % 2])
+        said = answer.answer(case)
+        (call, table), number = case.split()[:2], said.split()[0]
+        outcome = call, number, table in said.split()
+        met[outcome] += 1
+        if met[outcome] <= 5 and is_served(case):
+            show(case, said)
+
+
 print("# The cases of vectors_maps, made by tools/make_vectors_maps.py: a call, what it is handed, and behind the = what it answers.")
 print("# Bytes are hexadecimal, a - for none; oracle/README.md has the form of each call")
 for _, (case, said) in traps.traps():
@@ -69,9 +95,7 @@ for _, (case, said) in traps.traps():
 rng = random.Random(1)
 for faults in (0, 0.3):
     for part in (lent.table_case, lent.point_case):
-        for _ in range(60):
-            case = part(rng, faults)
-            if is_served(case):
-                show(case, answer.answer(case))
+        lent_memory(part, faults)
 for _ in range(13):
     history(cases.long_history(rng))
+mapping_calls()

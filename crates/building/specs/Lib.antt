@@ -3,3 +3,4 @@ pub mod ReadingLaws
 pub mod OverTime
 pub mod PointInTime
 pub mod Examples
+pub mod PointInTimeLaws

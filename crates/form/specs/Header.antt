@@ -1,15 +1,15 @@
 -- The form of a metadata in lent memory (01, Numbers the desk lives by: 15), and its value. A set is one word an entry, a mapping
 -- two (name, number of intervals), an interval three (start, end, symbol).
-use mathlib.Core.Path.{_≡_, refl, sym, ap, _∙_, subst}
-use Prim.Native.Nat.{ℕ, zero, suc, _+_, _-_, _*_, _/_, _%_, _≤_, _<_, min, max}
+use mathlib.Core.Path.{_≡_, refl}
+use Prim.Native.Nat.{ℕ, _*_, _/_, _%_, _≤_, min, max}
 use native.Mathlib.Omega.{arith}
-use mathlib.Core.Bool.{Bool, true, false, _&&_, cond}
-use mathlib.Core.List.{List, [], _∷_}
-use lib.ListN.{length, take, getD}
+use mathlib.Core.Bool.{Bool, true, false, _&&_}
+use mathlib.Core.List.{List}
+use lib.ListN.{length, take}
 use lib.Dec.{leb, eqb}
 use borrow.Author.Tests.{leb-true, eqb-true}
-use Rattle.merging.specs.Metadata.{Metadata, Fields, Rooms, Mapping, noSchema, sameSchema, countIntervals}
-use Rattle.merging.specs.Words.{before, countAt, mappingsFrom}
+use Rattle.merging.specs.Metadata.{Metadata, Fields, sameSchema}
+use Rattle.merging.specs.Words.{before, mappingsFrom}
 use Rattle.form.specs.declared.header.Header.{Header}
 use Rattle.form.specs.declared.header.Lengths.{Lengths}
 use Rattle.form.specs.declared.header.Counts.{Counts}
@@ -129,12 +129,6 @@ countsFit c l =
     && leb (c .intervals) (l .intervals / 3))))
 
 -- ---- laws
-
--- counts of words are below 2^32, so their sum is below n * 2^32
-pub before-bound : (m : List ℕ) (n : ℕ) → ((t : ℕ) → countAt m t < 4294967296) → before m n ≤ n * 4294967296
-unfolding before
-before-bound m zero h = omega arith
-before-bound m (suc n) h = let a = before-bound m n h in let b = h n in omega arith
 
 both-left : (a b : Bool) → (a && b) ≡ true → a ≡ true
 both-left true b e = refl

@@ -1,5 +1,5 @@
 // Runs the cases that stand on standard input over the maps, and prints a line for each kind of them. The data itself says
-// what a line means; a case that is answered otherwise than expected is printed. Mapping calls are tried by calls.
+// what a line means; a case that is answered otherwise than expected is printed.
 mod mappings;
 mod points;
 mod tables;
@@ -25,6 +25,10 @@ const CHECK_POINT: u8 = 3;
 
 const GET_POINT: u8 = 4;
 
+const ON_RECORD: u8 = 5;
+
+const ON_RECORD_POINT: u8 = 6;
+
 // Whether the case that a line holds, from a place behind its kind on, is answered as expected.
 fn is_right(text: &[u8], at: usize, kind: u8) -> bool {
     if kind == CHECK {
@@ -41,6 +45,12 @@ fn is_right(text: &[u8], at: usize, kind: u8) -> bool {
     }
     if kind == GET_POINT {
         return points::get(text, at);
+    }
+    if kind == ON_RECORD {
+        return mappings::on_record(text, at, true);
+    }
+    if kind == ON_RECORD_POINT {
+        return mappings::on_record(text, at, false);
     }
     false
 }
@@ -72,5 +82,6 @@ fn main() {
     run(text, b"get_for_ts", GET_FOR_TS);
     run(text, b"check_point", CHECK_POINT);
     run(text, b"get_point", GET_POINT);
-    mappings::run();
+    run(text, b"on_record", ON_RECORD);
+    run(text, b"on_record_point", ON_RECORD_POINT);
 }

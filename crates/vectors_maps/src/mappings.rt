@@ -1,238 +1,269 @@
-// Cases of the mapping call, each a call: what it answers, and what it leaves of table and name list.
-use cases::Tally;
-use cases::tried;
+// Cases of the mapping calls: what each answers, and what it leaves of table and name list. A name list is its names and bytes in
+// use, the bytes lent and the list of ends.
+use crate::tables::narrow;
+use crate::tables::room;
+use leaves::refusal::Refusal;
 use mapping::mapping::Recorded;
+ghost use mathlib.Core.Path.{_≡_};
+ghost use lib.ListN.{length};
+ghost use Rattle.io.specs.Counts.{Counts};
 
-// A time that is missing, in a case.
-const MISSING: u8 = 255;
+// The number that has a stream, a place and a reason behind it.
+const DAMAGED: u64 = 13;
 
-// The instrument of every record here.
-const INSTRUMENT: u8 = 7;
+// A reason that no record has.
+const NO_REASON: u64 = 99;
 
-// The bytes of a time, the lowest first: all of a missing one are 255.
-fn high(time: u8) -> u8 {
-    if time == MISSING { 255 } else { 0 }
+// Room for the ends of a name list.
+fn places() -> [u32; 64]
+    ensures { λ r. ⌜ 64 ≡ length r ⌝ }
+{
+    [0; 64]
 }
 
-// A symbol mapping from start to end, with a name of one byte.
-fn mapping(start: u8, end: u8, name: u8) -> [u8; 33] {
-    let s = high(start);
-    let e = high(end);
-    [
-        33,
-        0,
-        2,
-        0,
-        INSTRUMENT,
-        0,
-        0,
-        0,
-        0,
-        0,
-        0,
-        0,
-        0,
-        0,
-        0,
-        0,
-        start,
-        s,
-        s,
-        s,
-        s,
-        s,
-        s,
-        s,
-        end,
-        e,
-        e,
-        e,
-        e,
-        e,
-        e,
-        e,
-        name,
-    ]
+// Ends read from the text: how many, and the place after them.
+struct Ends {
+    count: usize,
+    next: usize,
 }
 
-// Whether the call is refused by this number.
-fn is_refused(recorded: Recorded, number: u32) -> bool {
-    match recorded {
-        Recorded::Done {
-            used: _,
-            names: _,
-            size: _,
-        } => false,
-        Recorded::Refused(r) => leaves::refusal::number(r) == number,
+// Reads a count and so many ends, as far as there is room.
+fn ends_at(text: &[u8], at: usize, out: &mut [u32]) -> Ends
+    ensures { λ r. ⌜ Counts (r .count) (now (out .exit)) ⌝ }
+{
+    let many = cases::number_at(text, at);
+    let mut place = many.next;
+    let mut i = 0;
+    while i < out.len() {
+        if many.value <= i as u64 {
+            return Ends {
+                count: i,
+                next: place,
+            };
+        }
+        let one = cases::number_at(text, place);
+        out[i] = narrow(one.value);
+        place = one.next;
+        i += 1;
+    }
+    Ends {
+        count: i,
+        next: place,
     }
 }
 
-// Whether the call is done, with these in use then.
-fn is_done(recorded: Recorded, in_use: usize, known: usize, bytes: usize) -> bool {
-    match recorded {
-        Recorded::Done { used, names, size } => used == in_use && names == known && size == bytes,
-        Recorded::Refused(_) => false,
+// Whether these ends stand at a place, behind their count.
+fn are_ends(text: &[u8], at: usize, ends: &[u32]) -> bool {
+    let many = cases::number_at(text, at);
+    if many.value != ends.len() as u64 {
+        return false;
+    }
+    let mut place = many.next;
+    let mut i = 0;
+    while i < ends.len() {
+        let one = cases::number_at(text, place);
+        if narrow(one.value) != ends[i] {
+            return false;
+        }
+        place = one.next;
+        i += 1;
+    }
+    true
+}
+
+// What is in use of table and name list, and the place after it.
+struct InUse {
+    used: usize,
+    names: usize,
+    size: usize,
+    next: usize,
+}
+
+fn in_use_at(text: &[u8], at: usize) -> InUse {
+    let used = cases::number_at(text, at);
+    let names = cases::number_at(text, used.next);
+    let size = cases::number_at(text, names.next);
+    InUse {
+        used: used.value as usize,
+        names: names.value as usize,
+        size: size.value as usize,
+        next: size.next,
     }
 }
 
-// An empty table of one interval and an empty list of one name of one byte.
-fn on_empty(tally: Tally) -> Tally {
-    let mut table = [9u8; 24];
-    let mut bytes = [9u8; 1];
-    let mut ends = [9u32; 1];
-    let none = mapping::mapping::on_record(&mut table, 0, &mut bytes, &mut ends, 0, 0, b"");
-    let mut t = tried(tally, b"no bytes", is_refused(none, 13));
-    let stored = mapping(MISSING, 0, b'A');
-    let empty = mapping::mapping::on_record(&mut table, 0, &mut bytes, &mut ends, 0, 0, &stored);
-    t = tried(t, b"missing start, end 0", is_done(empty, 0, 0, 0));
-    let reversed = mapping(9, 5, b'A');
-    let back = mapping::mapping::on_record(&mut table, 0, &mut bytes, &mut ends, 0, 0, &reversed);
-    t = tried(t, b"start after end", is_refused(back, 1));
-    let bad = mapping(9, 5, 0xFF);
-    let four = mapping::mapping::on_record(&mut table, 0, &mut bytes, &mut ends, 0, 0, &bad);
-    t = tried(t, b"start after end, bad name", is_refused(four, 4));
-    let level = mapping(5, 5, 0xFF);
-    let equal = mapping::mapping::on_record(&mut table, 0, &mut bytes, &mut ends, 0, 0, &level);
-    t = tried(t, b"start = end, bad name", is_refused(equal, 4));
-    t = tried(
-        t,
-        b"nothing was written",
-        bytes[0] == 9 && ends[0] == 9 && table[0] == 9,
+// What a call answers: document 01's number, the reason where it is 13, and what is in use then.
+struct Said {
+    number: u64,
+    reason: u64,
+    used: usize,
+    names: usize,
+    size: usize,
+}
+
+// The reason of damage, in stream 0 at place 0.
+fn reason_of(refusal: Refusal) -> u64 {
+    if let Refusal::Damaged {
+        stream,
+        place,
+        reason,
+    } = refusal {
+        if stream == 0 && place == 0 {
+            return reason;
+        }
+    }
+    NO_REASON
+}
+
+// What a call answers; a refusal leaves what is in use.
+fn answer_of(recorded: Recorded, before: InUse) -> Said {
+    match recorded {
+        Recorded::Done { used, names, size } => Said {
+            number: 0,
+            reason: NO_REASON,
+            used,
+            names,
+            size,
+        },
+        Recorded::Refused(r) => Said {
+            number: leaves::refusal::number(r) as u64,
+            reason: reason_of(r),
+            used: before.used,
+            names: before.names,
+            size: before.size,
+        },
+    }
+}
+
+// The place after the expected number of an answer, and after what 13 has behind it; 0 where the answer is another.
+fn past_number(text: &[u8], at: usize, said: Said) -> usize {
+    let number = cases::number_at(text, at);
+    if number.value != said.number {
+        return 0;
+    }
+    if number.value != DAMAGED {
+        return number.next;
+    }
+    let stream = cases::number_at(text, number.next);
+    let place = cases::number_at(text, stream.next);
+    let reason = cases::number_at(text, place.next);
+    if reason.value == said.reason {
+        reason.next
+    } else {
+        0
+    }
+}
+
+// Whether a name list with these numbers in use is expected at a place.
+fn is_list(text: &[u8], at: usize, said: Said, bytes: &[u8], ends: &[u32]) -> bool {
+    let names = cases::number_at(text, at);
+    if names.value as usize != said.names {
+        return false;
+    }
+    let size = cases::number_at(text, names.next);
+    if size.value as usize != said.size {
+        return false;
+    }
+    let mut expected = room();
+    let given = cases::bytes_at(text, size.next, &mut expected);
+    let n = given.count;
+    if !check::same(bytes, &expected[..n]) {
+        return false;
+    }
+    are_ends(text, given.next, ends)
+}
+
+// Whether the answer and what the call left are as expected at a place.
+fn is_expected(
+    text: &[u8],
+    at: usize,
+    said: Said,
+    table: &[u8],
+    bytes: &[u8],
+    ends: &[u32],
+) -> bool {
+    let from = past_number(text, at, said);
+    if from == 0 {
+        return false;
+    }
+    let used = cases::number_at(text, from);
+    if used.value as usize != said.used {
+        return false;
+    }
+    let mut expected = room();
+    let given = cases::bytes_at(text, used.next, &mut expected);
+    let n = given.count;
+    if !check::same(table, &expected[..n]) {
+        return false;
+    }
+    is_list(text, given.next, said, bytes, ends)
+}
+
+// Whether a call answers and leaves what is expected at a place.
+fn records(
+    text: &[u8],
+    at: usize,
+    over_time: bool,
+    table: &mut [u8],
+    bytes: &mut [u8],
+    ends: &mut [u32],
+    given: InUse,
+    rec: &[u8],
+) -> bool {
+    if over_time {
+        let recorded = mapping::mapping::on_record(
+            table,
+            given.used,
+            bytes,
+            ends,
+            given.names,
+            given.size,
+            rec,
+        );
+        let answer = answer_of(recorded, given);
+        return is_expected(text, at, answer, table, bytes, ends);
+    }
+    let recorded = mapping::mapping::on_record_point(
+        table,
+        given.used,
+        bytes,
+        ends,
+        given.names,
+        given.size,
+        rec,
     );
-    let whole = mapping(1, MISSING, b'A');
-    let done = mapping::mapping::on_record(&mut table, 0, &mut bytes, &mut ends, 0, 0, &whole);
-    t = tried(t, b"stored", is_done(done, 1, 1, 1));
-    t = tried(t, b"the name joined", bytes[0] == b'A' && ends[0] == 1);
-    tried(
-        t,
-        b"the interval",
-        table[0] == INSTRUMENT && table[8] == 1 && table[16] == 255 && table[23] == 255,
+    let answer = answer_of(recorded, given);
+    is_expected(text, at, answer, table, bytes, ends)
+}
+
+// What follows the table of a line, where the table is this one.
+fn on_table(text: &[u8], at: usize, over_time: bool, table: &mut [u8]) -> bool {
+    let mut bytes = room();
+    let mut ends = places();
+    let mut rec = room();
+    let given = in_use_at(text, at);
+    let names = cases::bytes_at(text, given.next, &mut bytes);
+    let m = names.count;
+    let lie = ends_at(text, names.next, &mut ends);
+    let k = lie.count;
+    let last = cases::bytes_at(text, lie.next, &mut rec);
+    let l = last.count;
+    let expected = cases::past_equals(text, last.next);
+    records(
+        text,
+        expected,
+        over_time,
+        table,
+        &mut bytes[..m],
+        &mut ends[..k],
+        given,
+        &rec[..l],
     )
 }
 
-// A full table, and a name list that is full or has a place left.
-fn on_full(tally: Tally) -> Tally {
-    let mut table = [
-        INSTRUMENT,
-        0,
-        0,
-        0,
-        0,
-        0,
-        0,
-        0,
-        1,
-        0,
-        0,
-        0,
-        0,
-        0,
-        0,
-        0,
-        5,
-        0,
-        0,
-        0,
-        0,
-        0,
-        0,
-        0,
-    ];
-    let mut bytes = [b'A', 9];
-    let mut ends = [1u32, 9];
-    let apart = mapping(7, 8, b'B');
-    let room = mapping::mapping::on_record(&mut table, 1, &mut bytes, &mut ends, 1, 1, &apart);
-    let mut t = tried(tally, b"table full, list free", is_refused(room, 2));
-    t = tried(t, b"no name joined", bytes[1] == 9 && ends[1] == 9);
-    let mut one = [b'A'];
-    let mut one_end = [1u32];
-    let five = mapping::mapping::on_record(&mut table, 1, &mut one, &mut one_end, 1, 1, &apart);
-    t = tried(t, b"table full, list full", is_refused(five, 5));
-    let back = mapping(9, 5, b'B');
-    let first = mapping::mapping::on_record(&mut table, 1, &mut one, &mut one_end, 1, 1, &back);
-    t = tried(t, b"start after end, list full", is_refused(first, 1));
-    let level = mapping(5, 5, b'B');
-    let done = mapping::mapping::on_record(&mut table, 1, &mut one, &mut one_end, 1, 1, &level);
-    t = tried(t, b"start = end, list full", is_done(done, 1, 1, 1));
-    let joined = mapping(5, 9, b'A');
-    let longer = mapping::mapping::on_record(&mut table, 1, &mut one, &mut one_end, 1, 1, &joined);
-    tried(
-        t,
-        b"an old name joins two intervals",
-        is_done(longer, 1, 1, 1) && table[16] == 9,
-    )
-}
-
-// A point-in-time table of one entry.
-fn on_point(tally: Tally) -> Tally {
-    let mut table = [9u8; 8];
-    let mut bytes = [9u8; 2];
-    let mut ends = [9u32; 2];
-    let back = mapping(9, 5, b'A');
-    let first = mapping::mapping::on_record_point(
-        &mut table,
-        0,
-        &mut bytes,
-        &mut ends,
-        0,
-        0,
-        &back,
-    );
-    let mut t = tried(
-        tally,
-        b"point-in-time: both times ignored",
-        is_done(first, 1, 1, 1),
-    );
-    let next = mapping(5, 5, b'B');
-    let full = mapping::mapping::on_record_point(
-        &mut table,
-        1,
-        &mut bytes,
-        &mut ends,
-        1,
-        1,
-        &next,
-    );
-    t = tried(
-        t,
-        b"point-in-time: full, known instrument",
-        is_done(full, 1, 2, 2),
-    );
-    t = tried(
-        t,
-        b"point-in-time: the entry",
-        table[0] == INSTRUMENT && table[4] == 1,
-    );
-    let other = [16, 0, 3, 0, INSTRUMENT, 0, 0, 0, 0, 0, 0, 0, 0, 0, 0, 0];
-    let kind = mapping::mapping::on_record_point(
-        &mut table,
-        1,
-        &mut bytes,
-        &mut ends,
-        2,
-        2,
-        &other,
-    );
-    t = tried(t, b"point-in-time: another kind", is_done(kind, 1, 2, 2));
-    let ill = mapping::mapping::on_record_point(
-        &mut table,
-        1,
-        &mut bytes,
-        &mut ends,
-        1,
-        1,
-        &other,
-    );
-    tried(
-        t,
-        b"another kind, an unknown symbol in the table",
-        is_refused(ill, 14),
-    )
-}
-
-// Runs the cases of the mapping call and prints the group's line.
-pub fn run() {
-    let start = Tally { cases: 0, wrong: 0 };
-    let t = on_point(on_full(on_empty(start)));
-    cases::print_group(b"mapping calls", t.cases, t.wrong);
+// A line `TABLE USED NAMES SIZE BYTES ENDS RECORD = NUMBER USED TABLE NAMES SIZE BYTES ENDS`.
+pub fn on_record(text: &[u8], at: usize, over_time: bool) -> bool {
+    let mut table = room();
+    let lent = cases::bytes_at(text, at, &mut table);
+    let n = lent.count;
+    on_table(text, lent.next, over_time, &mut table[..n])
 }

@@ -1,9 +1,9 @@
 -- Intervals and mappings laid in words. Assumes nothing.
-use mathlib.Core.Path.{_≡_, refl, sym, ap, _∙_, subst}
+use mathlib.Core.Path.{_≡_, refl, sym, ap, _∙_}
 use Prim.Native.Nat.{ℕ, zero, suc, _+_, _-_, _*_, _≤_, _<_}
 use native.Mathlib.Omega.{arith}
 use mathlib.Core.List.{List, [], _∷_, _++_, append-assoc}
-use lib.ListN.{length, getD, set, length-set, length-append}
+use lib.ListN.{length, set, length-set, length-append}
 use lib.Seq.{set-at}
 use Rattle.merging.specs.declared.Interval.{Interval}
 use Rattle.merging.specs.Words.{intervalAt, stretch, wordsOf}
@@ -97,7 +97,3 @@ lay-words (x ∷ xs) p (a ∷ b ∷ c ∷ w) r k h n =
     (put-words p (w ++ r) a b c k x h ∙ sym (append-assoc p (x .start ∷ x .end ∷ x .symbol ∷ []) (w ++ r)))
     ∙ lay-words xs (p ++ x .start ∷ x .end ∷ x .symbol ∷ []) w r (k + 1) (simp length-append (omega arith)) (omega arith)
     ∙ append-assoc p (x .start ∷ x .end ∷ x .symbol ∷ []) (wordsOf xs ++ r)
-
--- laid from the start: the intervals' words, then the rest as it was
-pub laid-words : (xs : List Interval) (w r : List ℕ) → length w ≡ 3 * length xs → lay (w ++ r) 0 xs ≡ wordsOf xs ++ r
-laid-words xs w r n = lay-words xs [] w r 0 (omega arith) n

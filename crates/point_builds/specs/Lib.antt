@@ -1,0 +1,7 @@
+pub mod Counted
+pub mod Entry
+pub mod Mappings
+pub mod Begin
+pub mod Build
+pub mod BuildLaws
+pub mod Examples
