@@ -106,6 +106,10 @@ module _ {n : ℕ} {hints ms ts cs hs hp : List ℕ} (few : n ≤ 256) (given : 
   unfolding markAt
   mark-none q h l = laid q l .mark ∙ simp (le-ltb q n h)
 
+  number-none : (q : ℕ) → n ≤ q → q < 256 → getD hp q 0 ≡ 0
+  unfolding numberAt
+  number-none q h l = laid q l .number ∙ simp (le-ltb q n h)
+
   held : Holds n ms hp n
   held = record {
     who = λ p h. (omega (arith, number-is p h), rw (number-is p h) (λ e. let k : getD ms p 0 ≡ 1 = mark-is p h in omega arith));
@@ -123,7 +127,7 @@ module _ {n : ℕ} {hints ms ts cs hs hp : List ℕ} (few : n ≤ 256) (given : 
           heaped = record { holds = holds-moved held (x .moved); heap = x .order };
         };
         places = λ q h. (laid q h .place, laid q h .head);
-        unused = λ q h l. (mark-none q h l, laid q l .time ∙ List·getD-eq-default hints 0 (omega arith));
+        unused = λ q h l. (mark-none q h l, laid q l .time ∙ List·getD-eq-default hints 0 (omega arith), x .moved .behind q h ∙ number-none q h l);
       }
 
 -- ---- the tests

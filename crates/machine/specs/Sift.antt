@@ -12,18 +12,19 @@ use Rattle.machine.specs.Heap.{at, over, swap, swap-left, swap-right, sw
 abbrev pub keys : List ℕ → ℕ → ℕ
 keys ts p = getD ts p 0
 
--- ---- hq holds what hp holds, in another order
+-- ---- the first n places of hq hold what those of hp hold, in another order; the places behind them are as they were
 
 pub record Moved (n : ℕ) (hp hq : List ℕ) : Type 0 where
   pub to : (x : ℕ) → x < n → (y : ℕ) × (y < n) × (at hq y ≡ at hp x)
   pub from : (y : ℕ) → y < n → (x : ℕ) × (x < n) × (at hp x ≡ at hq y)
   pub once : ((x y : ℕ) → x < n → y < n → at hp x ≡ at hp y → x ≡ y) → (x y : ℕ) → x < n → y < n → at hq x ≡ at hq y → x ≡ y
+  pub behind : (x : ℕ) → n ≤ x → at hq x ≡ at hp x
 
 pub moved-refl : (n : ℕ) (hp : List ℕ) → Moved n hp hp
-moved-refl n hp = record { to = λ x h. (x, h, refl); from = λ x h. (x, h, refl); once = λ f. f }
+moved-refl n hp = record { to = λ x h. (x, h, refl); from = λ x h. (x, h, refl); once = λ f. f; behind = λ x h. refl }
 
 pub moved-trans : {n : ℕ} {hp hq hr : List ℕ} → Moved n hp hq → Moved n hq hr → Moved n hp hr
-moved-trans {n} {hp} {hq} {hr} a b = record { to = to'; from = from'; once = λ f. b .once (a .once f) }
+moved-trans {n} {hp} {hq} {hr} a b = record { to = to'; from = from'; once = λ f. b .once (a .once f); behind = λ x h. b .behind x h ∙ a .behind x h }
   where
     to' : (x : ℕ) → x < n → (y : ℕ) × (y < n) × (at hr y ≡ at hp x)
     to' x h =
@@ -60,6 +61,7 @@ module _ (hp : List ℕ) (n i m : ℕ) (hn : n ≤ length hp) (hi : i < n) (hm :
             let v = goes y hy in
             let w : u .0 ≡ v .0 = f (u .0) (v .0) (u .1) (v .1) (sym (u .2) ∙ e ∙ v .2) in
             fin x y hx hy (u .0) (v .0) w (u .3) (v .3) (ℕ-discrete x i) (ℕ-discrete x m) (ℕ-discrete y i) (ℕ-discrete y m);
+        behind = λ x h. swap-other hp i m (omega arith) (omega arith) x (λ e. omega arith) (λ e. omega arith);
       }
     where
       Rule : ℕ → ℕ → Type 0

@@ -96,4 +96,4 @@ pub record Opened (n : ℕ) (hints ms ts cs hs hp : List ℕ) : Type 0 where
   pub starts : statusesOf n ms ts cs hs ≡ start (padded n hints)
   pub sound : StateOk n n ms ts cs hs hp
   pub places : (q : ℕ) → q < 256 → (getD cs q 0 ≡ 0) × (getD hs q 0 ≡ 0)
-  pub unused : (q : ℕ) → n ≤ q → q < 256 → (getD ms q 0 ≡ 0) × (getD ts q 0 ≡ 0)
+  pub unused : (q : ℕ) → n ≤ q → q < 256 → (getD ms q 0 ≡ 0) × (getD ts q 0 ≡ 0) × (getD hp q 0 ≡ 0)

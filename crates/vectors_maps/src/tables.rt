@@ -2,6 +2,7 @@
 use maps::insert::Inserted;
 use maps::interval::Interval;
 use maps::lookup::Found;
+use maps::lookup::Looked;
 use maps::table::Checked;
 ghost use mathlib.Core.Path.{_≡_};
 ghost use lib.ListN.{length};
@@ -132,15 +133,8 @@ fn lookup_at(text: &[u8], at: usize) -> Lookup {
     }
 }
 
-// Whether the lookup answers as expected.
-fn looks(table: &[u8], asked: Lookup) -> bool {
-    let looked = maps::lookup::get_for_ts(
-        table,
-        asked.used,
-        asked.instrument,
-        asked.moment,
-        asked.hint,
-    );
+// Whether a lookup answered as expected.
+fn is_expected(looked: Looked, asked: Lookup) -> bool {
     if looked.hint != asked.hint_after {
         return false;
     }
@@ -150,6 +144,25 @@ fn looks(table: &[u8], asked: Lookup) -> bool {
         Found::Nothing => asked.number == 0 && asked.found == 0,
         Found::Refused(r) => asked.number == leaves::refusal::number(r) as u64,
     }
+}
+
+// Whether the lookup answers as expected, and so a cursor with the same hint.
+fn looks(table: &[u8], asked: Lookup) -> bool {
+    let looked = maps::lookup::get_for_ts(
+        table,
+        asked.used,
+        asked.instrument,
+        asked.moment,
+        asked.hint,
+    );
+    let followed = maps::cursor::follow_once(
+        table,
+        asked.used,
+        asked.instrument,
+        asked.moment,
+        asked.hint,
+    );
+    is_expected(looked, asked) && is_expected(followed, asked)
 }
 
 // A line `TABLE USED INSTRUMENT MOMENT HINT = NUMBER FOUND SYMBOL HINT`.

@@ -1,0 +1,5 @@
+pub mod Leaves
+pub mod Maps
+pub mod Metadata
+pub mod Builds
+pub mod Held
