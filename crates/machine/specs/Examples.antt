@@ -1,4 +1,4 @@
--- Runs of the machine by computation: the printed replay example, M12, and the traps of the merge.
+-- Runs of the machine by computation: the printed replay example and the traps of the merge.
 use mathlib.Core.Path.{_≡_, refl}
 use Prim.Native.Nat.{ℕ}
 use mathlib.Core.List.{List, [], _∷_, _++_}
@@ -30,11 +30,6 @@ replay = refl
 pub replay-cut : run (streamsOf (short 5 ++ (1 ∷ 2 ∷ 3 ∷ []) ++ short 6) (0 ∷ 19 ∷ 35 ∷ [])) (0 ∷ 0 ∷ []) ≡ out 0 0 5 ∷ says 0 (damage-at 16 1) ∷ out 1 0 6 ∷ end ∷ []
 unfolding run streamsOf frameAt short out field
 replay-cut = refl
-
--- M12: streams with times 5,5 and 5,4: stream 0, 0, 1, 1
-pub m12 : run (streams ((short 5 ++ short 5) ∷ (short 5 ++ short 4) ∷ [])) (0 ∷ 0 ∷ []) ≡ out 0 0 5 ∷ out 0 16 5 ∷ out 1 0 5 ∷ out 1 16 4 ∷ end ∷ []
-unfolding run streams bytesOf frameAt short out field
-m12 = refl
 
 -- a record of time 0 comes before the damage of stream 1; of time 5 after it, and it is not lost
 pub damage-first : (run (streams (short 0 ∷ (1 ∷ 2 ∷ 3 ∷ []) ∷ [])) (0 ∷ 0 ∷ []) ≡ out 0 0 0 ∷ says 1 (damage-at 0 1) ∷ end ∷ [])

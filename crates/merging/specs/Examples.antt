@@ -1,4 +1,4 @@
--- Document 01's examples of the walk and the merge, and traps beside them, computed by the definitions.
+-- Traps of the walk and the merge, computed by the definitions.
 use mathlib.Core.Path.{_≡_, refl}
 use Prim.Native.Nat.{ℕ}
 use mathlib.Core.Bool.{false}
@@ -11,14 +11,6 @@ use Rattle.merging.specs.Metadata.{Mapping, mapping, Metadata, Fields, R
 
 abbrev i : ℕ → ℕ → ℕ → Interval
 i a b s = interval a b s
-
-m10 : walk (i 1 10 0 ∷ []) (i 1 5 0 ∷ i 5 10 0 ∷ []) ≡ laid (i 1 10 0 ∷ i 5 10 0 ∷ [])
-unfolding walk
-m10 = refl
-
-m11 : walk (i 1 5 0 ∷ []) (i 1 5 1 ∷ []) ≡ conflict
-unfolding walk
-m11 = refl
 
 -- intervals that touch are not joined
 touch : walk (i 1 5 0 ∷ []) (i 5 10 0 ∷ []) ≡ laid (i 1 5 0 ∷ i 5 10 0 ∷ [])

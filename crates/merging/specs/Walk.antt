@@ -19,7 +19,7 @@ pub data Walked : Type 0 where
 unfoldable pub sameDates : Interval → Interval → Bool
 sameDates a b = eqb (a .start) (b .start) && eqb (a .end) (b .end)
 
--- how the two heads ordering
+-- how the two heads lie
 unfoldable pub ordering : Interval → Interval → IntervalOrdering
 unfolding sameDates
 ordering a b =
@@ -41,7 +41,7 @@ unfoldable pub agreed : Interval → Interval → Interval → Walked → Walked
 unfolding out
 agreed a b x rest = cond (eqb (a .symbol) (b .symbol)) (out x rest) conflict
 
--- the heads a and b ordering so; the rest of the walk where both, only a, or only b is consumed
+-- the heads a and b lie so; the rest of the walk where both, only a, or only b is consumed
 unfoldable pub heads : Interval → Interval → IntervalOrdering → Walked → Walked → Walked → Walked
 unfolding out agreed joined
 heads a b Equal both past-a past-b = agreed a b a both
