@@ -747,6 +747,116 @@ static void test_metadata_limits(void) {
     DONE(finish_side(m));
 }
 
+/* ---- Builds. */
+
+enum { NO_NAME, FIVE, A, B, X, UNKNOWN, BUILD_NAMES = UNKNOWN }; /* names: empty, `5`, `A`, `B`, `x`; the next was never handed out */
+static const uint8_t build_bytes[] = {'5', 'A', 'B', 'x'};
+static const uint32_t build_ends[BUILD_NAMES] = {0, 1, 2, 3, 4};
+
+/* What a build reads, and the table that it is lent. */
+struct plan {
+    uint64_t header[DESK_HEADER_WORDS];
+    uint32_t mappings[4], intervals[9];
+    size_t header_len, mappings_len, intervals_len, names, size, table_len, points_len;
+    uint32_t date;
+};
+
+/* A:[D1,D2) to 5, then B:[D2,D3) to 5 and [D3,D4) to nothing, for the day D2. */
+static struct plan forward(void) {
+    struct plan p = {{0}, {A, 1, B, 2}, {D1, D2, FIVE, D2, D3, FIVE, D3, D4, NO_NAME}, DESK_HEADER_WORDS, 4, 9, BUILD_NAMES, 4, whole,
+                     POINTS * DESK_POINT_BYTES, D2};
+    begin();
+    put_header(p.header, 0, 0, 0, 2);
+    return p;
+}
+
+static uint32_t build(struct plan p) {
+    return desk_build(d.table, p.table_len, &d.used, p.header, p.header_len, d.list[0], 0, d.list[1], 0, d.list[2], 0, p.mappings,
+                      p.mappings_len, p.intervals, p.intervals_len, build_bytes, sizeof build_bytes, build_ends, BUILD_NAMES,
+                      p.names, p.size);
+}
+
+static uint32_t build_points(struct plan p) {
+    return desk_build_points(d.points, p.points_len, &d.points_used, p.header, p.header_len, d.list[0], 0, d.list[1], 0, d.list[2],
+                             0, p.mappings, p.mappings_len, p.intervals, p.intervals_len, build_bytes, sizeof build_bytes,
+                             build_ends, BUILD_NAMES, p.names, p.size, p.date);
+}
+
+/* Both builds, or one of them, answer the number and leave an empty table, every byte 0, and all else as it was. */
+static void builds_refuse(uint32_t number, struct plan p, int over_time, int points, int line) {
+    begin();
+    d.used = d.points_used = 77;
+    was = d;
+    if (over_time) {
+        is(build(p) == number, "the build's number", line);
+        memset(was.table, 0, p.table_len);
+        was.used = 0;
+    }
+    if (points) {
+        is(build_points(p) == number, "the point-in-time build's number", line);
+        memset(was.points, 0, p.points_len);
+        was.points_used = 0;
+    }
+    is(memcmp(&d, &was, sizeof d) == 0, "a refused build leaves an empty table and all else", line);
+}
+#define BUILDS_REFUSE(number, over_time, points, change) \
+    do {                                                 \
+        struct plan p = forward();                       \
+        change;                                          \
+        builds_refuse(number, p, over_time, points, __LINE__); \
+    } while (0)
+
+static void test_builds(void) {
+    const uint64_t day = UINT64_C(86400000000000), first = 19781; /* D1 */
+    struct plan p = forward();
+    DONE(build(p));
+    IS(d.used == 2 && interval_is(0, 5, A, first * day, (first + 1) * day) && interval_is(1, 5, B, (first + 1) * day, (first + 2) * day));
+    IS(all(d.table + 48, whole - 48, 0) && all(d.table + whole, sizeof d.table - whole, 0xA5));
+    DONE(build_points(p));
+    IS(d.points_used == 1 && all(d.points + 8, p.points_len - 8, 0) && all(d.points + p.points_len, sizeof d.points - p.points_len, 0xA5));
+    d.found = d.symbol = 77;
+    DONE(desk_get_point(d.points, p.points_len, d.points_used, 5, &d.found, &d.symbol));
+    IS(d.found == 1 && d.symbol == B);
+
+    p.header[DESK_STYPE_IN] = 0, p.header[DESK_STYPE_OUT] = 1; /* the other way round */
+    p.header[DESK_MAPPINGS_USED] = 1, p.mappings[0] = FIVE, p.intervals[2] = A;
+    DONE(build(p));
+    IS(d.used == 1 && interval_is(0, 5, A, first * day, (first + 1) * day) && all(d.table + 24, whole - 24, 0));
+    p.date = D1;
+    DONE(build_points(p));
+    IS(d.points_used == 1);
+    p.date = D2; /* nothing covers it */
+    DONE(build_points(p));
+    IS(d.points_used == 0 && all(d.points, p.points_len, 0));
+
+    BUILDS_REFUSE(DESK_BAD_MEMORY, 1, 0, p.table_len = whole - 1);
+    BUILDS_REFUSE(DESK_BAD_MEMORY, 1, 0, p.table_len = whole + 1);
+    BUILDS_REFUSE(DESK_BAD_MEMORY, 0, 1, p.points_len--);
+    BUILDS_REFUSE(DESK_BAD_MEMORY, 0, 1, p.points_len++);
+    BUILDS_REFUSE(DESK_BAD_MEMORY, 1, 1, p.header_len--);
+    BUILDS_REFUSE(DESK_BAD_MEMORY, 1, 1, p.header[DESK_VERSION] = 256);
+    BUILDS_REFUSE(DESK_BAD_MEMORY, 1, 1, p.header[DESK_MAPPINGS_USED] = 3);
+    BUILDS_REFUSE(DESK_BAD_MEMORY, 1, 1, p.intervals_len = 6);
+    BUILDS_REFUSE(DESK_BAD_MEMORY, 1, 1, p.intervals_len = 8);
+    BUILDS_REFUSE(DESK_BAD_MEMORY, 1, 1, p.mappings_len = 3);
+    BUILDS_REFUSE(DESK_BAD_MEMORY, 1, 1, p.names = BUILD_NAMES + 1);
+    BUILDS_REFUSE(DESK_BAD_MEMORY, 1, 1, p.size = sizeof build_bytes + 1);
+    BUILDS_REFUSE(DESK_ILL_FORMED, 1, 1, p.size = sizeof build_bytes - 1; p.header[DESK_STYPE_OUT] = 1; p.date = 0);
+    BUILDS_REFUSE(DESK_NO_INSTRUMENT_ID, 1, 1, p.header[DESK_STYPE_OUT] = 1; p.intervals[2] = UNKNOWN);
+    BUILDS_REFUSE(DESK_UNKNOWN_SYMBOL, 1, 0, p.intervals[5] = UNKNOWN; p.intervals[4] = 0);
+    BUILDS_REFUSE(DESK_UNKNOWN_SYMBOL, 0, 1, p.intervals[5] = UNKNOWN; p.mappings[2] = UNKNOWN);
+    BUILDS_REFUSE(DESK_UNKNOWN_SYMBOL, 1, 1, p.mappings[2] = UNKNOWN);
+    BUILDS_REFUSE(DESK_NOT_NUMBER, 1, 0, p.intervals[5] = X; p.intervals[4] = 0);
+    BUILDS_REFUSE(DESK_NOT_NUMBER, 0, 1, p.intervals[5] = X);
+    BUILDS_REFUSE(DESK_NO_DATE, 1, 1, p.intervals[3] = 20230229);
+    BUILDS_REFUSE(DESK_NO_DATE, 0, 1, p.date = 20230229; p.header[DESK_STYPE_OUT] = 1);
+    BUILDS_REFUSE(DESK_REVERSED, 1, 0, p.intervals[4] = D1; p.table_len = 24);
+    BUILDS_REFUSE(DESK_NO_ROOM, 1, 0, p.table_len = 24);
+    BUILDS_REFUSE(DESK_NO_ROOM, 0, 1, p.points_len = 0);
+    BUILDS_REFUSE(DESK_OUTSIDE_QUERY, 0, 1, p.header[DESK_START] = (first + 2) * day; p.intervals[3] = 0);
+    BUILDS_REFUSE(DESK_OUTSIDE_QUERY, 0, 1, p.header[DESK_END] = (first + 1) * day);
+}
+
 int main(void) {
     test_check();
     test_limits();
@@ -762,6 +872,7 @@ int main(void) {
     test_metadata_merge();
     test_metadata_refusals();
     test_metadata_limits();
+    test_builds();
     printf("%u tried, %u failed\n", tried, failed);
     return failed != 0;
 }
