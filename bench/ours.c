@@ -203,6 +203,32 @@ static void merges(uint64_t steps, uint32_t first, uint32_t from, uint32_t to) {
     }
 }
 
+/* Mappings one after the other in the order of their instruments, or scattered; built over time, or for a day that each covers. */
+static void builds(uint64_t steps, uint32_t mappings, int scattered, int on_day) {
+    struct metadata *m = room(sizeof *m);
+    uint8_t *bytes = room(DESK_NAME_LIST_BYTES);
+    uint32_t *ends = room(mappings * sizeof *ends), size = 0;
+    lay_metadata(m, 0, mappings);
+    for (uint32_t i = 0; i < mappings; i++) {
+        size += (uint32_t)sprintf((char *)bytes + size, "%u", instrument(i));
+        ends[i] = size;
+    }
+    for (uint32_t i = 0; scattered && i < mappings; i++) { /* 1553 is odd: every number once */
+        uint32_t name = i * 1553 % mappings;
+        m->mappings[DESK_MAPPING_WORDS * i] = name;
+        for (uint32_t k = 0; k < 16; k++) m->intervals[DESK_INTERVAL_WORDS * (16 * i + k) + 2] = name;
+    }
+    table_len = mappings * 16 * DESK_INTERVAL_BYTES;
+    table = room(table_len);
+    for (uint64_t i = 0; i < steps; i++) {
+        uint32_t answer = on_day ? desk_build_points(table, mappings * DESK_POINT_BYTES, &used, LISTS(m), bytes, size, ends, mappings,
+                                                     mappings, size, 20200301)
+                                 : desk_build(table, table_len, &used, LISTS(m), bytes, size, ends, mappings, mappings, size);
+        if (answer != DESK_DONE) stop("a build was refused");
+        digest += used;
+    }
+}
+
 /* ---- UTF-8. */
 
 /* Names of the greatest length, their characters drawn among those of `least` to `most` bytes. */
@@ -237,6 +263,10 @@ int main(int words, char **word) {
     else if (!strcmp(row, "merge-256") || !strcmp(row, "ready-256")) records(steps, 200000, 256);
     else if (!strcmp(row, "metadata-copy")) merges(steps, 4096, 0, 4096);
     else if (!strcmp(row, "metadata-apart")) merges(steps, 2048, 2048, 4096);
+    else if (!strcmp(row, "build")) builds(steps, 4096, 0, 0);
+    else if (!strcmp(row, "build-scattered")) builds(steps, 4096, 1, 0);
+    else if (!strcmp(row, "build-day")) builds(steps, 4096, 0, 1);
+    else if (!strcmp(row, "build-day-scattered")) builds(steps, 4096, 1, 1);
     else if (!strcmp(row, "utf8-ascii")) names(steps, 1, 1);
     else if (!strcmp(row, "utf8-two")) names(steps, 2, 2);
     else if (!strcmp(row, "utf8-mixed")) names(steps, 1, 4);

@@ -245,6 +245,24 @@ fn merges(steps: usize, first: Metadata, added: Metadata) -> u64 {
     merged.map(|merged| size(&merged)).sum()
 }
 
+/// Mappings one after the other in the order of their instruments, or scattered.
+fn ordered(mappings: u64, scattered: bool) -> Metadata {
+    let mut metadata = metadata(0, mappings);
+    if scattered {
+        metadata.mappings = (0..mappings).map(|i| metadata.mappings[(i * 1553 % mappings) as usize].clone()).collect();
+    }
+    metadata
+}
+
+fn builds(steps: u64, metadata: Metadata) -> u64 {
+    (0..steps).map(|_| ManuallyDrop::new(metadata.symbol_map().expect("a build")).len() as u64).sum()
+}
+
+fn day_builds(steps: u64, metadata: Metadata) -> u64 {
+    let day = Date::from_calendar_date(2020, Month::March, 1).unwrap();
+    (0..steps).map(|_| ManuallyDrop::new(metadata.symbol_map_for_date(day).expect("a build")).len() as u64).sum()
+}
+
 fn main() {
     let words: Vec<String> = env::args().collect();
     let [_, row, steps] = words.as_slice() else {
@@ -269,6 +287,10 @@ fn main() {
         "ready-256" => records(steps, streams(drawn, 200_000, 256), ready),
         "metadata-copy" => merges(steps as usize, metadata(0, 4096), metadata(0, 4096)),
         "metadata-apart" => merges(steps as usize, metadata(0, 2048), metadata(2048, 4096)),
+        "build" => builds(steps, ordered(4096, false)),
+        "build-scattered" => builds(steps, ordered(4096, true)),
+        "build-day" => day_builds(steps, ordered(4096, false)),
+        "build-day-scattered" => day_builds(steps, ordered(4096, true)),
         "utf8-ascii" => names(drawn, steps as usize, 1, 1),
         "utf8-two" => names(drawn, steps as usize, 2, 2),
         "utf8-mixed" => names(drawn, steps as usize, 1, 4),
