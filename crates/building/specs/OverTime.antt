@@ -17,7 +17,7 @@ use Rattle.building.specs.declared.reading.Direction.the-variants.{Forwa
 pub data Step (X : Type 0) : Type 0 where
   stop : ℕ → Step X
   skip : Step X
-  set : X → Step X
+  give : X → Step X
 
 -- a reading that comes before the step
 unfoldable pub reading : {X Y : Type 0} → Read X → (X → Step Y) → Step Y
@@ -34,7 +34,7 @@ unfoldable pub dated : ℕ → ℕ → Interval → Step (Row ℕ)
 unfolding reading momentIn
 dated instrument symbol x =
     reading (momentIn (x .start)) (λ a.
-    reading (momentIn (x .end)) (λ b. set (record { instrument = instrument; start = a; end = b; value = symbol })))
+    reading (momentIn (x .end)) (λ b. give (record { instrument = instrument; start = a; end = b; value = symbol })))
 
 -- the interval's symbol is the number and the mapping's name the symbol: 3, the skip, 8, 11, 11
 unfoldable pub forwardStep : List (List ℕ) → ℕ → Interval → Step (Row ℕ)
@@ -50,7 +50,7 @@ inverseStep texts instrument x = reading (textOf texts (x .symbol)) (λ text. un
 unfoldable pub taken : ℕ → ℕ → Step (Row ℕ) → List (Row ℕ) → Outcome (Row ℕ)
 taken names room (stop c) rows = refusedBy c
 taken names room skip rows = stored rows
-taken names room (set n) rows = entered sameValue knownValue names room n rows
+taken names room (give n) rows = entered sameValue knownValue names room n rows
 
 -- what a build comes to: a fault with its refusal's number, met at a mapping and an interval of it, or the entries
 pub data Build (X : Type 0) : Type 0 where

@@ -21,7 +21,7 @@ use Rattle.merging.specs.Metadata.{Mapping, Metadata}
 use Rattle.building.specs.Reading.{Read, fault, value, andThen, textOf, numberIn, directionOf}
 use Rattle.building.specs.declared.reading.Direction.{Direction}
 use Rattle.building.specs.declared.reading.Direction.the-variants.{Forward, Inverse}
-use Rattle.building.specs.OverTime.{Step, stop, skip, set, forwardStep, inverseStep, taken, Build, stopped, built, onward, further, layIntervals, layRead, layMapping, layMappings, directed, overTime}
+use Rattle.building.specs.OverTime.{Step, stop, skip, give, forwardStep, inverseStep, taken, Build, stopped, built, onward, further, layIntervals, layRead, layMapping, layMappings, directed, overTime}
 
 -- ---- the inserts that a build asks for, the latest first
 
@@ -29,7 +29,7 @@ use Rattle.building.specs.OverTime.{Step, stop, skip, set, forwardStep, 
 unfoldable pub asks : Step (Row ℕ) → List (Row ℕ) → List (Row ℕ)
 asks (stop c) ns = ns
 asks skip ns = ns
-asks (set n) ns = n ∷ ns
+asks (give n) ns = n ∷ ns
 
 -- the intervals of a mapping
 unfoldable pub intervalsAsk : (Interval → Step (Row ℕ)) → List Interval → List (Row ℕ) → List (Row ℕ)
@@ -116,7 +116,7 @@ module _ (names room : ℕ) (few : names ≤ 4096) (small : room ≤ 65536) wher
   unfolding taken asks
   comes-taken (stop k) ns ys zs c e = absurd (let z : _≡_ {A = ℕ} 0 1 = cc in omega arith)
   comes-taken skip ns ys zs c e = let d : ys ≡ zs = cc in subst (Comes names room ns) d c
-  comes-taken (set n) ns ys zs c e = comes-entered n ns ys zs c e
+  comes-taken (give n) ns ys zs c e = comes-entered n ns ys zs c e
 
   comes-intervals : (step : Interval → Step (Row ℕ)) (t k : ℕ) (xs : List Interval) (ns ys zs : List (Row ℕ)) → Comes names room ns ys
       → layIntervals names room step t k xs ys ≡ built zs → Comes names room (intervalsAsk step xs ns) zs

@@ -24,7 +24,7 @@ use Rattle.building.specs.Reading.{Read, fault, value, andThen, readOf, 
 use Rattle.building.specs.declared.reading.Direction.{Direction}
 use Rattle.building.specs.declared.reading.Direction.the-variants.{Forward, Inverse}
 use Rattle.building.specs.declared.reading.Symbol.the-variants.{Unknown, Empty, Filled}
-use Rattle.building.specs.OverTime.{Step, stop, skip, set, reading, unlessEmpty, dated, forwardStep, inverseStep, taken, stopped, built, onward, further, layIntervals, layMapping, layMappings}
+use Rattle.building.specs.OverTime.{Step, stop, skip, give, reading, unlessEmpty, dated, forwardStep, inverseStep, taken, stopped, built, onward, further, layIntervals, layMapping, layMappings}
 
 -- ---- what stands under an interval's symbol
 
@@ -81,7 +81,7 @@ module _ (instrument symbol : ℕ) (x : Interval) where
 
   -- and else the row
   pub dated-row : {a b : ℕ} → momentIn (x .start) ≡ value a → momentIn (x .end) ≡ value b
-      → set (record { instrument = instrument; start = a; end = b; value = symbol }) ≡ dated instrument symbol x
+      → give (record { instrument = instrument; start = a; end = b; value = symbol }) ≡ dated instrument symbol x
   unfolding dated reading
   dated-row e d = rw (e, d) refl
 

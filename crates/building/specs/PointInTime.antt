@@ -13,7 +13,7 @@ use Rattle.merging.specs.Metadata.{Fields, Mapping, Metadata}
 use Rattle.building.specs.Reading.{Read, fault, value, andThen, textOf, numberIn, dayIn, dayLength, directionOf}
 use Rattle.building.specs.declared.reading.Direction.{Direction}
 use Rattle.building.specs.declared.reading.Direction.the-variants.{Forward, Inverse}
-use Rattle.building.specs.OverTime.{Step, stop, skip, set, reading, unlessEmpty, Build, stopped, built, onward}
+use Rattle.building.specs.OverTime.{Step, stop, skip, give, reading, unlessEmpty, Build, stopped, built, onward}
 
 -- which interval of a mapping counts for a day: a date before it that is none (11), none does, or the one of this number
 pub data Counted : Type 0 where
@@ -52,7 +52,7 @@ pointStep texts d name (counts k x) =
     reading (textOf texts (x .symbol)) (λ symbol.
     unlessEmpty symbol (
     reading (textOf texts name) (λ mapped.
-    reading (numberIn (numberSide d symbol mapped)) (λ i. set (entryOf d i (x .symbol) name)))))
+    reading (numberIn (numberSide d symbol mapped)) (λ i. give (entryOf d i (x .symbol) name)))))
 
 -- the interval's number that goes with a fault
 unfoldable pub placeOf : Counted → ℕ
@@ -65,7 +65,7 @@ unfoldable pub pointTaken : ℕ → Step Entry → List Entry → Outcome Entry
 unfolding ifRoom setEntry
 pointTaken room (stop c) es = refusedBy c
 pointTaken room skip es = stored es
-pointTaken room (set e) es = ifRoom room (setEntry e es)
+pointTaken room (give e) es = ifRoom room (setEntry e es)
 
 -- one mapping's outcome
 unfoldable pub pickMapping : ℕ → List (List ℕ) → Direction → ℕ → Mapping → List Entry → Outcome Entry

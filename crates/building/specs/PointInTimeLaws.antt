@@ -30,7 +30,7 @@ use Rattle.building.specs.Reading.{Read, fault, value, readOf, textOf, n
 use Rattle.building.specs.declared.reading.Direction.{Direction}
 use Rattle.building.specs.declared.reading.Direction.the-variants.{Forward, Inverse}
 use Rattle.building.specs.declared.reading.Symbol.the-variants.{Unknown, Empty, Filled}
-use Rattle.building.specs.OverTime.{Step, stop, skip, set as setTo, reading, unlessEmpty, Build, stopped, built, onward}
+use Rattle.building.specs.OverTime.{Step, stop, skip, give, reading, unlessEmpty, Build, stopped, built, onward}
 use Rattle.building.specs.PointInTime.{Counted, undated, none as noneCounts, counts, countsFrom, counting, numberSide, entryOf, pointStep, placeOf, pointTaken, pickMapping, pickMappings, outsideQuery, onDay, asked, pointInTime}
 
 -- ---- which interval counts
@@ -120,7 +120,7 @@ module _ (texts : List (List ℕ)) (n : ℕ) where
 -- the step once the mapping's name is read, and before it is
 unfoldable pub numberStep : Direction → ℕ → ℕ → List ℕ → List ℕ → Step Entry
 unfolding reading numberIn numberSide entryOf
-numberStep d name n symbol mapped = reading (numberIn (numberSide d symbol mapped)) (λ i. setTo (entryOf d i n name))
+numberStep d name n symbol mapped = reading (numberIn (numberSide d symbol mapped)) (λ i. give (entryOf d i n name))
 
 unfoldable pub nameStep : List (List ℕ) → Direction → ℕ → ℕ → List ℕ → Step Entry
 unfolding reading textOf numberStep
@@ -161,7 +161,7 @@ module _ (texts : List (List ℕ)) (d : Direction) (name n : ℕ) (symbol : List
 -- a number that was read, and the other side's name: the entry, or 8
 unfoldable pub numbered : ℕ → Read ℕ → Step Entry
 unfolding reading
-numbered v r = reading r (λ i. setTo (record { instrument = i; symbol = v }))
+numbered v r = reading r (λ i. give (record { instrument = i; symbol = v }))
 
 module _ (name n : ℕ) (symbol mapped : List ℕ) where
   pub forward-step : numberStep Forward name n symbol mapped ≡ numbered name (numberIn symbol)
@@ -209,11 +209,11 @@ module _ (room : ℕ) (es : List Entry) where
   unfolding pointTaken
   taken-skip = refl
 
-  pub taken-set : (e : Entry) → length (setEntry e es) ≤ room → pointTaken room (setTo e) es ≡ stored (setEntry e es)
+  pub taken-set : (e : Entry) → length (setEntry e es) ≤ room → pointTaken room (give e) es ≡ stored (setEntry e es)
   unfolding pointTaken ifRoom
   taken-set e h = rw (le-ltb room (length (setEntry e es)) h) refl
 
-  pub taken-full : (e : Entry) → room < length (setEntry e es) → pointTaken room (setTo e) es ≡ refusedBy 2
+  pub taken-full : (e : Entry) → room < length (setEntry e es) → pointTaken room (give e) es ≡ refusedBy 2
   unfolding pointTaken ifRoom
   taken-full e h = rw (lt-ltb room (length (setEntry e es)) h) refl
 
@@ -238,7 +238,7 @@ OutcomeSound room names (stored es) = Sorted room names es
 abbrev StepSound : ℕ → Step Entry → Type 0
 StepSound names (stop c) = T (pointRefusal c)
 StepSound names skip = Unit {0}
-StepSound names (setTo e) = e .symbol < names
+StepSound names (give e) = e .symbol < names
 
 -- a reading that meets no other refusal
 abbrev Only : {X : Type 0} → ℕ → Read X → Type 0
@@ -329,7 +329,7 @@ module _ (room names : ℕ) (es : List Entry) (w : Sorted room names es) where
   unfolding pointTaken ifRoom pointRefusal
   taken-sound (stop c) h = h
   taken-sound skip h = w
-  taken-sound (setTo e) h =
+  taken-sound (give e) h =
       ltb-case (OutcomeSound room names) room (length (setEntry e es)) _ _ (λ l. tt)
       (λ l. record { sorted = set-rising e es (w .sorted); known = set-known names e es h (w .known); fits = l })
 
@@ -368,7 +368,7 @@ point-sound room texts m date = go (dayIn date) (day-11 date)
 unfoldable pub onto : Step Entry → List Entry → List Entry
 onto (stop c) es = es
 onto skip es = es
-onto (setTo e) es = e ∷ es
+onto (give e) es = e ∷ es
 
 -- the entries that the mappings set, the latest first
 unfoldable pub settings : List (List ℕ) → Direction → ℕ → List Mapping → List Entry → List Entry
@@ -397,7 +397,7 @@ module _ (room : ℕ) (texts : List (List ℕ)) (d : Direction) (day : ℕ) wher
           → onward t place rest (pointTaken room s (after es)) ≡ built out → out ≡ after (settings texts d day ms (onto s es))
       go (stop c) f e = let z : _≡_ {A = ℕ} 0 1 = cc in absurd (omega arith)
       go skip f e = f es out e
-      go (setTo x) f e = roomy (ltb room (length (setEntry x (after es)))) x f e
+      go (give x) f e = roomy (ltb room (length (setEntry x (after es)))) x f e
 
 -- an instrument's symbol in the built table is that of the latest entry set for it, and one for which none was set has none
 pub point-latest : (room : ℕ) (texts : List (List ℕ)) (m : Metadata) (date : ℕ) {d : Direction} {day : ℕ} {es : List Entry}

@@ -14,7 +14,7 @@ use Rattle.tables.specs.Memory.{roomOf, badTable, written}
 use Rattle.form.specs.declared.header.Header.{Header}
 use Rattle.form.specs.declared.header.Lengths.{Lengths}
 use Rattle.form.specs.Header.{Lists, lengthsOf, metadataOf, sizedOf}
-use Rattle.building.specs.OverTime.{Step, stop, skip, set, forwardStep, inverseStep, Build, stopped, built, overTime, buildAnswer}
+use Rattle.building.specs.OverTime.{Step, stop, skip, give, forwardStep, inverseStep, Build, stopped, built, overTime, buildAnswer}
 use Rattle.builds.specs.declared.over_time.Built.{Built}
 use Rattle.builds.specs.declared.over_time.Built.the-variants.{Done, Refused}
 use Rattle.builds.specs.declared.over_time.Way.{Way}
@@ -41,7 +41,7 @@ usedOf (Refused r) = 0
 abbrev pub askedOf : Asked → Step (Row ℕ)
 askedOf (Refuse r) = stop (numberOf r)
 askedOf Nothing = skip
-askedOf (Insert n) = set (rowOf n)
+askedOf (Insert n) = give (rowOf n)
 
 -- the step of each interval of a mapping
 abbrev pub wayStep : List (List ℕ) → Way → Interval → Step (Row ℕ)

@@ -47,7 +47,7 @@ use Rattle.building.specs.declared.reading.Instrument.the-variants as instrumen
 use Rattle.building.specs.declared.reading.Heading.{Heading}
 use Rattle.building.specs.declared.reading.Heading.the-variants as heading
 use Rattle.building.specs.Reading.{Read, fault, andThen, textOf, numberIn, momentIn, directionBy, directionOf, symbolIn, headingRead, instrumentRead, momentRead}
-use Rattle.building.specs.OverTime.{Step, stop, skip, set, reading, dated, forwardStep, inverseStep, taken, Build, stopped, built, layIntervals, layRead, layMapping, layMappings, directed, overTime, buildAnswer}
+use Rattle.building.specs.OverTime.{Step, stop, skip, give, reading, dated, forwardStep, inverseStep, taken, Build, stopped, built, layIntervals, layRead, layMapping, layMappings, directed, overTime, buildAnswer}
 use Rattle.building.specs.OverTimeLaws.{unknown-stops, empty-skips, filled-known, filled-reads, dated-start, dated-end, dated-row, name-unknown, name-known, Plain, PlainStep, text-plain, number-plain, direction-plain, andThen-plain, forward-plain, inverse-plain, intervals-end, intervals-turn, intervals-stop, mappings-end, mappings-turn, mappings-stop, laid-blank, written-again}
 use Rattle.building.specs.OverTimeHistory.{insertsAsked, Demanded, built-demanded}
 use Rattle.builds.specs.declared.over_time.Built.{Built}
@@ -152,7 +152,7 @@ module _ (instrument symbol : ℕ) (x : Span) where
 
   pub insert-row : {r s : Moment} {a b : ℕ} → momentRead r ≡ momentIn (x .start) → r ≡ moment.Nanoseconds a
       → momentRead s ≡ momentIn (x .end) → s ≡ moment.Nanoseconds b
-      → set (record { instrument = instrument; start = a; end = b; value = symbol }) ≡ dated instrument symbol x
+      → give (record { instrument = instrument; start = a; end = b; value = symbol }) ≡ dated instrument symbol x
   insert-row e d f g = dated-row instrument symbol x (sym e ∙ ap momentRead d) (sym f ∙ ap momentRead g)
 
 module _ (texts : List (List ℕ)) (x : Span) where
@@ -232,7 +232,7 @@ module _ (names : ℕ) (texts : List (List ℕ)) (way : Way) (x : Span) (t : Lis
       → Took names (taken names (roomOf t) (wayStep texts way x) (rows t used)) (Done u) t′
   unfolding taken outcomeAnswer usedAfter nowStored
   took-insert {a} {n} {r} {u} t′ h l e d g f =
-      let s : step ≡ set (rowOf n) = sym e ∙ ap askedOf d in
+      let s : step ≡ give (rowOf n) = sym e ∙ ap askedOf d in
       rw s (go (entered sameValue knownValue names (roomOf t) (rowOf n) (rows t used)) refl (subst (λ (q : Inserted). Gives o t used (insertedOf q) t′) f g))
     where
       o : Outcome (Row ℕ)
@@ -255,7 +255,7 @@ module _ (names : ℕ) (texts : List (List ℕ)) (way : Way) (x : Span) (t : Lis
       → Took names (taken names (roomOf t) (wayStep texts way x) (rows t used)) (Refused why) t′
   unfolding taken
   took-full {a} {n} {r} {why} t′ e d g f =
-      let s : step ≡ set (rowOf n) = sym e ∙ ap askedOf d in
+      let s : step ≡ give (rowOf n) = sym e ∙ ap askedOf d in
       rw s (record { answers = sym (ap insertedOf f) ∙ g .answers; on = λ u j. absurd (let z : _≡_ {A = ℕ} 0 1 = cc in omega arith) })
 
 -- ---- a stretch that goes on, or stops

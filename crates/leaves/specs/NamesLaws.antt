@@ -9,8 +9,8 @@ use native.Mathlib.Numerals.{add-one}
 use borrow.Author.Tests.{lt-ltb, le-ltb, le-leb, lt-leb, eq-eqb, ne-eqb, leb-true, leb-false, eqb-true, ltb-true, ltb-false, not-true, not-false}
 use lib.Dec.{leb, ltb, eqb}
 use lib.ListN.{length, getD, set, take, drop}
-use lib.Seq.{slice, length-slice, paste, paste-suc, length-paste, getD-drop, getD-take, take-nil}
-use native.Mathlib.Nat.{add-zero, zero-add, sub-zero}
+use lib.Seq.{slice, length-slice, paste, paste-suc, length-paste, getD-drop, getD-take}
+use native.Mathlib.Nat.{add-zero, zero-add}
 use Rattle.leaves.specs.Utf8.{isUtf8}
 use Rattle.leaves.specs.Utf8Laws.{cut, none-left, whole}
 use Rattle.leaves.specs.Names.{startOf, endOf, nameOf, namesFrom, namesOf, isName, standFrom, wellFormed, memoryOk, same, least, hasRoom, numbering, naming, namingAnswer, written, bytesAfter, endsAfter}
@@ -409,19 +409,6 @@ unfolding written
 copied-length bytes text at from to k l =
     let e = length-slice from to text k in
     length-paste bytes at (slice from to text) (length (slice from to text)) (omega arith) (omega arith)
-
--- ---- a part of the lent bytes
-
--- a part as the code takes it is the stretch from s to before e
-pub part-is : (l : List ℕ) (s e : ℕ) → take (e - s) (drop s l) ≡ slice s e l
-part-is l zero e = rw (sub-zero e)
-part-is [] (suc s) e = rw (take-nil {A = ℕ} e, take-nil {A = ℕ} (e - suc s))
-part-is (x ∷ l) (suc s) zero =
-    let z : 0 - suc s ≡ 0 = omega arith in
-    rw z
-part-is (x ∷ l) (suc s) (suc e) =
-    let z : suc e - suc s ≡ e - s = omega arith in
-    rw z (part-is l s e)
 
 -- ---- the case of a valid name
 

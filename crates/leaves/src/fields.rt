@@ -35,15 +35,6 @@ pub fn u64_at(b: &[u8], at: usize) -> u64
     (u32_at(b, at) as u64) + (u32_at(b, at + 4) as u64) * 4294967296
 }
 
-// Puts the number v in the 2 bytes from `at` on.
-pub fn put_u16(b: &mut [u8], at: usize, v: u16)
-    requires { ⌜ at + 2 ≤ length (now b) ⌝ }
-    ensures { λ _. ⌜ now (b .exit) ≡ putField 2 (now (b .entry)) at v ⌝ }
-{
-    b[at] = (v % 256) as u8;
-    b[at + 1] = (v / 256 % 256) as u8;
-}
-
 // Puts the number v in the 4 bytes from `at` on.
 pub fn put_u32(b: &mut [u8], at: usize, v: u32)
     requires { ⌜ at + 4 ≤ length (now b) ⌝ }

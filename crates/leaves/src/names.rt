@@ -5,7 +5,7 @@ ghost use mathlib.Core.Bool.{true};
 ghost use Prim.Native.Nat.{_+_, _-_, _<_, _≤_};
 ghost use lib.ListN.{length, set};
 ghost use lib.Seq.{slice};
-ghost use Rattle.leaves.specs.Names.{startOf, endOf, nameOf, namesOf, isName, wellFormed, memoryOk, same, least, hasRoom, written, checkedOf, checkNames, naming, namedOf, namingAnswer, bytesAfter, endsAfter, placedOf, placeOfName};
+ghost use Rattle.leaves.specs.Names.{startOf, endOf, namesOf, isName, wellFormed, memoryOk, same, least, hasRoom, written, checkedOf, checkNames, naming, namedOf, namingAnswer, bytesAfter, endsAfter, placedOf, placeOfName};
 ghost use Rattle.leaves.specs.NamesLaws.{standing, Ordered};
 use crate::refusal::Refusal;
 use crate::utf8::is_utf8_within;
@@ -302,17 +302,6 @@ pub fn name_end(ends: &[u32], number: usize) -> usize
     ensures { λ r. ⌜ r ≡ endOf (now (ends .entry)) number ⌝ }
 {
     place(ends[number])
-}
-
-// The bytes of a known name.
-pub fn name_bytes<'a>(bytes: &'a [u8], ends: &[u32], names: usize, number: usize) -> &'a [u8]
-    requires { ⌜ Ordered (now bytes) (now ends) names ⌝ }
-    requires { ⌜ number < names ⌝ }
-    ensures { λ r. ⌜ now r ≡ nameOf (now (bytes .entry)) (now (ends .entry)) number ⌝ }
-{
-    let start = name_start(ends, number);
-    let end = name_end(ends, number);
-    &bytes[start..end]
 }
 
 // Where a name lies, its first byte and its end; or 15, 14, 3.

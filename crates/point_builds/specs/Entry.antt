@@ -17,7 +17,7 @@ use Rattle.building.specs.declared.reading.Symbol.{Symbol}
 use Rattle.building.specs.declared.reading.Symbol.the-variants.{Unknown, Empty, Filled}
 use Rattle.building.specs.Reading.{numberIn, symbolIn, instrumentRead}
 use Rattle.building.specs.ReadingLaws.{text-unknown, text-known}
-use Rattle.building.specs.OverTime.{Step, stop, skip, set, reading}
+use Rattle.building.specs.OverTime.{Step, stop, skip, give, reading}
 use Rattle.building.specs.PointInTime.{Counted, counts, pointStep}
 use Rattle.building.specs.PointInTimeLaws.{numbered, numberStep, nameStep, filled-text, step-unknown, step-empty, step-filled, name-unknown, name-known, forward-step, inverse-step}
 use Rattle.point_builds.specs.declared.counted.Covering.{Covering}
@@ -30,12 +30,12 @@ use Rattle.point_builds.specs.Counted.{countedOf}
 abbrev pub wantedOf : Wanted → Step Entry
 wantedOf (Refuse r) = stop (numberOf r)
 wantedOf Skip = skip
-wantedOf (Set x) = set x
+wantedOf (Set x) = give x
 
 -- ---- a number that was read
 
 module _ (symbol : ℕ) (x : Instrument) where
-  pub by-number : {i : ℕ} → x ≡ instrument.Number i → set (record { instrument = i; symbol = symbol }) ≡ numbered symbol (instrumentRead x)
+  pub by-number : {i : ℕ} → x ≡ instrument.Number i → give (record { instrument = i; symbol = symbol }) ≡ numbered symbol (instrumentRead x)
   unfolding numbered reading
   by-number h = sym (ap (λ (x : Instrument). numbered symbol (instrumentRead x)) h)
 

@@ -26,7 +26,7 @@ use Rattle.lay.specs.Link.{before-up}
 use Rattle.building.specs.declared.reading.Direction.{Direction}
 use Rattle.building.specs.Reading.{fault, value, readOf}
 use Rattle.building.specs.ReadingLaws.{refused-read}
-use Rattle.building.specs.OverTime.{set, Build, built, buildAnswer}
+use Rattle.building.specs.OverTime.{give, Build, built, buildAnswer}
 use Rattle.building.specs.PointInTime.{pointStep, counting, pointTaken, pickMapping, pickMappings}
 use Rattle.building.specs.PointInTimeLaws.{pick-end, pick-stored, pick-refused, pick-is, taken-stop, taken-skip, taken-set, taken-full, entries-over, set-longer}
 use Rattle.point_builds.specs.declared.entry.Wanted.{Wanted}
@@ -97,7 +97,7 @@ module _ (size : ℕ) (t : List ℕ) (used : ℕ) (clean : Clean size t used) (x
       × ((t′ ≡ cond b (putEntries t 0 out) t)
       × (entries t′ (cond b (length out) used) ≡ cond b out old))
 
-  took : (b : Bool) → leb (length out) (size / 8) ≡ b → (r : Stored) → Stored-so b (storedOf r) → Picked size (pointTaken (size / 8) (set x) old) r t′
+  took : (b : Bool) → leb (length out) (size / 8) ≡ b → (r : Stored) → Stored-so b (storedOf r) → Picked size (pointTaken (size / 8) (give x) old) r t′
   took true f (Done k) s =
       let l : length out ≤ size / 8 = leb-true (length out) (size / 8) f in
       let k-is : length out ≡ k = cc in (
