@@ -32,7 +32,7 @@ pub fn side(n: Interval, x: Interval) -> u8
 }
 
 // The first of the `used` places whose interval lies at or past the given side of n, where the table is in order.
-pub fn find(table: &[u8], used: usize, n: Interval, given: u8) -> usize
+fn search(table: &[u8], used: usize, n: Interval, given: u8) -> usize
     requires { ⌜ used * width ≤ length (now table) ⌝ }
     ensures { λ r. ⌜ Found (now (table .entry)) used (rowOf n) given r ⌝ }
 {
@@ -48,4 +48,19 @@ pub fn find(table: &[u8], used: usize, n: Interval, given: u8) -> usize
         }
     }
     lo
+}
+
+// The same; the last interval is looked at first, as a table that is built in order grows at its end.
+pub fn find(table: &[u8], used: usize, n: Interval, given: u8) -> usize
+    requires { ⌜ used * width ≤ length (now table) ⌝ }
+    ensures { λ r. ⌜ Found (now (table .entry)) used (rowOf n) given r ⌝ }
+{
+    if used == 0 {
+        return 0;
+    }
+    let last = crate::interval::interval_at(table, used - 1);
+    if side(n, last) < given {
+        return used;
+    }
+    search(table, used, n, given)
 }

@@ -1,6 +1,6 @@
 -- A binary search by the side of a row: before, touching or after another. What its two ends tell is, in an ordered table,
 -- where the table is cut (cuts). Assumes nothing.
-use mathlib.Core.Path.{_≡_, sym, ap, _∙_}
+use mathlib.Core.Path.{_≡_, sym, ap, _∙_, subst}
 use Prim.Native.Nat.{ℕ, _+_, _-_, _/_, _≤_, _<_}
 use native.Mathlib.Nat.{zero-add}
 use native.Mathlib.Decide.{decLe}
@@ -108,6 +108,15 @@ bracket-met {lo = lo} {hi = hi} b h = record {
   within = omega (arith, b .hi-le, b .lo-le);
   below = b .below;
   above = λ l. let e : lo ≡ hi = omega (arith, b .lo-le) in rw e (b .above (omega arith));
+}
+
+-- the last one in use lies before that side
+pub found-last : (t : List ℕ) (used : ℕ) (n : Row ℕ) (c : ℕ) {s : ℕ} (x : Row ℕ) → (used ≡ 0 → ⊥) → x ≡ rowAt t (used - 1) → s ≡ sideOf n x → s < c → Found t used n c used
+found-last t used n c x d e q h = record {
+  within = omega arith;
+  below = λ k m. let g : sideOf n (rowAt t (used - 1)) < c = subst (λ (y : Row ℕ). sideOf n y < c) e (omega arith) in
+      subst (λ (i : ℕ). sideOf n (rowAt t i) < c) (omega arith) g;
+  above = λ m. absurd (omega arith);
 }
 
 -- ---- the edges, and the cut
