@@ -603,9 +603,10 @@ static void merge_all(void) {
 
 /* ---- Builds. */
 
-/* A build for a date, or over time where the date is 0. */
-static uint32_t build(uint8_t *table, size_t len, size_t *used, const struct metadata *m, const struct names *list, uint32_t date) {
-    return date == 0
+/* A build for a date, or over time where there is none. */
+static uint32_t build(uint8_t *table, size_t len, size_t *used, const struct metadata *m, const struct names *list,
+                      const uint32_t *date) {
+    return date == NULL
                ? desk_build(table, len, used, m->header, DESK_HEADER_WORDS, m->list[SYMBOLS], m->len[SYMBOLS], m->list[PARTIAL],
                             m->len[PARTIAL], m->list[NOT_FOUND], m->len[NOT_FOUND], m->list[MAPPINGS], m->len[MAPPINGS],
                             m->list[INTERVALS], m->len[INTERVALS], list->bytes, list->bytes_len, list->ends, list->ends_len,
@@ -613,7 +614,7 @@ static uint32_t build(uint8_t *table, size_t len, size_t *used, const struct met
                : desk_build_points(table, len, used, m->header, DESK_HEADER_WORDS, m->list[SYMBOLS], m->len[SYMBOLS],
                                    m->list[PARTIAL], m->len[PARTIAL], m->list[NOT_FOUND], m->len[NOT_FOUND], m->list[MAPPINGS],
                                    m->len[MAPPINGS], m->list[INTERVALS], m->len[INTERVALS], list->bytes, list->bytes_len,
-                                   list->ends, list->ends_len, list->names, list->size, date);
+                                   list->ends, list->ends_len, list->names, list->size, *date);
 }
 
 /* A name list of the names of a case, with no room to spare. */
@@ -640,7 +641,8 @@ static void whole_build(int on_day) {
     struct names list = listed_names();
     struct metadata m = whole_metadata();
     size_t used = 7;
-    uint32_t answer = build(whole_table, DESK_ROOM * (on_day ? DESK_POINT_BYTES : DESK_INTERVAL_BYTES), &used, &m, &list, date);
+    uint32_t answer = build(whole_table, DESK_ROOM * (on_day ? DESK_POINT_BYTES : DESK_INTERVAL_BYTES), &used, &m, &list,
+                            on_day ? &date : NULL);
     put_number(answer);
     if (answer != DESK_DONE) return;
     if (!on_day) {
@@ -660,11 +662,7 @@ static void lent_build(int on_day) {
     uint32_t date = on_day ? (uint32_t)number() : 0;
     struct names list = name_list();
     struct metadata m = lent_metadata();
-    put_number(on_day ? desk_build_points(table, len, &used, m.header, DESK_HEADER_WORDS, m.list[SYMBOLS], m.len[SYMBOLS],
-                                          m.list[PARTIAL], m.len[PARTIAL], m.list[NOT_FOUND], m.len[NOT_FOUND], m.list[MAPPINGS],
-                                          m.len[MAPPINGS], m.list[INTERVALS], m.len[INTERVALS], list.bytes, list.bytes_len,
-                                          list.ends, list.ends_len, list.names, list.size, date)
-                      : build(table, len, &used, &m, &list, 0));
+    put_number(build(table, len, &used, &m, &list, on_day ? &date : NULL));
     put_number(used);
     put_bytes(table, len);
 }
