@@ -1,9 +1,10 @@
 /* The replay desk at the C door. "01" is document 01, "Exact rules and what to build".
  *
  * Every function returns document 01's number: DESK_DONE (0) or one of the refusals below. Further results come back through
- * pointers to single numbers. After a refusal everything behind every pointer is as it was at the call, except that 13 hands
- * its stream, place and reason over where a function has pointers for them, and that 13 from desk_next closes its stream and
- * keeps what the same call read in others before it. Every call ends, on any content of the memory.
+ * pointers to single numbers. After a refusal everything behind every pointer is as it was at the call, except that a refused
+ * build leaves an empty table, that 6 hands its field over, that 13 hands its stream, place and reason over where a function has
+ * pointers for them, and that 13 from desk_next closes its stream and keeps what the same call read in others before it. Every
+ * call ends, on any content of the memory.
  *
  * What a caller owes. None of it can be seen from inside, so nothing tests it:
  *   - a pointer beside a length points to as many elements as the length says, one to a single number to that number;

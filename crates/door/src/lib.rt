@@ -1,5 +1,5 @@
 // The door: what a C program calls. Each function answers document 01's number, 0 where it is done, and hands further results back
-// through lent numbers, which a refusal leaves as they were. `include/desk.h` says the same in C.
+// through lent numbers, which a refusal leaves as they were but where `include/desk.h` says otherwise.
 pub mod build;
 pub mod damage;
 pub mod days;
