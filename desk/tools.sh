@@ -9,7 +9,7 @@ kit=$(dirname "$(dirname "$(rt doc)")")
 machine=$(uname -m)
 toolchain=$kit/on/$machine/toolchain
 libraries=$kit/toolchain/lib
-archive=target/staticlib/libdoor.a
+archive=target/staticlib/libdoor_map.a
 strict=(-O2 -Wall -Wextra -pedantic -Werror -Iinclude)
 if [ "$machine" = x86_64 ]; then compiler=(cc) emulator=(); else
     compiler=(x86_64-linux-gnu-gcc -static) emulator=("$toolchain/bin/qemu-x86_64" -cpu qemu64)
@@ -20,7 +20,7 @@ if [ -n "${DESK_CC:-}" ]; then how=$DESK_CC; elif [ "$machine" = x86_64 ] && com
 make_archive() {
     mkdir -p target/desk
     if [ -e "$archive" ] && [ -z "$(find crates crates.txt -newer "$archive" -print -quit)" ]; then return; fi
-    rt staticlib door >target/desk/staticlib.log 2>&1 || { tail -20 target/desk/staticlib.log; echo 'desk: the archive failed'; return 1; }
+    rt staticlib door_map >target/desk/staticlib.log 2>&1 || { tail -20 target/desk/staticlib.log; echo 'desk: the archive failed'; return 1; }
 }
 
 # desk/NAME.c to target/desk/NAME

@@ -13,22 +13,22 @@ use Rattle.leaves.specs.NumberText.{isDigit, digits, someDigits, numberText}
 use Rattle.leaves.specs.Calendar.{isLeap, monthDays, daysOfYears, daysBefore, isDate, dayNumber}
 use Rattle.leaves.specs.Days.{dayOf}
 use Rattle.leaves.specs.Frame.{frameAt}
-use Rattle.tables.specs.Table.{Row, Outcome, inserted}
-use Rattle.tables.specs.Memory.{width, rowAt, rowsFrom, rows, bytesOf, rowBytes, rowsBytes, badTable, insertOutcome, written, memoryAfter, outcomeAnswer, usedAfter}
-use Rattle.tables.specs.Lookup.{lookupRows}
-use Rattle.tables.specs.Looks.{saidAnswer, lookupAnswer}
-use Rattle.merging.specs.Metadata as merging
-use Rattle.merging.specs.Words.{before, mappingsFrom, mappingWords, intervalWords}
+use Rattle.map_rules.specs.Table.{Row, Outcome, inserted}
+use Rattle.map_rules.specs.Memory.{width, rowAt, rowsFrom, rows, bytesOf, rowBytes, rowsBytes, badTable, insertOutcome, written, memoryAfter, outcomeAnswer, usedAfter}
+use Rattle.map_rules.specs.Lookup.{lookupRows}
+use Rattle.map_rules.specs.Looks.{saidAnswer, lookupAnswer}
+use Rattle.metadata_rules.specs.Metadata as merging
+use Rattle.metadata_rules.specs.Words.{before, mappingsFrom, mappingWords, intervalWords}
 use Rattle.judge.specs.Judge.{knownDate}
-use Rattle.form.specs.declared.header.Header.{Header}
-use Rattle.form.specs.Header.{Lists, lists, metadataOf, sizedOf}
-use Rattle.form.specs.Over.{over}
-use Rattle.metadata.specs.Merger.{numbersOf, bothSized, mergeAnswer, mergeLists}
-use Rattle.machine.specs.Machine.{start}
-use Rattle.machine.specs.Bytes.{streamsOf}
-use Rattle.machine.specs.State.{answerOf, rightMemory, rightStreams, padded, opening}
-use Rattle.machine.specs.Calls.{answersF}
-use Rattle.machine.specs.Examples.{short}
+use Rattle.metadata_form.specs.declared.header.Header.{Header}
+use Rattle.metadata_form.specs.Header.{Lists, lists, metadataOf, sizedOf}
+use Rattle.metadata_form.specs.Over.{over}
+use Rattle.metadata_merge.specs.Merger.{numbersOf, bothSized, mergeAnswer, mergeLists}
+use Rattle.records_rules.specs.Machine.{start}
+use Rattle.records_rules.specs.Bytes.{streamsOf}
+use Rattle.records_rules.specs.State.{answerOf, rightMemory, rightStreams, padded, opening}
+use Rattle.records_rules.specs.Calls.{answersF}
+use Rattle.records_rules.specs.Examples.{short}
 
 -- ---- calls
 

@@ -18,9 +18,9 @@ use Rattle.leaves.specs.FrameLaws.{refused-not-done}
 use Rattle.leaves.specs.declared.refusal.Refusal.{Refusal}
 use Rattle.leaves.specs.declared.days.Day.{Day}
 use Rattle.leaves.specs.declared.days.Day.the-variants.{Number, Refused}
-use Rattle.merging.specs.declared.Interval.{Interval}
-use Rattle.merging.specs.Metadata.{every}
-use Rattle.merging.specs.Words.{intervalAt, stretch, nameAt, namesFrom}
+use Rattle.metadata_rules.specs.declared.Interval.{Interval}
+use Rattle.metadata_rules.specs.Metadata.{every}
+use Rattle.metadata_rules.specs.Words.{intervalAt, stretch, nameAt, namesFrom}
 use Rattle.walk.specs.Words.{rest, rest-cons, rest-nil}
 
 -- a date of ISO 8601 from 1970-01-01 to 2554-07-21 (01, Names, numbers, days): the numbers that do not get 11

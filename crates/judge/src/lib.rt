@@ -2,7 +2,7 @@
 // interval. Each answers whether all pass. Helpers: each asks for the words that it reads.
 use leaves::days::Day;
 use leaves::days::day_of;
-use merging::Interval;
+use metadata_rules::Interval;
 use walk::words::interval_at;
 use walk::words::name_at;
 use walk::words::wide;
@@ -12,8 +12,8 @@ ghost use mathlib.Core.Bool.{true};
 ghost use Prim.Native.Nat.{_+_, _*_, _<_, _≤_};
 ghost use lib.ListN.{length, take};
 ghost use lib.Dec.{ltb, leb};
-ghost use Rattle.merging.specs.Metadata.{every};
-ghost use Rattle.merging.specs.Words.{namesFrom};
+ghost use Rattle.metadata_rules.specs.Metadata.{every};
+ghost use Rattle.metadata_rules.specs.Words.{namesFrom};
 ghost use Rattle.walk.specs.Words.{rest};
 ghost use Rattle.judge.specs.Judge.{knownDate, dated, known, forward, below, namesTo};
 

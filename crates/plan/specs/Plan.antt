@@ -8,21 +8,21 @@ use mathlib.Core.List.{List, [], _∷_, _++_}
 use lib.ListN.{length, getD, replicate, length-replicate, getD-replicate, length-append}
 use lib.Dec.{T, ltb, leb}
 use borrow.Author.Tests.{ltb-true}
-use Rattle.merging.specs.declared.Interval.{Interval}
-use Rattle.merging.specs.Metadata.{Mapping, Merged, clash, merged, enter, enterAll, byName, every, everyInterval, datesKnown, mappingsKnown, countIntervals}
-use Rattle.merging.specs.Metadata.{forwards as forwardsOf}
-use Rattle.merging.specs.Cases.{eqb-case}
-use Rattle.merging.specs.Words.{nameAt, countAt, mappingsFrom, before, mappingWords, intervalWords, namesFrom, stretch, read-back, intervals-test, names-test, mapping-length, interval-length}
+use Rattle.metadata_rules.specs.declared.Interval.{Interval}
+use Rattle.metadata_rules.specs.Metadata.{Mapping, Merged, clash, merged, enter, enterAll, byName, every, everyInterval, datesKnown, mappingsKnown, countIntervals}
+use Rattle.metadata_rules.specs.Metadata.{forwards as forwardsOf}
+use Rattle.metadata_rules.specs.Cases.{eqb-case}
+use Rattle.metadata_rules.specs.Words.{nameAt, countAt, mappingsFrom, before, mappingWords, intervalWords, namesFrom, stretch, read-back, intervals-test, names-test, mapping-length, interval-length}
 use Rattle.walk.specs.Words.{rest}
-use Rattle.lay.specs.Flat.{placedFrom, placedTo}
-use Rattle.lay.specs.Link.{Chained, chained-linked, chained-heads, before-up, before-next, flat-same}
-use Rattle.lay.specs.Names.{Final, failed, placed, layAll, finishNames, collectTo, sumsTo, endNames}
-use Rattle.lay.specs.NamesLaying.{AllReady}
-use Rattle.lay.specs.NamesWhole.{HeadOk, collect-by-name, sums-bound}
-use Rattle.lay.specs.NamesWords.{Stands, stands}
-use Rattle.lay.specs.declared.names.Names.{Names}
-use Rattle.lay.specs.declared.names.Names.the-variants.{Clash, Done}
-use Rattle.gather.specs.Sides.{Sound, Offs, count-all, lay-append, lost-count, within-of, placed-flat}
+use Rattle.metadata_lists.specs.Flat.{placedFrom, placedTo}
+use Rattle.metadata_lists.specs.Link.{Chained, chained-linked, chained-heads, before-up, before-next, flat-same}
+use Rattle.metadata_lists.specs.Names.{Final, failed, placed, layAll, finishNames, collectTo, sumsTo, endNames}
+use Rattle.metadata_lists.specs.NamesLaying.{AllReady}
+use Rattle.metadata_lists.specs.NamesWhole.{HeadOk, collect-by-name, sums-bound}
+use Rattle.metadata_lists.specs.NamesWords.{Stands, stands}
+use Rattle.metadata_lists.specs.declared.names.Names.{Names}
+use Rattle.metadata_lists.specs.declared.names.Names.the-variants.{Clash, Done}
+use Rattle.metadata_gather.specs.Sides.{Sound, Offs, count-all, lay-append, lost-count, within-of, placed-flat}
 use Rattle.judge.specs.Judge.{knownDate, dated, below, known, forward, namesTo, rest-all, names-all}
 use Rattle.plan.specs.declared.Planned.{Planned}
 use Rattle.plan.specs.declared.Planned.the-variants.{Fault, Laid}

@@ -1,25 +1,25 @@
 // The mappings of a merge: both sides gathered, tested whole in document 01's order (11, 3, 1), then merged by name (7), all in
 // scratch. Helpers: the memory was tested before.
-use gather::sides::Laid;
-use gather::sides::follow;
-use gather::sides::lose_repeats;
 use judge::dates_known;
 use judge::forwards;
 use judge::names_known;
 use judge::symbols_known;
-use lay::link::link;
-use lay::link::offsets;
-use lay::names::Names;
-use lay::names::lay_names;
+use metadata_gather::sides::Laid;
+use metadata_gather::sides::follow;
+use metadata_gather::sides::lose_repeats;
+use metadata_lists::link::link;
+use metadata_lists::link::offsets;
+use metadata_lists::names::Names;
+use metadata_lists::names::lay_names;
 ghost use mathlib.Core.Path.{_≡_};
 ghost use Prim.Native.Nat.{ℕ, _+_, _-_, _*_, _<_, _≤_};
 ghost use mathlib.Core.List.{List, [], _++_};
 ghost use lib.ListN.{length, getD};
-ghost use Rattle.merging.specs.Metadata.{Mapping, enterAll, byName, countIntervals};
-ghost use Rattle.merging.specs.Words.{mappingsFrom};
-ghost use Rattle.lay.specs.Names.{endNames, finishNames};
-ghost use Rattle.lay.specs.NamesWords.{Stands};
-ghost use Rattle.gather.specs.Sides.{Sound};
+ghost use Rattle.metadata_rules.specs.Metadata.{Mapping, enterAll, byName, countIntervals};
+ghost use Rattle.metadata_rules.specs.Words.{mappingsFrom};
+ghost use Rattle.metadata_lists.specs.Names.{endNames, finishNames};
+ghost use Rattle.metadata_lists.specs.NamesWords.{Stands};
+ghost use Rattle.metadata_gather.specs.Sides.{Sound};
 ghost use Rattle.plan.specs.Plan.{faultFlat, Gathered, Linkable, Planable, endPlan, planOf, bothSides};
 
 // The refusals that a plan can give.

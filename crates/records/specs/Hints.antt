@@ -3,10 +3,10 @@
 use Prim.Native.Nat.{ℕ, _<_}
 use mathlib.Core.List.{List, map}
 use lib.ListN.{length, getD}
-use Rattle.merging.specs.Metadata.{Fields}
-use Rattle.machine.specs.Machine.{Stream, own}
-use Rattle.machine.specs.Order.{Rising, Sorted}
-use Rattle.machine.specs.Whole.{run, run-sorted}
+use Rattle.metadata_rules.specs.Metadata.{Fields}
+use Rattle.records_rules.specs.Machine.{Stream, own}
+use Rattle.records_rules.specs.Order.{Rising, Sorted}
+use Rattle.records_rules.specs.Whole.{run, run-sorted}
 
 -- a stream's hint, and those of all streams
 abbrev pub hintOf : Fields → ℕ

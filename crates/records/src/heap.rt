@@ -3,7 +3,7 @@
 ghost use mathlib.Core.Path.{_≡_};
 ghost use Prim.Native.Nat.{_+_, _*_, _<_, _≤_};
 ghost use lib.ListN.{length, getD};
-ghost use Rattle.machine.specs.Sift.{Lesser, Pick, Sifted, Heaped};
+ghost use Rattle.records_rules.specs.Sift.{Lesser, Pick, Sifted, Heaped};
 
 // A stream's number as an index: the arrays have 256 places, so every byte is one.
 pub fn slot(stream: u8) -> usize

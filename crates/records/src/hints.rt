@@ -1,8 +1,8 @@
 // The hint of a stream from its metadata, as dbn's `Decoder::new` has it: before any record is read, a stream stands where its
 // metadata starts.
-use form::header::Header;
+use metadata_form::header::Header;
 ghost use mathlib.Core.Path.{_≡_};
-ghost use Rattle.form.specs.Header.{headerFields};
+ghost use Rattle.metadata_form.specs.Header.{headerFields};
 ghost use Rattle.records.specs.Hints.{hintOf};
 
 // The hint of a stream whose metadata has this header.

@@ -21,10 +21,10 @@ ghost use Prim.Native.Nat.{ℕ, _+_, _-_, _<_, _≤_, _^_};
 ghost use lib.ListN.{length, replicate};
 ghost use mathlib.Core.List.{[]};
 ghost use Rattle.theory.specs.Answer.{answer};
-ghost use Rattle.machine.specs.Machine.{says, record-at, damage-at};
-ghost use Rattle.machine.specs.Bytes.{streamsOf};
-ghost use Rattle.machine.specs.View.{packed, recIn};
-ghost use Rattle.machine.specs.State.{answerOf, rightMemory, Room, Untouched, rightStreams, opening, gotOf, StateOk, Says, Opened};
+ghost use Rattle.records_rules.specs.Machine.{says, record-at, damage-at};
+ghost use Rattle.records_rules.specs.Bytes.{streamsOf};
+ghost use Rattle.records_rules.specs.View.{packed, recIn};
+ghost use Rattle.records_rules.specs.State.{answerOf, rightMemory, Room, Untouched, rightStreams, opening, gotOf, StateOk, Says, Opened};
 ghost use Rattle.records.specs.Merge.{turnOf, openingOf};
 
 // What a read found: the end is 0, damage its reason, a record 4.

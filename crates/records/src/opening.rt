@@ -9,8 +9,8 @@ ghost use mathlib.Core.Bool.{_||_};
 ghost use Prim.Native.Nat.{_-_, _<_, _≤_};
 ghost use lib.Dec.{eqb};
 ghost use lib.ListN.{length};
-ghost use Rattle.machine.specs.State.{bit, Room, riseTo, rightStreams};
-ghost use Rattle.machine.specs.Opening.{markAt, numberAt, Laid};
+ghost use Rattle.records_rules.specs.State.{bit, Room, riseTo, rightStreams};
+ghost use Rattle.records_rules.specs.Opening.{markAt, numberAt, Laid};
 
 // Cuts are one more than the streams.
 const FEWEST_CUTS: usize = 2;

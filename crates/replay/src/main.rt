@@ -1,6 +1,6 @@
 // replay: reads a bundle from standard input and writes the records of its streams in the merge's order (document 01, "Merging
 // records"). A failed read counts as the end of the input.
-use bundle::replay::Replayed;
+use replay_text::replay::Replayed;
 ghost use mathlib.Core.Path.{_≡_};
 ghost use lib.ListN.{length};
 
@@ -17,7 +17,7 @@ fn input_space() -> [u8; 60001]
 
 // Writes a bundle's replay, which the lent bytes have room for.
 fn show(bundle: &[u8], text: &mut [u8]) {
-    match bundle::replay::replay(bundle, text) {
+    match replay_text::replay::replay(bundle, text) {
         Replayed::Text(n) => {
             io::write_all(STDOUT, &text[..n]);
         }
@@ -28,6 +28,6 @@ fn show(bundle: &[u8], text: &mut [u8]) {
 fn main() {
     let mut input = input_space();
     let n = io::read_full(STDIN, &mut input);
-    let mut text = bundle::replay::text_space();
+    let mut text = replay_text::replay::text_space();
     show(&input[..n], &mut text);
 }

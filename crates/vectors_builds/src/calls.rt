@@ -1,14 +1,14 @@
 // Cases of both builds: what each answers, and every byte that the lent table then holds; before, it holds 9s. Metadata and name
 // list are only read.
-use form::header::Header;
-use sides::Side;
-use sides::at_most;
-use sides::list_at;
-use sides::of_32;
-use sides::side_at;
+use metadata_form::header::Header;
+use vectors_side::Side;
+use vectors_side::at_most;
+use vectors_side::list_at;
+use vectors_side::of_32;
+use vectors_side::side_at;
 ghost use mathlib.Core.Path.{_≡_};
 ghost use lib.ListN.{length};
-ghost use Rattle.sides.specs.Sides.{Within};
+ghost use Rattle.vectors_side.specs.Sides.{Within};
 ghost use Rattle.vectors_builds.specs.Memory.{Listed};
 
 // Which build: over time, or for a date.
@@ -74,26 +74,26 @@ fn interval_words() -> [u32; 240]
     [0; 240]
 }
 
-fn over_time_says(built: builds::over_time::Built) -> Said {
+fn over_time_says(built: build_time::over_time::Built) -> Said {
     match built {
-        builds::over_time::Built::Done(used) => Said {
+        build_time::over_time::Built::Done(used) => Said {
             number: 0,
             used: used as u64,
         },
-        builds::over_time::Built::Refused(r) => Said {
+        build_time::over_time::Built::Refused(r) => Said {
             number: leaves::refusal::number(r) as u64,
             used: 0,
         },
     }
 }
 
-fn point_says(built: point_builds::build::Built) -> Said {
+fn point_says(built: build_point::build::Built) -> Said {
     match built {
-        point_builds::build::Built::Done(used) => Said {
+        build_point::build::Built::Done(used) => Said {
             number: 0,
             used: used as u64,
         },
-        point_builds::build::Built::Refused(r) => Said {
+        build_point::build::Built::Refused(r) => Said {
             number: leaves::refusal::number(r) as u64,
             used: 0,
         },
@@ -117,7 +117,7 @@ pub fn says(
 ) -> Said {
     match call {
         Call::OverTime => {
-            let built = builds::over_time::over_time(
+            let built = build_time::over_time::over_time(
                 table,
                 h,
                 symbols,
@@ -133,7 +133,7 @@ pub fn says(
             over_time_says(built)
         }
         Call::PointInTime(date) => {
-            let built = point_builds::build::point_in_time(
+            let built = build_point::build::point_in_time(
                 table,
                 h,
                 symbols,
@@ -156,10 +156,10 @@ pub fn says(
 fn names_at(text: &[u8], at: usize, bytes: &mut [u8], ends: &mut [u32]) -> Names
     ensures { λ r. ⌜ Listed r (length (now (bytes .exit))) (length (now (ends .exit))) ⌝ }
 {
-    let names = cases::number_at(text, at);
-    let size = cases::number_at(text, names.next);
-    let lent = cases::number_at(text, size.next);
-    let given = cases::bytes_at(text, lent.next, bytes);
+    let names = vectors_text::number_at(text, at);
+    let size = vectors_text::number_at(text, names.next);
+    let lent = vectors_text::number_at(text, size.next);
+    let given = vectors_text::bytes_at(text, lent.next, bytes);
     let list = list_at(text, given.next, ends);
     Names {
         names: names.value as usize,
@@ -213,8 +213,8 @@ fn builds(
 
 // Whether a build says what stands at a place, and leaves the bytes that stand behind it, and 0 in every other place.
 fn is_expected(text: &[u8], at: usize, said: Said, table: &[u8]) -> bool {
-    let number = cases::number_at(text, at);
-    let used = cases::number_at(text, number.next);
+    let number = vectors_text::number_at(text, at);
+    let used = vectors_text::number_at(text, number.next);
     if number.value != said.number {
         return false;
     }
@@ -226,7 +226,7 @@ fn is_expected(text: &[u8], at: usize, said: Said, table: &[u8]) -> bool {
         return false;
     }
     let mut expected = zeros();
-    cases::bytes_at(text, used.next, &mut expected);
+    vectors_text::bytes_at(text, used.next, &mut expected);
     check::same(table, &expected[..l])
 }
 
@@ -261,7 +261,7 @@ fn is_so(
         mappings,
         intervals,
     );
-    let behind = cases::past_equals(text, a.next);
+    let behind = vectors_text::past_equals(text, a.next);
     is_expected(text, behind, said, table)
 }
 
@@ -274,7 +274,7 @@ fn is_built(text: &[u8], at: usize, call: Call) -> bool {
     let mut n = entries();
     let mut m = mapping_words();
     let mut v = interval_words();
-    let lent = cases::number_at(text, at);
+    let lent = vectors_text::number_at(text, at);
     let names = names_at(text, lent.next, &mut b, &mut e);
     let a = side_at(text, names.next, &mut s, &mut p, &mut n, &mut m, &mut v);
     let mut table = nines();
@@ -300,6 +300,6 @@ pub fn is_right(text: &[u8], at: usize, over_time: bool) -> bool {
     if over_time {
         return is_built(text, at, Call::OverTime);
     }
-    let date = cases::number_at(text, at);
+    let date = vectors_text::number_at(text, at);
     is_built(text, date.next, Call::PointInTime(of_32(date.value)))
 }

@@ -3,9 +3,9 @@
 use crate::calls::Call;
 use crate::calls::Said;
 use crate::calls::says;
-use cases::Tally;
-use cases::tried;
-use form::header::Header;
+use metadata_form::header::Header;
+use vectors_text::Tally;
+use vectors_text::tried;
 ghost use mathlib.Core.Path.{_≡_};
 ghost use Prim.Native.Nat.{_≤_};
 ghost use lib.ListN.{length};
@@ -151,5 +151,5 @@ pub fn run() {
         b"65,537 intervals at a point in time",
         is_too_many(Call::PointInTime(DATE)),
     );
-    cases::print_group(b"limits", t.cases, t.wrong);
+    vectors_text::print_group(b"limits", t.cases, t.wrong);
 }

@@ -57,9 +57,9 @@ fn are_one(date: u64, day: u64) -> bool {
 
 // A line `YYYYMM FIRST LAST`.
 pub fn month(text: &[u8], at: usize) -> bool {
-    let month = cases::number_at(text, at);
-    let first = cases::number_at(text, month.next);
-    let last = cases::number_at(text, first.next);
+    let month = vectors_text::number_at(text, at);
+    let first = vectors_text::number_at(text, month.next);
+    let last = vectors_text::number_at(text, first.next);
     if 255412 < month.value {
         return false;
     }
@@ -82,10 +82,10 @@ pub fn month(text: &[u8], at: usize) -> bool {
 
 // A line `YYYYMMDD DAY`, the day a `-` where the date is refused.
 pub fn date(text: &[u8], at: usize) -> bool {
-    let date = cases::number_at(text, at);
-    let place = cases::past_blanks(text, date.next);
-    if cases::byte_at(text, place) == b'-' {
+    let date = vectors_text::number_at(text, at);
+    let place = vectors_text::past_blanks(text, date.next);
+    if vectors_text::byte_at(text, place) == b'-' {
         return day_of(date.value) == NO_DATE;
     }
-    are_one(date.value, cases::number_at(text, place).value)
+    are_one(date.value, vectors_text::number_at(text, place).value)
 }

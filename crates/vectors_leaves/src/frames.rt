@@ -85,12 +85,12 @@ struct Expected {
 }
 
 fn expected_at(text: &[u8], at: usize) -> Expected {
-    let number = cases::number_at(text, at);
-    let a = cases::number_at(text, number.next);
-    let b = cases::number_at(text, a.next);
-    let c = cases::number_at(text, b.next);
-    let d = cases::number_at(text, c.next);
-    let e = cases::number_at(text, d.next);
+    let number = vectors_text::number_at(text, at);
+    let a = vectors_text::number_at(text, number.next);
+    let b = vectors_text::number_at(text, a.next);
+    let c = vectors_text::number_at(text, b.next);
+    let d = vectors_text::number_at(text, c.next);
+    let e = vectors_text::number_at(text, d.next);
     let answer = in_numbers(number.value, a.value, b.value, c.value, d.value, e.value);
     Expected {
         answer,
@@ -107,10 +107,10 @@ fn are_same(x: Numbers, y: Numbers) -> bool {
 
 // A line `PLACE NUMBER VALUES BYTES`.
 pub fn frame(text: &[u8], at: usize) -> bool {
-    let place = cases::number_at(text, at);
+    let place = vectors_text::number_at(text, at);
     let expected = expected_at(text, place.next);
     let mut bytes = room();
-    let word = cases::bytes_at(text, expected.next, &mut bytes);
+    let word = vectors_text::bytes_at(text, expected.next, &mut bytes);
     let n = word.count;
     are_same(
         of_frame(leaves::frame::frame_at(&bytes[..n], place.value)),
@@ -122,7 +122,7 @@ pub fn frame(text: &[u8], at: usize) -> bool {
 pub fn mapping(text: &[u8], at: usize) -> bool {
     let expected = expected_at(text, at);
     let mut bytes = room();
-    let word = cases::bytes_at(text, expected.next, &mut bytes);
+    let word = vectors_text::bytes_at(text, expected.next, &mut bytes);
     let n = word.count;
     are_same(
         of_mapping(leaves::frame::read_mapping(&bytes[..n])),

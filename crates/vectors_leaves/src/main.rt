@@ -46,15 +46,15 @@ fn run(name: &[u8], text: &[u8], kind: u8) {
     let mut at = 0;
     while at < text.len() {
         if text[at] == kind {
-            cases = cases::one_more(cases);
+            cases = vectors_text::one_more(cases);
             if !is_right(text, at + 1, kind) {
-                wrong = cases::one_more(wrong);
-                cases::print_wrong(text, at);
+                wrong = vectors_text::one_more(wrong);
+                vectors_text::print_wrong(text, at);
             }
         }
-        at = cases::next_line(text, at);
+        at = vectors_text::next_line(text, at);
     }
-    cases::print_group(name, cases, wrong);
+    vectors_text::print_group(name, cases, wrong);
 }
 
 fn main() {

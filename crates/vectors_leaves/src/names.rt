@@ -1,9 +1,9 @@
 // Cases of names, each a call: full lists, bad names, bad lists, memory over its limits.
-use cases::Tally;
-use cases::tried;
 use leaves::names::Checked;
 use leaves::names::Named;
 use leaves::names::Placed;
+use vectors_text::Tally;
+use vectors_text::tried;
 ghost use mathlib.Core.Path.{_≡_};
 ghost use lib.ListN.{length};
 
@@ -226,5 +226,5 @@ fn limits(tally: Tally) -> Tally {
 pub fn run() {
     let start = Tally { cases: 0, wrong: 0 };
     let t = limits(bad_lists(bad_names(new_names(bytes_full(places_full(start))))));
-    cases::print_group(b"names", t.cases, t.wrong);
+    vectors_text::print_group(b"names", t.cases, t.wrong);
 }

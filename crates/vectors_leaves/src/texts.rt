@@ -12,24 +12,25 @@ fn room() -> [u8; 512]
 
 // A line `+ BYTES` for what is UTF-8, `- BYTES` for what is not.
 pub fn utf8(text: &[u8], at: usize) -> bool {
-    let sign = cases::past_blanks(text, at);
-    let expected = cases::byte_at(text, sign) == b'+';
+    let sign = vectors_text::past_blanks(text, at);
+    let expected = vectors_text::byte_at(text, sign) == b'+';
     let mut bytes = room();
-    let word = cases::bytes_at(text, cases::past(text, sign), &mut bytes);
+    let word = vectors_text::bytes_at(text, vectors_text::past(text, sign), &mut bytes);
     let n = word.count;
     leaves::utf8::is_utf8(&bytes[..n]) == expected
 }
 
 // A line `+ VALUE BYTES` for a number, `- PLACE BYTES` for what is none from that place on.
 pub fn number(text: &[u8], at: usize) -> bool {
-    let sign = cases::past_blanks(text, at);
-    let expected = cases::number_at(text, cases::past(text, sign));
+    let sign = vectors_text::past_blanks(text, at);
+    let expected = vectors_text::number_at(text, vectors_text::past(text, sign));
     let mut bytes = room();
-    let word = cases::bytes_at(text, expected.next, &mut bytes);
+    let word = vectors_text::bytes_at(text, expected.next, &mut bytes);
     let n = word.count;
     match leaves::number_text::number(&bytes[..n]) {
-        Reading::Value(v) => cases::byte_at(text, sign) == b'+' && v as u64 == expected.value,
-        Reading::Stuck(place) => cases::byte_at(text, sign) == b'-'
+        Reading::Value(v) => vectors_text::byte_at(text, sign) == b'+'
+            && v as u64 == expected.value,
+        Reading::Stuck(place) => vectors_text::byte_at(text, sign) == b'-'
             && place as u64 == expected.value,
     }
 }

@@ -61,16 +61,16 @@ fn run(text: &[u8], name: &[u8], kind: u8) {
     let mut wrong = 0u64;
     let mut at = 0;
     while at < text.len() {
-        if cases::is_word(text, at, name) {
-            cases = cases::one_more(cases);
-            if !is_right(text, cases::word_end(text, at), kind) {
-                wrong = cases::one_more(wrong);
-                cases::print_wrong(text, at);
+        if vectors_text::is_word(text, at, name) {
+            cases = vectors_text::one_more(cases);
+            if !is_right(text, vectors_text::word_end(text, at), kind) {
+                wrong = vectors_text::one_more(wrong);
+                vectors_text::print_wrong(text, at);
             }
         }
-        at = cases::next_line(text, at);
+        at = vectors_text::next_line(text, at);
     }
-    cases::print_group(name, cases, wrong);
+    vectors_text::print_group(name, cases, wrong);
 }
 
 fn main() {

@@ -3,7 +3,7 @@
 use crate::tables::narrow;
 use crate::tables::room;
 use leaves::refusal::Refusal;
-use mapping::mapping::Recorded;
+use map_record::mapping::Recorded;
 ghost use mathlib.Core.Path.{_≡_};
 ghost use lib.ListN.{length};
 ghost use Rattle.io.specs.Counts.{Counts};
@@ -31,7 +31,7 @@ struct Ends {
 fn ends_at(text: &[u8], at: usize, out: &mut [u32]) -> Ends
     ensures { λ r. ⌜ Counts (r .count) (now (out .exit)) ⌝ }
 {
-    let many = cases::number_at(text, at);
+    let many = vectors_text::number_at(text, at);
     let mut place = many.next;
     let mut i = 0;
     while i < out.len() {
@@ -41,7 +41,7 @@ fn ends_at(text: &[u8], at: usize, out: &mut [u32]) -> Ends
                 next: place,
             };
         }
-        let one = cases::number_at(text, place);
+        let one = vectors_text::number_at(text, place);
         out[i] = narrow(one.value);
         place = one.next;
         i += 1;
@@ -54,14 +54,14 @@ fn ends_at(text: &[u8], at: usize, out: &mut [u32]) -> Ends
 
 // Whether these ends stand at a place, behind their count.
 fn are_ends(text: &[u8], at: usize, ends: &[u32]) -> bool {
-    let many = cases::number_at(text, at);
+    let many = vectors_text::number_at(text, at);
     if many.value != ends.len() as u64 {
         return false;
     }
     let mut place = many.next;
     let mut i = 0;
     while i < ends.len() {
-        let one = cases::number_at(text, place);
+        let one = vectors_text::number_at(text, place);
         if narrow(one.value) != ends[i] {
             return false;
         }
@@ -80,9 +80,9 @@ struct InUse {
 }
 
 fn in_use_at(text: &[u8], at: usize) -> InUse {
-    let used = cases::number_at(text, at);
-    let names = cases::number_at(text, used.next);
-    let size = cases::number_at(text, names.next);
+    let used = vectors_text::number_at(text, at);
+    let names = vectors_text::number_at(text, used.next);
+    let size = vectors_text::number_at(text, names.next);
     InUse {
         used: used.value as usize,
         names: names.value as usize,
@@ -136,16 +136,16 @@ fn answer_of(recorded: Recorded, before: InUse) -> Said {
 
 // The place after the expected number of an answer, and after what 13 has behind it; 0 where the answer is another.
 fn past_number(text: &[u8], at: usize, said: Said) -> usize {
-    let number = cases::number_at(text, at);
+    let number = vectors_text::number_at(text, at);
     if number.value != said.number {
         return 0;
     }
     if number.value != DAMAGED {
         return number.next;
     }
-    let stream = cases::number_at(text, number.next);
-    let place = cases::number_at(text, stream.next);
-    let reason = cases::number_at(text, place.next);
+    let stream = vectors_text::number_at(text, number.next);
+    let place = vectors_text::number_at(text, stream.next);
+    let reason = vectors_text::number_at(text, place.next);
     if reason.value == said.reason {
         reason.next
     } else {
@@ -155,16 +155,16 @@ fn past_number(text: &[u8], at: usize, said: Said) -> usize {
 
 // Whether a name list with these numbers in use is expected at a place.
 fn is_list(text: &[u8], at: usize, said: Said, bytes: &[u8], ends: &[u32]) -> bool {
-    let names = cases::number_at(text, at);
+    let names = vectors_text::number_at(text, at);
     if names.value as usize != said.names {
         return false;
     }
-    let size = cases::number_at(text, names.next);
+    let size = vectors_text::number_at(text, names.next);
     if size.value as usize != said.size {
         return false;
     }
     let mut expected = room();
-    let given = cases::bytes_at(text, size.next, &mut expected);
+    let given = vectors_text::bytes_at(text, size.next, &mut expected);
     let n = given.count;
     if !check::same(bytes, &expected[..n]) {
         return false;
@@ -185,12 +185,12 @@ fn is_expected(
     if from == 0 {
         return false;
     }
-    let used = cases::number_at(text, from);
+    let used = vectors_text::number_at(text, from);
     if used.value as usize != said.used {
         return false;
     }
     let mut expected = room();
-    let given = cases::bytes_at(text, used.next, &mut expected);
+    let given = vectors_text::bytes_at(text, used.next, &mut expected);
     let n = given.count;
     if !check::same(table, &expected[..n]) {
         return false;
@@ -210,7 +210,7 @@ fn records(
     rec: &[u8],
 ) -> bool {
     if over_time {
-        let recorded = mapping::mapping::on_record(
+        let recorded = map_record::mapping::on_record(
             table,
             given.used,
             bytes,
@@ -222,7 +222,7 @@ fn records(
         let answer = answer_of(recorded, given);
         return is_expected(text, at, answer, table, bytes, ends);
     }
-    let recorded = mapping::mapping::on_record_point(
+    let recorded = map_record::mapping::on_record_point(
         table,
         given.used,
         bytes,
@@ -241,13 +241,13 @@ fn on_table(text: &[u8], at: usize, over_time: bool, table: &mut [u8]) -> bool {
     let mut ends = places();
     let mut rec = room();
     let given = in_use_at(text, at);
-    let names = cases::bytes_at(text, given.next, &mut bytes);
+    let names = vectors_text::bytes_at(text, given.next, &mut bytes);
     let m = names.count;
     let lie = ends_at(text, names.next, &mut ends);
     let k = lie.count;
-    let last = cases::bytes_at(text, lie.next, &mut rec);
+    let last = vectors_text::bytes_at(text, lie.next, &mut rec);
     let l = last.count;
-    let expected = cases::past_equals(text, last.next);
+    let expected = vectors_text::past_equals(text, last.next);
     records(
         text,
         expected,
@@ -263,7 +263,7 @@ fn on_table(text: &[u8], at: usize, over_time: bool, table: &mut [u8]) -> bool {
 // A line `TABLE USED NAMES SIZE BYTES ENDS RECORD = NUMBER USED TABLE NAMES SIZE BYTES ENDS`.
 pub fn on_record(text: &[u8], at: usize, over_time: bool) -> bool {
     let mut table = room();
-    let lent = cases::bytes_at(text, at, &mut table);
+    let lent = vectors_text::bytes_at(text, at, &mut table);
     let n = lent.count;
     on_table(text, lent.next, over_time, &mut table[..n])
 }

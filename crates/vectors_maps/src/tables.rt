@@ -1,9 +1,9 @@
 // Cases of the table over time: check, insert, get_for_ts.
-use maps::insert::Inserted;
-use maps::interval::Interval;
-use maps::lookup::Found;
-use maps::lookup::Looked;
-use maps::table::Checked;
+use map_time::insert::Inserted;
+use map_time::interval::Interval;
+use map_time::lookup::Found;
+use map_time::lookup::Looked;
+use map_time::table::Checked;
 ghost use mathlib.Core.Path.{_≡_};
 ghost use lib.ListN.{length};
 
@@ -17,12 +17,12 @@ pub fn room() -> [u8; 2048]
 // A line `TABLE USED NAMES = NUMBER`.
 pub fn check(text: &[u8], at: usize) -> bool {
     let mut table = room();
-    let given = cases::bytes_at(text, at, &mut table);
+    let given = vectors_text::bytes_at(text, at, &mut table);
     let n = given.count;
-    let used = cases::number_at(text, given.next);
-    let names = cases::number_at(text, used.next);
-    let number = cases::number_at(text, cases::past_equals(text, names.next));
-    match maps::table::check(&table[..n], used.value as usize, names.value as usize) {
+    let used = vectors_text::number_at(text, given.next);
+    let names = vectors_text::number_at(text, used.next);
+    let number = vectors_text::number_at(text, vectors_text::past_equals(text, names.next));
+    match map_time::table::check(&table[..n], used.value as usize, names.value as usize) {
         Checked::WellFormed => number.value == 0,
         Checked::Refused(r) => number.value == leaves::refusal::number(r) as u64,
     }
@@ -47,10 +47,10 @@ pub fn narrow(n: u64) -> u32 {
 }
 
 fn interval_at(text: &[u8], at: usize) -> Interval {
-    let instrument = cases::number_at(text, at);
-    let start = cases::number_at(text, instrument.next);
-    let end = cases::number_at(text, start.next);
-    let symbol = cases::number_at(text, end.next);
+    let instrument = vectors_text::number_at(text, at);
+    let start = vectors_text::number_at(text, instrument.next);
+    let end = vectors_text::number_at(text, start.next);
+    let symbol = vectors_text::number_at(text, end.next);
     Interval {
         instrument: narrow(instrument.value),
         symbol: narrow(symbol.value),
@@ -60,11 +60,11 @@ fn interval_at(text: &[u8], at: usize) -> Interval {
 }
 
 fn asked_at(text: &[u8], at: usize) -> Asked {
-    let used = cases::number_at(text, at);
-    let names = cases::number_at(text, used.next);
+    let used = vectors_text::number_at(text, at);
+    let names = vectors_text::number_at(text, used.next);
     let interval = interval_at(text, names.next);
-    let number = cases::number_at(text, cases::past_equals(text, names.next));
-    let used_after = cases::number_at(text, number.next);
+    let number = vectors_text::number_at(text, vectors_text::past_equals(text, names.next));
+    let used_after = vectors_text::number_at(text, number.next);
     Asked {
         used: used.value as usize,
         names: names.value as usize,
@@ -78,7 +78,7 @@ fn asked_at(text: &[u8], at: usize) -> Asked {
 // Whether the insert answers as expected, and leaves the lent bytes as expected.
 fn inserts(table: &mut [u8], asked: Asked, after: &[u8]) -> bool {
     let interval = asked.interval;
-    match maps::insert::insert(table, asked.used, asked.names, interval) {
+    match map_time::insert::insert(table, asked.used, asked.names, interval) {
         Inserted::Done(used) => asked.number == 0
             && used == asked.used_after
             && check::same(table, after),
@@ -92,10 +92,10 @@ fn inserts(table: &mut [u8], asked: Asked, after: &[u8]) -> bool {
 pub fn insert(text: &[u8], at: usize) -> bool {
     let mut before = room();
     let mut after = room();
-    let given = cases::bytes_at(text, at, &mut before);
+    let given = vectors_text::bytes_at(text, at, &mut before);
     let n = given.count;
     let asked = asked_at(text, given.next);
-    let expected = cases::bytes_at(text, asked.next, &mut after);
+    let expected = vectors_text::bytes_at(text, asked.next, &mut after);
     let m = expected.count;
     inserts(&mut before[..n], asked, &after[..m])
 }
@@ -113,14 +113,14 @@ struct Lookup {
 }
 
 fn lookup_at(text: &[u8], at: usize) -> Lookup {
-    let used = cases::number_at(text, at);
-    let instrument = cases::number_at(text, used.next);
-    let moment = cases::number_at(text, instrument.next);
-    let hint = cases::number_at(text, moment.next);
-    let number = cases::number_at(text, cases::past_equals(text, hint.next));
-    let found = cases::number_at(text, number.next);
-    let symbol = cases::number_at(text, found.next);
-    let after = cases::number_at(text, symbol.next);
+    let used = vectors_text::number_at(text, at);
+    let instrument = vectors_text::number_at(text, used.next);
+    let moment = vectors_text::number_at(text, instrument.next);
+    let hint = vectors_text::number_at(text, moment.next);
+    let number = vectors_text::number_at(text, vectors_text::past_equals(text, hint.next));
+    let found = vectors_text::number_at(text, number.next);
+    let symbol = vectors_text::number_at(text, found.next);
+    let after = vectors_text::number_at(text, symbol.next);
     Lookup {
         used: used.value as usize,
         instrument: narrow(instrument.value),
@@ -148,14 +148,14 @@ fn is_expected(looked: Looked, asked: Lookup) -> bool {
 
 // Whether the lookup answers as expected, and so a cursor with the same hint.
 fn looks(table: &[u8], asked: Lookup) -> bool {
-    let looked = maps::lookup::get_for_ts(
+    let looked = map_time::lookup::get_for_ts(
         table,
         asked.used,
         asked.instrument,
         asked.moment,
         asked.hint,
     );
-    let followed = maps::cursor::follow_once(
+    let followed = map_time::cursor::follow_once(
         table,
         asked.used,
         asked.instrument,
@@ -168,7 +168,7 @@ fn looks(table: &[u8], asked: Lookup) -> bool {
 // A line `TABLE USED INSTRUMENT MOMENT HINT = NUMBER FOUND SYMBOL HINT`.
 pub fn get_for_ts(text: &[u8], at: usize) -> bool {
     let mut table = room();
-    let given = cases::bytes_at(text, at, &mut table);
+    let given = vectors_text::bytes_at(text, at, &mut table);
     let n = given.count;
     looks(&table[..n], lookup_at(text, given.next))
 }

@@ -1,17 +1,17 @@
 // Cases of the three calls. What each leaves is compared place by place: of a done call with the side that stands behind its
 // 0, of a refused one with the side that it was handed. The side that is merged in must be as it was, whatever the answer.
-use cases::Token;
-use form::header::Header;
 use leaves::refusal::Refusal;
-use metadata::merger::Finished;
-use metadata::merger::Merged;
-use metadata::merger::Opened;
-use sides::Side;
-use sides::is_side;
-use sides::side_at;
+use metadata_form::header::Header;
+use metadata_merge::merger::Finished;
+use metadata_merge::merger::Merged;
+use metadata_merge::merger::Opened;
+use vectors_side::Side;
+use vectors_side::is_side;
+use vectors_side::side_at;
+use vectors_text::Token;
 ghost use mathlib.Core.Path.{_≡_};
 ghost use lib.ListN.{length};
-ghost use Rattle.sides.specs.Sides.{Within};
+ghost use Rattle.vectors_side.specs.Sides.{Within};
 
 // What a call says: its number, the field that comes with 6 (else 0), and the header after it.
 struct Said {
@@ -103,7 +103,7 @@ fn opens(
     let k = a.not_found;
     let m = a.mappings;
     let v = a.intervals;
-    let opened = metadata::merger::open(
+    let opened = metadata_merge::merger::open(
         h,
         &mut symbols[..i],
         &mut partial[..j],
@@ -131,7 +131,7 @@ fn finishes(
     let k = a.not_found;
     let m = a.mappings;
     let v = a.intervals;
-    let finished = metadata::merger::finish(
+    let finished = metadata_merge::merger::finish(
         h,
         &symbols[..i],
         &partial[..j],
@@ -173,7 +173,7 @@ fn merges(
     let bk = b.not_found;
     let bm = b.mappings;
     let bv = b.intervals;
-    let merged = metadata::merger::merge(
+    let merged = metadata_merge::merger::merge(
         names as usize,
         h,
         &mut symbols[..i],
@@ -203,8 +203,8 @@ fn is_expected(
     mappings: &[u32],
     intervals: &[u32],
 ) -> bool {
-    let number = cases::number_at(text, at);
-    let field = cases::number_at(text, number.next);
+    let number = vectors_text::number_at(text, at);
+    let field = vectors_text::number_at(text, number.next);
     if number.value != said.number {
         return false;
     }
@@ -238,7 +238,7 @@ pub fn open(text: &[u8], at: usize) -> bool {
     let mut v = interval_words();
     let a = side_at(text, at, &mut s, &mut p, &mut n, &mut m, &mut v);
     let said = opens(a, &mut s, &mut p, &mut n, &mut m, &mut v);
-    let behind = cases::past_equals(text, a.next);
+    let behind = vectors_text::past_equals(text, a.next);
     is_expected(text, behind, at, said, &s, &p, &n, &m, &v)
 }
 
@@ -251,7 +251,7 @@ pub fn finish(text: &[u8], at: usize) -> bool {
     let mut v = interval_words();
     let a = side_at(text, at, &mut s, &mut p, &mut n, &mut m, &mut v);
     let said = finishes(a, &s, &p, &n, &m, &v);
-    let behind = cases::past_equals(text, a.next);
+    let behind = vectors_text::past_equals(text, a.next);
     is_expected(text, behind, at, said, &s, &p, &n, &m, &v)
 }
 
@@ -267,7 +267,7 @@ pub fn merge(text: &[u8], at: usize) -> bool {
     let mut n = entries();
     let mut m = mapping_words();
     let mut v = interval_words();
-    let names = cases::number_at(text, at);
+    let names = vectors_text::number_at(text, at);
     let a = side_at(text, names.next, &mut i, &mut j, &mut k, &mut w, &mut x);
     let b = side_at(text, a.next, &mut s, &mut p, &mut n, &mut m, &mut v);
     merge_sides(
@@ -334,7 +334,7 @@ fn merge_sides(
         added_mappings,
         added_intervals,
     );
-    let behind = cases::past_equals(text, b.next);
+    let behind = vectors_text::past_equals(text, b.next);
     let expected = is_expected(
         text,
         behind,

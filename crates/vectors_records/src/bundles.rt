@@ -1,5 +1,5 @@
 // A case that is a bundle.
-use bundle::replay::Replayed;
+use replay_text::replay::Replayed;
 ghost use mathlib.Core.Path.{_≡_};
 ghost use lib.ListN.{length};
 
@@ -17,7 +17,7 @@ fn show(bytes: &[u8], n: u64, text: &mut [u8]) {
         return;
     }
     let size = n as usize;
-    match bundle::replay::replay(&bytes[..size], text) {
+    match replay_text::replay::replay(&bytes[..size], text) {
         Replayed::Text(k) => {
             if k <= text.len() {
                 io::write_all(1, &text[..k]);
@@ -32,9 +32,9 @@ fn show(bytes: &[u8], n: u64, text: &mut [u8]) {
 
 // Runs the case at a place: the bundle's length, then its bytes without the zeros at its end.
 pub fn run(text: &[u8], at: usize) {
-    let length = cases::number_at(text, at);
+    let length = vectors_text::number_at(text, at);
     let mut bytes = space();
-    cases::bytes_at(text, length.next, &mut bytes);
-    let mut out = bundle::replay::text_space();
+    vectors_text::bytes_at(text, length.next, &mut bytes);
+    let mut out = replay_text::replay::text_space();
     show(&bytes, length.value, &mut out);
 }

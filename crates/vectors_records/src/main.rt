@@ -1,4 +1,4 @@
-// Runs the cases that stand on standard input, one to a line, over `bundle` and `records`, and prints what they answer.
+// Runs the cases that stand on standard input, one to a line, over `replay_text` and `records`, and prints what they answer.
 // `= NAME` names what follows, and is printed. `b LENGTH HEX` is a bundle of so many bytes, those of HEX and then zeros: its replay.
 // `m COUNT hint.. COUNT cut.. HEX` are streams in one buffer with their hints: the answers of the merge to its end, and one more.
 mod bundles;
@@ -16,8 +16,8 @@ fn room() -> [u8; 131072]
 
 // Prints the rest of the line that a place stands in.
 fn print_line(text: &[u8], at: usize) {
-    let from = cases::past_blanks(text, at);
-    let to = cases::line_end(text, from);
+    let from = vectors_text::past_blanks(text, at);
+    let to = vectors_text::line_end(text, from);
     if to <= text.len() {
         io::write_all(1, &text[from..to]);
         io::write_all(1, b"\n");
@@ -26,8 +26,8 @@ fn print_line(text: &[u8], at: usize) {
 
 // Runs the case that a line holds.
 fn run_line(text: &[u8], at: usize) {
-    let kind = cases::byte_at(text, at);
-    let rest = cases::past(text, at);
+    let kind = vectors_text::byte_at(text, at);
+    let rest = vectors_text::past(text, at);
     if kind == b'=' {
         print_line(text, rest);
     }
@@ -44,7 +44,7 @@ fn run(text: &[u8]) {
     let mut at = 0;
     while at < text.len() {
         run_line(text, at);
-        at = cases::next_line(text, at);
+        at = vectors_text::next_line(text, at);
     }
 }
 

@@ -43,7 +43,7 @@ fn numbers_space() -> [u64; 300]
 fn read_numbers(text: &[u8], at: usize, out: &mut [u64]) -> Numbers
     ensures { λ r. ⌜ r .count ≤ length (now (out .exit)) ⌝ }
 {
-    let many = cases::number_at(text, at);
+    let many = vectors_text::number_at(text, at);
     let mut place = many.next;
     let mut i = 0;
     while i < out.len() {
@@ -53,7 +53,7 @@ fn read_numbers(text: &[u8], at: usize, out: &mut [u64]) -> Numbers
                 next: place,
             };
         }
-        let one = cases::number_at(text, place);
+        let one = vectors_text::number_at(text, place);
         out[i] = one.value;
         place = one.next;
         i += 1;
@@ -220,6 +220,6 @@ pub fn run(text: &[u8], at: usize) {
     let mut buffer = buffer_space();
     let hinted = read_numbers(text, at, &mut hints);
     let cut = read_numbers(text, hinted.next, &mut cuts);
-    let bytes = cases::bytes_at(text, cut.next, &mut buffer);
+    let bytes = vectors_text::bytes_at(text, cut.next, &mut buffer);
     merge_parts(&buffer, bytes.count, &cuts, cut.count, &hints, hinted.count);
 }

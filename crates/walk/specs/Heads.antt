@@ -7,13 +7,13 @@ use mathlib.Core.Bool.{Bool, true, false, cond}
 use mathlib.Core.List.{List, [], _∷_}
 use lib.ListN.{length}
 use lib.Dec.{eqb}
-use Rattle.merging.specs.declared.Interval.{Interval}
-use Rattle.merging.specs.declared.IntervalOrdering.{IntervalOrdering}
-use Rattle.merging.specs.declared.IntervalOrdering.the-variants.{Equal, Less, Greater, Overlap}
-use Rattle.merging.specs.Walk.{conflict, laid, ordering, joined, out, agreed, heads, against, walk}
-use Rattle.merging.specs.Walk.{Walked as Said}
-use Rattle.merging.specs.Words.{intervalAt}
-use Rattle.merging.specs.Cases.{eqb-case}
+use Rattle.metadata_rules.specs.declared.Interval.{Interval}
+use Rattle.metadata_rules.specs.declared.IntervalOrdering.{IntervalOrdering}
+use Rattle.metadata_rules.specs.declared.IntervalOrdering.the-variants.{Equal, Less, Greater, Overlap}
+use Rattle.metadata_rules.specs.Walk.{conflict, laid, ordering, joined, out, agreed, heads, against, walk}
+use Rattle.metadata_rules.specs.Walk.{Walked as Said}
+use Rattle.metadata_rules.specs.Words.{intervalAt}
+use Rattle.metadata_rules.specs.Cases.{eqb-case}
 use Rattle.walk.specs.Words.{putAt, rest, lay, length-put, rest-cons, rest-nil, rest-length, lay-length}
 use Rattle.walk.specs.declared.heads.Step.{Step}
 use Rattle.walk.specs.declared.heads.Step.the-variants.{Clash, Out}

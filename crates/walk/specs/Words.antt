@@ -5,8 +5,8 @@ use native.Mathlib.Omega.{arith}
 use mathlib.Core.List.{List, [], _∷_, _++_, append-assoc}
 use lib.ListN.{length, set, length-set, length-append}
 use lib.Seq.{set-at}
-use Rattle.merging.specs.declared.Interval.{Interval}
-use Rattle.merging.specs.Words.{intervalAt, stretch, wordsOf}
+use Rattle.metadata_rules.specs.declared.Interval.{Interval}
+use Rattle.metadata_rules.specs.Words.{intervalAt, stretch, wordsOf}
 
 -- the words v with x as the i-th interval
 unfoldable pub putAt : List ℕ → ℕ → Interval → List ℕ

@@ -3,14 +3,14 @@
 use crate::words::copy_intervals;
 use crate::words::interval_at;
 use crate::words::put_interval;
-use merging::Interval;
-use merging::IntervalOrdering;
+use metadata_rules::Interval;
+use metadata_rules::IntervalOrdering;
 ghost use mathlib.Core.Path.{_≡_};
 ghost use Prim.Native.Nat.{_+_, _-_, _*_, _<_, _≤_, min, max};
 ghost use lib.ListN.{length};
-ghost use Rattle.merging.specs.Walk.{walk};
-ghost use Rattle.merging.specs.Walk.{ordering as orderingOf};
-ghost use Rattle.merging.specs.Walk.{joined as joinedOf};
+ghost use Rattle.metadata_rules.specs.Walk.{walk};
+ghost use Rattle.metadata_rules.specs.Walk.{ordering as orderingOf};
+ghost use Rattle.metadata_rules.specs.Walk.{joined as joinedOf};
 ghost use Rattle.walk.specs.Words.{rest};
 ghost use Rattle.walk.specs.Heads.{finish, stepOf, endOf};
 

@@ -1,10 +1,10 @@
 // Mappings and intervals in lent words: a mapping is two (its name, how many intervals), an interval three (start, end,
 // symbol). Helpers: each asks for the words that it reads or writes.
-use merging::Interval;
+use metadata_rules::Interval;
 ghost use mathlib.Core.Path.{_≡_};
 ghost use Prim.Native.Nat.{_+_, _-_, _*_, _<_, _≤_};
 ghost use lib.ListN.{length};
-ghost use Rattle.merging.specs.Words.{intervalAt, nameAt, countAt};
+ghost use Rattle.metadata_rules.specs.Words.{intervalAt, nameAt, countAt};
 ghost use Rattle.walk.specs.Words.{putAt, putMapping, lay, rest};
 
 // The same number, as a place.

@@ -3,7 +3,7 @@ use mathlib.Core.Path.{_≡_, refl, sym, ap, _∙_, subst}
 use Prim.Native.Nat.{ℕ, _≤_, _<_, _+_, _-_, _*_}
 use borrow.Author.Tests.{not-true, not-false}
 use denote.Ref.{now}
-use Rattle.merging.specs.Metadata.{every}
+use Rattle.metadata_rules.specs.Metadata.{every}
 use Rattle.walk.specs.Words.{rest}
 use Rattle.judge.specs.Judge.{dated, spans-turn, spans-stop, spans-end}
 use borrow.Author.Needs.{needs}

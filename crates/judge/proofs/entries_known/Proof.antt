@@ -4,7 +4,7 @@ use Prim.Native.Nat.{ℕ, _≤_, _<_, _+_, _-_, _*_}
 use borrow.Author.Tests.{not-true, not-false}
 use lib.ListN.{length, take, drop}
 use denote.Ref.{now}
-use Rattle.merging.specs.Metadata.{every}
+use Rattle.metadata_rules.specs.Metadata.{every}
 use Rattle.judge.specs.Judge.{below, entries-turn, entries-stop, entries-end}
 use borrow.Author.Needs.{needs}
 use native.Mathlib.Omega.{arith}

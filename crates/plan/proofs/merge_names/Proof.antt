@@ -2,8 +2,8 @@
 use mathlib.Core.Path.{_≡_, refl, sym, ap, _∙_, subst}
 use denote.Ref.{now}
 use lib.ListN.{replicate}
-use Rattle.merging.specs.Metadata.{Merged}
-use Rattle.lay.specs.Names.{finishNames}
+use Rattle.metadata_rules.specs.Metadata.{Merged}
+use Rattle.metadata_lists.specs.Names.{finishNames}
 use Rattle.plan.specs.Plan.{all-ready, all-by-name, full}
 use borrow.Author.Needs.{needs}
 use native.Mathlib.Omega.{arith}

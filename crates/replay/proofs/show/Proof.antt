@@ -3,8 +3,8 @@ use mathlib.Core.Path.{sym, ap, _∙_}
 use Prim.Native.Nat.{_≤_}
 use lib.ListN.{length}
 use lib.Seq.{length-take-le}
-use Rattle.bundle.specs.Replay.{replayedOf}
-use Rattle.bundle.specs.ReplayCalls.{text-fits}
+use Rattle.replay_text.specs.Replay.{replayedOf}
+use Rattle.replay_text.specs.ReplayCalls.{text-fits}
 use borrow.Author.Needs.{needs}
 use Rattle.replay.proofs.show.Statement.{statement}
 use Rattle.replay.proofs.show.Tie as tie

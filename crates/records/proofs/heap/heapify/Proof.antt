@@ -2,7 +2,7 @@
 use Prim.Native.Nat.{_-_}
 use native.Mathlib.Omega.{arith}
 use borrow.Author.Needs.{needs}
-use Rattle.machine.specs.Sift.{Heaped, heaped-start, heaped-step, heaped-done}
+use Rattle.records_rules.specs.Sift.{Heaped, heaped-start, heaped-step, heaped-done}
 use Rattle.records.proofs.heap.heapify.Statement.{statement}
 use Rattle.records.proofs.heap.heapify.Tie as tie
 

@@ -1,7 +1,7 @@
 -- Time first, the stream number where the times are equal. Assumes nothing.
 use Prim.Native.Nat.{_-_}
 use native.Mathlib.Omega.{arith}
-use Rattle.machine.specs.Sift.{lesser-left, lesser-right, tie-left, tie-right}
+use Rattle.records_rules.specs.Sift.{lesser-left, lesser-right, tie-left, tie-right}
 use borrow.Author.Needs.{needs}
 use Rattle.records.proofs.heap.lesser.Statement.{statement}
 use Rattle.records.proofs.heap.lesser.Tie as tie

@@ -1,7 +1,7 @@
 -- The least of a place and its one or two children, by two comparisons. Assumes nothing.
 use Prim.Native.Nat.{_-_, _<_}
 use native.Mathlib.Omega.{arith}
-use Rattle.machine.specs.Sift.{pick-one, pick-two, lesser-bound}
+use Rattle.records_rules.specs.Sift.{pick-one, pick-two, lesser-bound}
 use borrow.Author.Needs.{needs}
 use Rattle.records.proofs.heap.pick.Statement.{statement}
 use Rattle.records.proofs.heap.pick.Tie as tie

@@ -2,8 +2,8 @@
 use Prim.Native.Nat.{_-_}
 use native.Mathlib.Omega.{arith}
 use lib.ListN.{getD, length-set}
-use Rattle.machine.specs.Heap.{swap}
-use Rattle.machine.specs.Sift.{Sifting, sift-start, sift-leaf, sift-done, sift-below, sift-turn}
+use Rattle.records_rules.specs.Heap.{swap}
+use Rattle.records_rules.specs.Sift.{Sifting, sift-start, sift-leaf, sift-done, sift-below, sift-turn}
 use Rattle.records.proofs.heap.sift_down.Statement.{statement}
 use Rattle.records.proofs.heap.sift_down.Tie as tie
 

@@ -1,5 +1,5 @@
 -- The parts of the head. Assumes nothing.
-use Rattle.machine.specs.View.{recIn}
+use Rattle.records_rules.specs.View.{recIn}
 use borrow.Author.Needs.{needs}
 use Rattle.records.proofs.merge.handed.Statement.{statement}
 use Rattle.records.proofs.merge.handed.Tie as tie

@@ -3,8 +3,8 @@ use mathlib.Core.Path.{_≡_, refl}
 use mathlib.Core.Bool.{true, false}
 use Prim.Native.Nat.{ℕ}
 use native.Mathlib.Omega.{arith}
-use Rattle.machine.specs.State.{rightMemory}
-use Rattle.machine.specs.Opening.{bit-no, bit-yes, right-room}
+use Rattle.records_rules.specs.State.{rightMemory}
+use Rattle.records_rules.specs.Opening.{bit-no, bit-yes, right-room}
 use borrow.Author.Needs.{needs}
 use Rattle.records.proofs.merge.next.Statement.{statement}
 use Rattle.records.proofs.merge.next.Tie as tie

@@ -4,8 +4,8 @@ use mathlib.Core.Bool.{true, false}
 use Prim.Native.Nat.{ℕ}
 use native.Mathlib.Omega.{arith}
 use lib.ListN.{length}
-use Rattle.machine.specs.State.{rightMemory, rightStreams, opening}
-use Rattle.machine.specs.Opening.{bit-no, bit-yes, right-room, right-count, opened}
+use Rattle.records_rules.specs.State.{rightMemory, rightStreams, opening}
+use Rattle.records_rules.specs.Opening.{bit-no, bit-yes, right-room, right-count, opened}
 use borrow.Author.Needs.{needs}
 use Rattle.records.proofs.merge.open.Statement.{statement}
 use Rattle.records.proofs.merge.open.Tie as tie

@@ -1,5 +1,5 @@
 -- The sum of the three parts. Assumes nothing.
-use Rattle.machine.specs.View.{packed}
+use Rattle.records_rules.specs.View.{packed}
 use borrow.Author.Needs.{needs}
 use Rattle.records.proofs.merge.pack.Statement.{statement}
 use Rattle.records.proofs.merge.pack.Tie as tie

@@ -1,7 +1,7 @@
 -- The part between two cuts is read, and the head packed. Assumes nothing.
 use Rattle.leaves.specs.Frame.{headOf}
-use Rattle.machine.specs.Bytes.{stream-read}
-use Rattle.machine.specs.StateLaws.{got-packed}
+use Rattle.records_rules.specs.Bytes.{stream-read}
+use Rattle.records_rules.specs.StateLaws.{got-packed}
 use borrow.Author.Needs.{needs}
 use Rattle.records.proofs.merge.read_stream.Statement.{statement}
 use Rattle.records.proofs.merge.read_stream.Tie as tie

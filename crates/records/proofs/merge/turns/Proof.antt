@@ -4,11 +4,11 @@ use mathlib.Core.Path.{_∙_}
 use Prim.Native.Nat.{_-_}
 use native.Mathlib.Omega.{arith}
 use lib.ListN.{getD, length-set}
-use Rattle.machine.specs.Bytes.{streamsOf, stream-short}
-use Rattle.machine.specs.Kept.{waits}
-use Rattle.machine.specs.View.{statusesOf}
-use Rattle.machine.specs.StateLaws.{less-gone, less-stand}
-use Rattle.machine.specs.Steps.{Going, going-start, step-end, step-record, step-ended, step-damaged, step-whole}
+use Rattle.records_rules.specs.Bytes.{streamsOf, stream-short}
+use Rattle.records_rules.specs.Kept.{waits}
+use Rattle.records_rules.specs.View.{statusesOf}
+use Rattle.records_rules.specs.StateLaws.{less-gone, less-stand}
+use Rattle.records_rules.specs.Steps.{Going, going-start, step-end, step-record, step-ended, step-damaged, step-whole}
 use borrow.Author.Needs.{needs}
 use Rattle.records.proofs.merge.turns.Statement.{statement}
 use Rattle.records.proofs.merge.turns.Tie as tie

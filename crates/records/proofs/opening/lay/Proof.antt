@@ -1,7 +1,7 @@
 -- The loop's invariant: the first i places of each array are laid. Assumes nothing.
 use Prim.Native.Nat.{_-_}
 use native.Mathlib.Omega.{arith}
-use Rattle.machine.specs.Opening.{Laying, laying-start, laying-step}
+use Rattle.records_rules.specs.Opening.{Laying, laying-start, laying-step}
 use borrow.Author.Needs.{needs}
 use Rattle.records.proofs.opening.lay.Statement.{statement}
 use Rattle.records.proofs.opening.lay.Tie as tie

@@ -1,6 +1,6 @@
 -- The two cases of the definition. Assumes nothing.
 use borrow.Author.Tests.{lt-ltb, le-ltb}
-use Rattle.machine.specs.Opening.{markAt}
+use Rattle.records_rules.specs.Opening.{markAt}
 use Rattle.records.proofs.opening.mark_at.Statement.{statement}
 use Rattle.records.proofs.opening.mark_at.Tie as tie
 

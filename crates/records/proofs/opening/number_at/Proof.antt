@@ -1,6 +1,6 @@
 -- The two cases of the definition. Assumes nothing.
 use borrow.Author.Tests.{lt-ltb, le-ltb}
-use Rattle.machine.specs.Opening.{numberAt}
+use Rattle.records_rules.specs.Opening.{numberAt}
 use borrow.Author.Needs.{needs}
 use Rattle.records.proofs.opening.number_at.Statement.{statement}
 use Rattle.records.proofs.opening.number_at.Tie as tie

@@ -4,8 +4,8 @@ use mathlib.Core.Bool.{true}
 use Prim.Native.Nat.{_-_, _<_}
 use native.Mathlib.Omega.{arith}
 use lib.ListN.{length}
-use Rattle.machine.specs.State.{riseTo}
-use Rattle.machine.specs.Opening.{falls, rises-more}
+use Rattle.records_rules.specs.State.{riseTo}
+use Rattle.records_rules.specs.Opening.{falls, rises-more}
 use Rattle.records.proofs.opening.rising.Statement.{statement}
 use Rattle.records.proofs.opening.rising.Tie as tie
 

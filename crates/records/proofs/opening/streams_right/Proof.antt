@@ -4,8 +4,8 @@ use Prim.Native.Nat.{_-_}
 use lib.ListN.{length, getD}
 use lib.Dec.{eqb}
 use borrow.Author.Tests.{lt-leb, le-leb, eq-eqb, ne-eqb}
-use Rattle.machine.specs.State.{rightStreams}
-use Rattle.machine.specs.Opening.{bit-no, bit-yes}
+use Rattle.records_rules.specs.State.{rightStreams}
+use Rattle.records_rules.specs.Opening.{bit-no, bit-yes}
 use borrow.Author.Needs.{needs}
 use Rattle.records.proofs.opening.streams_right.Statement.{statement}
 use Rattle.records.proofs.opening.streams_right.Tie as tie

@@ -1,6 +1,6 @@
 -- The tests of the definition, one after the other. Assumes nothing.
 use borrow.Author.Tests.{lt-leb, le-leb, eq-eqb, ne-eqb}
-use Rattle.machine.specs.State.{rightMemory}
+use Rattle.records_rules.specs.State.{rightMemory}
 use Rattle.records.proofs.state.memory.Statement.{statement}
 use Rattle.records.proofs.state.memory.Tie as tie
 

@@ -1,5 +1,5 @@
 -- `heads::joined` meets its contract. Assumes nothing.
-use Rattle.merging.specs.Walk.{joined}
+use Rattle.metadata_rules.specs.Walk.{joined}
 use borrow.Author.Needs.{needs}
 use Rattle.walk.proofs.heads.joined.Statement.{statement}
 use Rattle.walk.proofs.heads.joined.Tie as tie

@@ -7,7 +7,7 @@ use borrow.Author.Needs.{needs}
 use borrow.Author.Tests.{ltb-true, ltb-false}
 use mathlib.Core.Logic.{⊎-elim}
 use lib.ListN.{length}
-use Rattle.merging.specs.Walk.{walk}
+use Rattle.metadata_rules.specs.Walk.{walk}
 use Rattle.walk.specs.Words.{lay, rest, put-length, laid-length}
 use Rattle.walk.specs.Heads.{finish, endOf, step-counts, turn-clash, turn-out, end-left, end-right}
 use Rattle.walk.proofs.heads.merge_intervals.Statement.{statement}

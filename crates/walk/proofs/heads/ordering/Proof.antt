@@ -2,7 +2,7 @@
 use mathlib.Core.Path.{_≡_, refl, sym, ap, _∙_}
 use mathlib.Core.Logic.{⊎-elim}
 use native.Mathlib.Omega.{arith}
-use Rattle.merging.specs.WalkLaws.{ordering-equal, ordering-less, ordering-greater, ordering-overlap}
+use Rattle.metadata_rules.specs.WalkLaws.{ordering-equal, ordering-less, ordering-greater, ordering-overlap}
 use Rattle.walk.proofs.heads.ordering.Statement.{statement}
 use Rattle.walk.proofs.heads.ordering.Tie as tie
 

@@ -1,5 +1,5 @@
 -- `words::count_at` meets its contract. Assumes nothing.
-use Rattle.merging.specs.Words.{countAt}
+use Rattle.metadata_rules.specs.Words.{countAt}
 use borrow.Author.Needs.{needs}
 use Rattle.walk.proofs.words.count_at.Statement.{statement}
 use Rattle.walk.proofs.words.count_at.Tie as tie

@@ -1,5 +1,5 @@
 -- `words::interval_at` meets its contract: three places read. Assumes nothing.
-use Rattle.merging.specs.Words.{intervalAt}
+use Rattle.metadata_rules.specs.Words.{intervalAt}
 use borrow.Author.Needs.{needs}
 use Rattle.walk.proofs.words.interval_at.Statement.{statement}
 use Rattle.walk.proofs.words.interval_at.Tie as tie

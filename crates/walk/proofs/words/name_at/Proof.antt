@@ -1,5 +1,5 @@
 -- `words::name_at` meets its contract. Assumes nothing.
-use Rattle.merging.specs.Words.{nameAt}
+use Rattle.metadata_rules.specs.Words.{nameAt}
 use borrow.Author.Needs.{needs}
 use Rattle.walk.proofs.words.name_at.Statement.{statement}
 use Rattle.walk.proofs.words.name_at.Tie as tie

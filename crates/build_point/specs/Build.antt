@@ -1,0 +1,49 @@
+-- The point-in-time build on lent memory: what it answers, and what the table then holds (01, The map over time).
+use Prim.Native.Nat.{ℕ, _/_}
+use mathlib.Core.Bool.{Bool, _&&_, cond}
+use mathlib.Core.List.{List, [], _∷_}
+use lib.ListN.{length, replicate}
+use Rattle.theory.specs.Answer.{Answer, answer}
+use Rattle.leaves.specs.Refusal.{refused}
+use Rattle.leaves.specs.Names.{namesOf, wellFormed, memoryOk}
+use Rattle.map_time.specs.declared.entries.Entry.{Entry}
+use Rattle.map_time.specs.Entries.{putEntries}
+use Rattle.map_time.specs.Points.{pointsFit}
+use Rattle.metadata_form.specs.declared.header.Header.{Header}
+use Rattle.metadata_form.specs.declared.header.Lengths.{Lengths}
+use Rattle.metadata_form.specs.Header.{Lists, lengthsOf, metadataOf, sizedOf}
+use Rattle.build_rules.specs.OverTime.{Build, stopped, built, buildAnswer}
+use Rattle.build_rules.specs.PointInTime.{pointInTime}
+use Rattle.build_point.specs.declared.build.Built.{Built}
+use Rattle.build_point.specs.declared.build.Built.the-variants.{Done, Refused}
+
+-- what each answer says: the entries in use, or the refusal
+abbrev pub builtOf : Built → Answer
+builtOf (Done used) = answer 0 (used ∷ [])
+builtOf (Refused r) = refused r
+
+-- not 15: a table of so many bytes, a metadata and a name list of so many bytes and places are of the form
+unfoldable pub memoryFits : ℕ → Header → Lengths → List ℕ → ℕ → ℕ → ℕ → ℕ → Bool
+memoryFits size h l m bytes ends names used = pointsFit size 0 && (sizedOf h l m && memoryOk bytes ends names used)
+
+-- the build: 15, 14 for the name list, then the metadata's for the asked date. Of the table only its size counts: "a build discards what
+-- the table held and never gives 14 for it"
+unfoldable pub pointBuild : ℕ → Header → Lists → List ℕ → List ℕ → ℕ → ℕ → ℕ → Build Entry
+unfolding memoryFits pointInTime
+pointBuild size h l bytes ends names used date =
+    cond (memoryFits size h (lengthsOf l) (l .mappings) (length bytes) (length ends) names used)
+    (cond (wellFormed bytes ends names used) (pointInTime (size / 8) (namesOf bytes ends names) (metadataOf h l) date) (stopped 14 0 0))
+    (stopped 15 0 0)
+
+unfoldable pub pointInTimeAnswer : ℕ → Header → Lists → List ℕ → List ℕ → ℕ → ℕ → ℕ → Answer
+unfolding pointBuild buildAnswer
+pointInTimeAnswer size h l bytes ends names used date = buildAnswer (pointBuild size h l bytes ends names used date)
+
+-- what the table holds after a build: refused, 0 everywhere ("by 15 too"); done, the entries from the front and 0 in every other place
+unfoldable pub builtMemory : ℕ → Build Entry → List ℕ
+builtMemory size (stopped c t k) = replicate size 0
+builtMemory size (built es) = putEntries (replicate size 0) 0 es
+
+unfoldable pub pointInTimeMemory : ℕ → Header → Lists → List ℕ → List ℕ → ℕ → ℕ → ℕ → List ℕ
+unfolding pointBuild builtMemory
+pointInTimeMemory size h l bytes ends names used date = builtMemory size (pointBuild size h l bytes ends names used date)

@@ -1,0 +1,117 @@
+// The point-in-time build from metadata (01, The map over time). A metadata is a header by value and five lent lists of words, as in
+// the metadata merge; a name list is lent bytes and ends, with the names and the bytes in use; the table is lent bytes, 8 an entry,
+// whatever it held.
+use crate::begin::Begun;
+use crate::begin::begin;
+use crate::mappings::lay_mappings;
+use build_rules::reading::clear;
+use leaves::names::is_list;
+use leaves::names::is_memory;
+use leaves::refusal::Refusal;
+use map_time::points::Stored;
+use map_time::points::points_fit;
+use metadata_form::header::Header;
+use metadata_form::header::Lengths;
+use metadata_form::header::sized;
+ghost use mathlib.Core.Path.{_≡_};
+ghost use lib.ListN.{length};
+ghost use Rattle.metadata_form.specs.Header.{lists};
+ghost use Rattle.build_point.specs.Build.{builtOf, memoryFits, pointInTimeAnswer, pointInTimeMemory};
+
+// What a build answers: how many entries the table has, or a refusal.
+pub enum Built {
+    Done(usize),
+    Refused(Refusal),
+}
+
+// Whether a table, a metadata and a name list of these sizes are of the form; where not, 15.
+fn memory_fits(
+    size: usize,
+    h: Header,
+    l: Lengths,
+    mappings: &[u32],
+    bytes: usize,
+    ends: usize,
+    names: usize,
+    used: usize,
+) -> bool
+    requires { ⌜ l .mappings ≡ length (now mappings) ⌝ }
+    ensures { λ r. ⌜ r ≡ memoryFits size h l (now (mappings .entry)) bytes ends names used ⌝ }
+{
+    if !points_fit(size, 0) {
+        return false;
+    }
+    if !sized(h, l, mappings) {
+        return false;
+    }
+    is_memory(bytes, ends, names, used)
+}
+
+// The point-in-time table of a metadata for a date: 15; 14 for the name list; 11 for the date, 9, 10; then the mappings in order, each
+// 11, 3, the skip, 3, 8, 2. A refused build leaves 0 in every place.
+pub fn point_in_time(
+    table: &mut [u8],
+    h: Header,
+    symbols: &[u32],
+    partial: &[u32],
+    not_found: &[u32],
+    mappings: &[u32],
+    intervals: &[u32],
+    bytes: &[u8],
+    ends: &[u32],
+    names: usize,
+    name_bytes: usize,
+    date: u32,
+) -> Built
+    ensures answered { λ r. ⌜ builtOf r ≡ pointInTimeAnswer (length (now (table .entry))) h (lists (now (symbols .entry)) (now (partial .entry)) (now («not_found» .entry)) (now (mappings .entry)) (now (intervals .entry))) (now (bytes .entry)) (now (ends .entry)) names «name_bytes» date ⌝ }
+    ensures memory { λ _. ⌜ now (table .exit) ≡ pointInTimeMemory (length (now (table .entry))) h (lists (now (symbols .entry)) (now (partial .entry)) (now («not_found» .entry)) (now (mappings .entry)) (now (intervals .entry))) (now (bytes .entry)) (now (ends .entry)) names «name_bytes» date ⌝ }
+{
+    let l = Lengths {
+        symbols: symbols.len(),
+        partial: partial.len(),
+        not_found: not_found.len(),
+        mappings: mappings.len(),
+        intervals: intervals.len(),
+    };
+    let size = table.len();
+    clear(table);
+    if !memory_fits(
+        size,
+        h,
+        l,
+        mappings,
+        bytes.len(),
+        ends.len(),
+        names,
+        name_bytes,
+    ) {
+        return Built::Refused(Refusal::BadMemory);
+    }
+    if !is_list(bytes, ends, names, name_bytes) {
+        return Built::Refused(Refusal::IllFormed);
+    }
+    let begun = begin(h, date);
+    match begun {
+        Begun::Refused(why) => Built::Refused(why),
+        Begun::On(d, day) => {
+            let laid = lay_mappings(
+                table,
+                mappings,
+                h.mappings,
+                intervals,
+                bytes,
+                ends,
+                names,
+                d,
+                day,
+            );
+            match laid {
+                Stored::Done(used) => Built::Done(used),
+                Stored::Refused(why) => {
+                    clear(table);
+                    Built::Refused(why)
+                }
+            }
+        }
+    }
+}

@@ -1,0 +1,71 @@
+// The mappings of a metadata, one after the other, onto an empty point-in-time table (01, "Point-in-time build"): each sets its
+// entry, and a later entry for one instrument replaces the earlier one.
+use crate::entry::Wanted;
+use crate::entry::entry_of_mapping;
+use build_rules::reading::Direction;
+use map_time::points::Stored;
+use map_time::points::set_entry;
+use walk::words::count_at;
+use walk::words::name_at;
+ghost use mathlib.Core.List.{[]};
+ghost use Prim.Native.Nat.{_*_, _/_, _≤_};
+ghost use lib.ListN.{length};
+ghost use Rattle.leaves.specs.Names.{namesOf};
+ghost use Rattle.leaves.specs.NamesLaws.{Ordered};
+ghost use Rattle.map_time.specs.Entries.{entries};
+ghost use Rattle.metadata_rules.specs.Words.{before, mappingsFrom};
+ghost use Rattle.build_rules.specs.PointInTime.{pointTaken, pickMappings};
+ghost use Rattle.build_point.specs.Entry.{wantedOf};
+ghost use Rattle.build_point.specs.Mappings.{Clean, Picked, Laid};
+
+// One mapping's entry set in a table whose other places hold 0.
+fn store(table: &mut [u8], used: usize, wanted: Wanted) -> Stored
+    requires { ⌜ Clean (length (now table)) (now table) used ⌝ }
+    ensures { λ r. ⌜ Picked (length (now (table .entry))) (pointTaken (length (now (table .entry)) / 8) (wantedOf wanted) (entries (now (table .entry)) used)) r (now (table .exit)) ⌝ }
+{
+    match wanted {
+        Wanted::Refuse(why) => Stored::Refused(why),
+        Wanted::Skip => Stored::Done(used),
+        Wanted::Set(x) => set_entry(table, used, x),
+    }
+}
+
+// The first `count` mappings onto a table that holds 0 everywhere. A helper: mappings and intervals stand in their lists. After a
+// refusal the table holds what was set before.
+pub fn lay_mappings(
+    table: &mut [u8],
+    mappings: &[u32],
+    count: usize,
+    intervals: &[u32],
+    bytes: &[u8],
+    ends: &[u32],
+    names: usize,
+    d: Direction,
+    day: u32,
+) -> Stored
+    requires { ⌜ Clean (length (now table)) (now table) 0 ⌝ }
+    requires { ⌜ (2 * count ≤ length (now mappings)) × (3 * before (now mappings) count ≤ length (now intervals)) ⌝ }
+    requires { ⌜ Ordered (now bytes) (now ends) names ⌝ }
+    ensures { λ r. ⌜ Laid (length (now (table .entry))) (pickMappings (length (now (table .entry)) / 8) (namesOf (now (bytes .entry)) (now (ends .entry)) names) d day 0 (mappingsFrom (now (mappings .entry)) (now (intervals .entry)) 0 0 count) []) r (now (table .exit)) ⌝ }
+{
+    let mut used = 0;
+    let mut from = 0;
+    let mut i = 0;
+    while i < count {
+        let name = name_at(mappings, i);
+        let n = count_at(mappings, i);
+        let wanted = entry_of_mapping(intervals, from, n, bytes, ends, names, d, day, name);
+        let stored = store(table, used, wanted);
+        match stored {
+            Stored::Refused(why) => {
+                return Stored::Refused(why);
+            }
+            Stored::Done(then) => {
+                used = then;
+            }
+        }
+        from += n;
+        i += 1;
+    }
+    Stored::Done(used)
+}

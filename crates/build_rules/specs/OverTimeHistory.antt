@@ -1,0 +1,182 @@
+-- A table built over time is the table after a history of accepted inserts (tables, History): those that the build's steps ask for, so
+-- demand 3's theorems hold of it. Assumes nothing.
+use mathlib.Core.Path.{_≡_, refl, sym, ap, _∙_, subst}
+use mathlib.Core.Logic.{_↔_}
+use Prim.Native.Nat.{ℕ, _+_, _≤_}
+use native.Mathlib.Omega.{arith}
+use mathlib.Core.Bool.{Bool, true, false, not, _||_}
+use mathlib.Core.List.{List, [], _∷_}
+use lib.ListN.{length}
+use lib.Dec.{T, ltb}
+use lib.Arith.{le→nltb}
+use Rattle.theory.specs.Runs.{Mem, IsRun}
+use Rattle.theory.specs.RunsTools.{cond-yes, cond-no}
+use Rattle.map_rules.specs.Table.{Row, intervalOf, answerFor, ordered, allKnown, Outcome, refusedBy, stored, nowStored, badRoom, badNames, wellFormed, entered, inserted}
+use Rattle.map_rules.specs.Tests.{good-room}
+use Rattle.map_rules.specs.Memory.{sameValue, knownValue}
+use Rattle.map_rules.specs.Pieces.{symbols}
+use Rattle.map_rules.specs.History.{Event, insertion, after, accepted, noted, Accepted, entered-ok, Told, told, stored-runs}
+use Rattle.metadata_rules.specs.declared.Interval.{Interval}
+use Rattle.metadata_rules.specs.Metadata.{Mapping, Metadata}
+use Rattle.build_rules.specs.Reading.{Read, fault, value, andThen, textOf, numberIn, directionOf}
+use Rattle.build_rules.specs.declared.reading.Direction.{Direction}
+use Rattle.build_rules.specs.declared.reading.Direction.the-variants.{Forward, Inverse}
+use Rattle.build_rules.specs.OverTime.{Step, stop, skip, give, forwardStep, inverseStep, taken, Build, stopped, built, onward, further, layIntervals, layRead, layMapping, layMappings, directed, overTime}
+
+-- ---- the inserts that a build asks for, the latest first
+
+-- one more step
+unfoldable pub asks : Step (Row ℕ) → List (Row ℕ) → List (Row ℕ)
+asks (stop c) ns = ns
+asks skip ns = ns
+asks (give n) ns = n ∷ ns
+
+-- the intervals of a mapping
+unfoldable pub intervalsAsk : (Interval → Step (Row ℕ)) → List Interval → List (Row ℕ) → List (Row ℕ)
+unfolding asks
+intervalsAsk step [] ns = ns
+intervalsAsk step (x ∷ xs) ns = intervalsAsk step xs (asks (step x) ns)
+
+-- an inverse mapping whose name was read
+unfoldable pub readAsks : List (List ℕ) → List Interval → Read ℕ → List (Row ℕ) → List (Row ℕ)
+unfolding intervalsAsk inverseStep
+readAsks texts xs (fault c) ns = ns
+readAsks texts xs (value instrument) ns = intervalsAsk (inverseStep texts instrument) xs ns
+
+-- a mapping
+unfoldable pub mappingAsks : List (List ℕ) → Direction → Mapping → List (Row ℕ) → List (Row ℕ)
+unfolding intervalsAsk forwardStep readAsks andThen textOf numberIn
+mappingAsks texts Forward m ns = intervalsAsk (forwardStep texts (m .name)) (m .intervals) ns
+mappingAsks texts Inverse m ns = readAsks texts (m .intervals) (andThen (textOf texts (m .name)) numberIn) ns
+
+-- mappings
+unfoldable pub mappingsAsk : List (List ℕ) → Direction → List Mapping → List (Row ℕ) → List (Row ℕ)
+unfolding mappingAsks
+mappingsAsk texts d [] ns = ns
+mappingsAsk texts d (m ∷ ms) ns = mappingsAsk texts d ms (mappingAsks texts d m ns)
+
+-- a metadata
+unfoldable pub directedAsks : List (List ℕ) → List Mapping → Read Direction → List (Row ℕ)
+unfolding mappingsAsk
+directedAsks texts ms (fault c) = []
+directedAsks texts ms (value d) = mappingsAsk texts d ms []
+
+unfoldable pub insertsAsked : List (List ℕ) → Metadata → List (Row ℕ)
+unfolding directedAsks directionOf
+insertsAsked texts m = directedAsks texts (m .mappings) (directionOf (m .fields))
+
+-- as events, where so many names are known and the table has this room
+unfoldable pub events : ℕ → ℕ → List (Row ℕ) → List (Event ℕ)
+events names room [] = []
+events names room (n ∷ ns) = insertion names room n ∷ events names room ns
+
+-- ---- the theorem
+
+-- the rows are those after these inserts, each accepted, and the table is well-formed and fits
+pub record Comes (names room : ℕ) (ns ys : List (Row ℕ)) : Type 0 where
+  pub history : ys ≡ after sameValue knownValue (events names room ns)
+  pub each : accepted sameValue knownValue (events names room ns) ≡ ns
+  pub formed : T (wellFormed sameValue knownValue names ys)
+  pub fits : length ys ≤ room
+
+-- demand 3 of a table after these inserts: it is well-formed, the latest that covers a moment decides, the rows are the longest runs
+pub record Demanded (names : ℕ) (ns ys : List (Row ℕ)) : Type 0 where
+  pub well-formed : T (wellFormed sameValue knownValue names ys)
+  pub latest : (i m : ℕ) → answerFor ys i m ≡ answerFor ns i m
+  pub runs : (x : Row ℕ) → Mem x ys ↔ IsRun (answerFor ns (x .instrument)) (intervalOf x)
+
+module _ (names room : ℕ) (few : names ≤ 4096) (small : room ≤ 65536) where
+  -- an insert into a well-formed table within the limits is judged by its own order alone
+  entered-here : (n : Row ℕ) (ys : List (Row ℕ)) → T (wellFormed sameValue knownValue names ys) → length ys ≤ room
+      → inserted sameValue knownValue names room n ys ≡ entered sameValue knownValue names room n ys
+  unfolding inserted badNames
+  entered-here n ys f l =
+      cond-no (badRoom room (length ys) || ltb 4096 names) _ _
+      (neither (badRoom room (length ys)) (ltb 4096 names) (good-room room (length ys) (record { limit = small; in-use = l })) (le→nltb 4096 names few))
+      ∙ cond-yes (wellFormed sameValue knownValue names ys) _ _ f
+    where
+      neither : (a b : Bool) → T (not a) → T (not b) → T (not (a || b))
+      neither true b s t = s
+      neither false b s t = t
+
+  comes-entered : (n : Row ℕ) (ns ys zs : List (Row ℕ)) → Comes names room ns ys → entered sameValue knownValue names room n ys ≡ stored zs → Comes names room (n ∷ ns) zs
+  unfolding events after accepted nowStored noted
+  comes-entered n ns ys zs c e =
+      let a : Accepted sameValue symbols knownValue names room n ys zs = rw e at (entered-ok sameValue symbols knownValue names room n ys (c .fits) (c .formed)) in
+      let i : inserted sameValue knownValue names room n (after sameValue knownValue (events names room ns)) ≡ stored zs =
+      subst (λ (xs : List (Row ℕ)). inserted sameValue knownValue names room n xs ≡ stored zs) (c .history) (entered-here n ys (c .formed) (c .fits) ∙ e) in
+      record {
+        history = sym (ap (nowStored (after sameValue knownValue (events names room ns))) i);
+        each = ap (noted n (accepted sameValue knownValue (events names room ns))) i ∙ ap (λ (l : List (Row ℕ)). n ∷ l) (c .each);
+        formed = a .formed;
+        fits = a .fits;
+      }
+
+  comes-taken : (s : Step (Row ℕ)) (ns ys zs : List (Row ℕ)) → Comes names room ns ys → taken names room s ys ≡ stored zs → Comes names room (asks s ns) zs
+  unfolding taken asks
+  comes-taken (stop k) ns ys zs c e = absurd (let z : _≡_ {A = ℕ} 0 1 = cc in omega arith)
+  comes-taken skip ns ys zs c e = let d : ys ≡ zs = cc in subst (Comes names room ns) d c
+  comes-taken (give n) ns ys zs c e = comes-entered n ns ys zs c e
+
+  comes-intervals : (step : Interval → Step (Row ℕ)) (t k : ℕ) (xs : List Interval) (ns ys zs : List (Row ℕ)) → Comes names room ns ys
+      → layIntervals names room step t k xs ys ≡ built zs → Comes names room (intervalsAsk step xs ns) zs
+  unfolding layIntervals intervalsAsk onward
+  comes-intervals step t k [] ns ys zs c e = let d : ys ≡ zs = cc in subst (Comes names room ns) d c
+  comes-intervals step t k (x ∷ xs) ns ys zs c e =
+      go (λ ws. comes-intervals step t (k + 1) xs (asks (step x) ns) ws zs) (taken names room (step x) ys) refl e
+    where
+      go : ((ws : List (Row ℕ)) → Comes names room (asks (step x) ns) ws → layIntervals names room step t (k + 1) xs ws ≡ built zs
+          → Comes names room (intervalsAsk step xs (asks (step x) ns)) zs)
+          → (o : Outcome (Row ℕ)) → taken names room (step x) ys ≡ o → onward t k (layIntervals names room step t (k + 1) xs) o ≡ built zs
+          → Comes names room (intervalsAsk step xs (asks (step x) ns)) zs
+      go rest (refusedBy q) f g = absurd (let z : _≡_ {A = ℕ} 0 1 = cc in omega arith)
+      go rest (stored ws) f g = rest ws (comes-taken (step x) ns ys ws c f) g
+
+module _ (room : ℕ) (texts : List (List ℕ)) (few : length texts ≤ 4096) (small : room ≤ 65536) where
+  comes-mapping : (d : Direction) (t : ℕ) (m : Mapping) (ns ys zs : List (Row ℕ)) → Comes (length texts) room ns ys
+      → layMapping room texts d t m ys ≡ built zs → Comes (length texts) room (mappingAsks texts d m ns) zs
+  unfolding layMapping mappingAsks layRead readAsks
+  comes-mapping Forward t m ns ys zs c e = comes-intervals (length texts) room few small (forwardStep texts (m .name)) t 0 (m .intervals) ns ys zs c e
+  comes-mapping Inverse t m ns ys zs c e = go (andThen (textOf texts (m .name)) numberIn) e
+    where
+      go : (r : Read ℕ) → layRead room texts t (m .intervals) ys r ≡ built zs → Comes (length texts) room (readAsks texts (m .intervals) r ns) zs
+      go (fault q) f = absurd (let z : _≡_ {A = ℕ} 0 1 = cc in omega arith)
+      go (value i) f = comes-intervals (length texts) room few small (inverseStep texts i) t 0 (m .intervals) ns ys zs c f
+
+  comes-mappings : (d : Direction) (t : ℕ) (ms : List Mapping) (ns ys zs : List (Row ℕ)) → Comes (length texts) room ns ys
+      → layMappings room texts d t ms ys ≡ built zs → Comes (length texts) room (mappingsAsk texts d ms ns) zs
+  unfolding layMappings mappingsAsk further
+  comes-mappings d t [] ns ys zs c e = let q : ys ≡ zs = cc in subst (Comes (length texts) room ns) q c
+  comes-mappings d t (m ∷ ms) ns ys zs c e =
+      go (λ ws. comes-mappings d (t + 1) ms (mappingAsks texts d m ns) ws zs) (layMapping room texts d t m ys) refl e
+    where
+      go : ((ws : List (Row ℕ)) → Comes (length texts) room (mappingAsks texts d m ns) ws → layMappings room texts d (t + 1) ms ws ≡ built zs
+          → Comes (length texts) room (mappingsAsk texts d ms (mappingAsks texts d m ns)) zs)
+          → (b : Build (Row ℕ)) → layMapping room texts d t m ys ≡ b → further (layMappings room texts d (t + 1) ms) b ≡ built zs
+          → Comes (length texts) room (mappingsAsk texts d ms (mappingAsks texts d m ns)) zs
+      go rest (stopped q s k) f g = absurd (let z : _≡_ {A = ℕ} 0 1 = cc in omega arith)
+      go rest (built ws) f g = rest ws (comes-mapping d t m ns ys ws c f) g
+
+  -- a done build's rows are those after the inserts that its steps ask for, each accepted
+  pub built-history : (m : Metadata) (ys : List (Row ℕ)) → overTime room texts m ≡ built ys → Comes (length texts) room (insertsAsked texts m) ys
+  unfolding overTime directed insertsAsked directedAsks events after accepted wellFormed ordered allKnown
+  built-history m ys = go (directionOf (m .fields))
+    where
+      go : (r : Read Direction) → directed room texts (m .mappings) r ≡ built ys → Comes (length texts) room (directedAsks texts (m .mappings) r) ys
+      go (fault q) e = absurd (let z : _≡_ {A = ℕ} 0 1 = cc in omega arith)
+      go (value d) e = comes-mappings d 0 (m .mappings) [] [] ys (record { history = refl; each = refl; formed = tt; fits = omega arith }) e
+
+  -- so demand 3 holds of it
+  pub built-demanded : (m : Metadata) (ys : List (Row ℕ)) → overTime room texts m ≡ built ys → Demanded (length texts) (insertsAsked texts m) ys
+  built-demanded m ys e =
+      let c : Comes (length texts) room (insertsAsked texts m) ys = built-history m ys e in
+      let es : List (Event ℕ) = events (length texts) room (insertsAsked texts m) in
+      let w : Told sameValue symbols knownValue (after sameValue knownValue es) (accepted sameValue knownValue es) = told sameValue symbols knownValue es in
+      record {
+        well-formed = c .formed;
+        latest = λ i q. ap (λ (xs : List (Row ℕ)). answerFor xs i q) (c .history) ∙ w .latest i q ∙ ap (λ (xs : List (Row ℕ)). answerFor xs i q) (c .each);
+        runs = λ x.
+            subst (λ (ns : List (Row ℕ)). Mem x ys ↔ IsRun (answerFor ns (x .instrument)) (intervalOf x)) (c .each)
+            (subst (λ (xs : List (Row ℕ)). Mem x xs ↔ IsRun (answerFor (accepted sameValue knownValue es) (x .instrument)) (intervalOf x)) (sym (c .history))
+            (stored-runs sameValue symbols knownValue es x));
+      }

@@ -1,0 +1,489 @@
+-- What the point-in-time build comes to, step by step, and what it comes to in all: the table is sorted with known symbols, the latest
+-- entry of an instrument decides, and only document 01's refusals are given. Assumes nothing.
+use mathlib.Core.Path.{_≡_, refl, sym, ap, _∙_}
+use Prim.Native.Nat.{ℕ, zero, suc, _+_, _-_, _*_, _/_, _%_, _≤_, _<_}
+use native.Mathlib.Omega.{arith}
+use native.Mathlib.Decide.{decLt, ℕ-discrete}
+use mathlib.Core.Bool.{Bool, true, false, _&&_, _||_, cond}
+use mathlib.Core.List.{List, [], _∷_}
+use lib.ListN.{length, getD, set, length-set, List·getD-eq-default}
+use lib.Seq.{getD-set-same, getD-set-other, ext-getD}
+use lib.Dec.{T, leb, ltb, eqb}
+use borrow.Author.Tests.{lt-ltb, le-ltb, le-leb, lt-leb}
+use Rattle.theory.specs.Answer.{Answer, answer}
+use Rattle.theory.specs.Fields.{putField, length-put, put-byte}
+use Rattle.theory.specs.RunsTools.{cond-case, ltb-case}
+use Rattle.leaves.specs.NumberText.{numberText, someDigits, digits, isDigit}
+use Rattle.leaves.specs.Calendar.{isDate, dayNumber}
+use Rattle.leaves.specs.Days.{dayOf, inRange}
+use Rattle.leaves.specs.Refusal.{refused}
+use Rattle.leaves.specs.declared.refusal.Refusal.the-variants.{NoDate}
+use Rattle.map_rules.specs.Table.{Outcome, refusedBy, stored, ifRoom}
+use Rattle.map_time.specs.declared.entries.Entry.{Entry}
+use Rattle.map_time.specs.Entries.{putEntry, putEntries}
+use Rattle.map_time.specs.EntriesLaws.{length-putEntry, length-putEntries}
+use Rattle.map_time.specs.Points.{rising, allKnown, symbolFor, setEntry}
+use Rattle.map_time.specs.PointsLaws.{set-rising, set-known, after, latest}
+use Rattle.metadata_rules.specs.declared.Interval.{Interval}
+use Rattle.metadata_rules.specs.Metadata.{Fields, Mapping, Metadata}
+use Rattle.build_rules.specs.Reading.{Read, fault, value, readOf, textOf, numberIn, dayIn, isEmpty, symbolUnder, symbolIn, directionBy, directionOf}
+use Rattle.build_rules.specs.declared.reading.Direction.{Direction}
+use Rattle.build_rules.specs.declared.reading.Direction.the-variants.{Forward, Inverse}
+use Rattle.build_rules.specs.declared.reading.Symbol.the-variants.{Unknown, Empty, Filled}
+use Rattle.build_rules.specs.OverTime.{Step, stop, skip, give, reading, unlessEmpty, Build, stopped, built, onward}
+use Rattle.build_rules.specs.PointInTime.{Counted, undated, none as noneCounts, counts, countsFrom, counting, numberSide, entryOf, pointStep, placeOf, pointTaken, pickMapping, pickMappings, outsideQuery, onDay, asked, pointInTime}
+
+-- ---- which interval counts
+
+module _ (day k : ℕ) (x : Interval) (xs : List Interval) where
+  pub counting-bad-start : {c : ℕ} → fault c ≡ dayIn (x .start) → counting day k (x ∷ xs) ≡ undated k
+  unfolding counting countsFrom
+  counting-bad-start e = sym (ap (λ (r : Read ℕ). countsFrom day k x r (dayIn (x .end)) (counting day (k + 1) xs)) e)
+
+  module _ {a : ℕ} (e : value a ≡ dayIn (x .start)) where
+    started : countsFrom day k x (value a) (dayIn (x .end)) (counting day (k + 1) xs) ≡ counting day k (x ∷ xs)
+    unfolding counting
+    started = ap (λ (r : Read ℕ). countsFrom day k x r (dayIn (x .end)) (counting day (k + 1) xs)) e
+
+    pub counting-bad-end : {c : ℕ} → fault c ≡ dayIn (x .end) → counting day k (x ∷ xs) ≡ undated k
+    unfolding countsFrom
+    counting-bad-end f = sym (ap (λ (r : Read ℕ). countsFrom day k x (value a) r (counting day (k + 1) xs)) f ∙ started)
+
+    module _ {b : ℕ} (f : value b ≡ dayIn (x .end)) where
+      dated : counting day k (x ∷ xs) ≡ cond (leb a day && ltb day b) (counts k x) (counting day (k + 1) xs)
+      unfolding countsFrom
+      dated = sym (ap (λ (r : Read ℕ). countsFrom day k x (value a) r (counting day (k + 1) xs)) f ∙ started)
+
+      pub counting-covers : a ≤ day → day < b → counting day k (x ∷ xs) ≡ counts k x
+      counting-covers h l = dated ∙ rw (le-leb a day h, lt-ltb day b l) refl
+
+      pub counting-early : day < a → counting day k (x ∷ xs) ≡ counting day (k + 1) xs
+      counting-early h = dated ∙ rw (lt-leb a day h) refl
+
+      pub counting-late : a ≤ day → b ≤ day → counting day k (x ∷ xs) ≡ counting day (k + 1) xs
+      counting-late h l = dated ∙ rw (le-leb a day h, le-ltb day b l) refl
+
+pub counting-end : (day k : ℕ) → counting day k [] ≡ noneCounts
+unfolding counting
+counting-end day k = refl
+
+-- ---- the step of the interval that counts
+
+never-unknown : (text : List ℕ) → Unknown ≡ symbolUnder (value text) → ⊥
+unfolding symbolUnder
+never-unknown [] e = let z : _≡_ {A = ℕ} 0 1 = cc in omega arith
+never-unknown (b ∷ s) e = let z : _≡_ {A = ℕ} 0 1 = cc in omega arith
+
+empty-is : (text : List ℕ) → Empty ≡ symbolUnder (value text) → text ≡ []
+unfolding symbolUnder
+empty-is [] e = refl
+empty-is (b ∷ s) e = let z : _≡_ {A = ℕ} 0 1 = cc in absurd (omega arith)
+
+filled-is : (text : List ℕ) → Filled ≡ symbolUnder (value text) → isEmpty text ≡ false
+unfolding symbolUnder
+filled-is [] e = let z : _≡_ {A = ℕ} 0 1 = cc in absurd (omega arith)
+filled-is (b ∷ s) e = refl
+
+-- a symbol that is known and not empty
+pub record Full (texts : List (List ℕ)) (n : ℕ) : Type 0 where
+  pub known : n < length texts
+  pub read : textOf texts n ≡ value (getD texts n [])
+  pub full : isEmpty (getD texts n []) ≡ false
+
+module _ (texts : List (List ℕ)) (n : ℕ) where
+  text-case : (P : Read (List ℕ) → Type 0) → (n < length texts → P (value (getD texts n []))) → (length texts ≤ n → P (fault 3)) → P (textOf texts n)
+  unfolding textOf
+  text-case P = ltb-case P n (length texts) (value (getD texts n [])) (fault 3)
+
+  unknown-text : Unknown ≡ symbolIn texts n → textOf texts n ≡ fault 3
+  unfolding symbolIn
+  unknown-text = text-case (λ r. Unknown ≡ symbolUnder r → r ≡ fault 3) (λ h e. absurd (never-unknown (getD texts n []) e)) (λ h e. refl)
+
+  empty-text : Empty ≡ symbolIn texts n → textOf texts n ≡ value []
+  unfolding symbolIn symbolUnder
+  empty-text =
+      text-case (λ r. Empty ≡ symbolUnder r → r ≡ value []) (λ h e. ap value (empty-is (getD texts n []) e))
+      (λ h e. let z : _≡_ {A = ℕ} 0 1 = cc in absurd (omega arith))
+
+  pub filled-text : Filled ≡ symbolIn texts n → Full texts n
+  unfolding symbolIn symbolUnder
+  filled-text e =
+      let f = go e in
+      record { known = f .0; read = f .1; full = f .2 }
+    where
+      go : Filled ≡ symbolUnder (textOf texts n) → (n < length texts) × (textOf texts n ≡ value (getD texts n [])) × (isEmpty (getD texts n []) ≡ false)
+      go =
+          text-case (λ r. Filled ≡ symbolUnder r → (n < length texts) × (r ≡ value (getD texts n [])) × (isEmpty (getD texts n []) ≡ false))
+          (λ h e. (h, refl, filled-is (getD texts n []) e))
+          (λ h e. let z : _≡_ {A = ℕ} 0 1 = cc in absurd (omega arith))
+
+-- the step once the mapping's name is read, and before it is
+unfoldable pub numberStep : Direction → ℕ → ℕ → List ℕ → List ℕ → Step Entry
+unfolding reading numberIn numberSide entryOf
+numberStep d name n symbol mapped = reading (numberIn (numberSide d symbol mapped)) (λ i. give (entryOf d i n name))
+
+unfoldable pub nameStep : List (List ℕ) → Direction → ℕ → ℕ → List ℕ → Step Entry
+unfolding reading textOf numberStep
+nameStep texts d name n symbol = reading (textOf texts name) (numberStep d name n symbol)
+
+module _ (texts : List (List ℕ)) (d : Direction) (name k : ℕ) (x : Interval) where
+  stepped : pointStep texts d name (counts k x) ≡ reading (textOf texts (x .symbol)) (λ symbol. unlessEmpty symbol (nameStep texts d name (x .symbol) symbol))
+  unfolding pointStep nameStep
+  stepped = refl
+
+  read-step : {r : Read (List ℕ)} → textOf texts (x .symbol) ≡ r
+      → pointStep texts d name (counts k x) ≡ reading r (λ symbol. unlessEmpty symbol (nameStep texts d name (x .symbol) symbol))
+  read-step e = stepped ∙ ap (λ (r : Read (List ℕ)). reading r (λ symbol. unlessEmpty symbol (nameStep texts d name (x .symbol) symbol))) e
+
+  pub step-unknown : Unknown ≡ symbolIn texts (x .symbol) → pointStep texts d name (counts k x) ≡ stop 3
+  unfolding reading
+  step-unknown e = read-step (unknown-text texts (x .symbol) e)
+
+  pub step-empty : Empty ≡ symbolIn texts (x .symbol) → pointStep texts d name (counts k x) ≡ skip
+  unfolding reading unlessEmpty isEmpty
+  step-empty e = read-step (empty-text texts (x .symbol) e)
+
+  pub step-filled : Filled ≡ symbolIn texts (x .symbol) → pointStep texts d name (counts k x) ≡ nameStep texts d name (x .symbol) (getD texts (x .symbol) [])
+  unfolding reading unlessEmpty
+  step-filled e =
+      let f = filled-text texts (x .symbol) e in
+      read-step (f .read) ∙ ap (λ (b : Bool). cond b skip (nameStep texts d name (x .symbol) (getD texts (x .symbol) []))) (f .full)
+
+module _ (texts : List (List ℕ)) (d : Direction) (name n : ℕ) (symbol : List ℕ) where
+  pub name-unknown : textOf texts name ≡ fault 3 → nameStep texts d name n symbol ≡ stop 3
+  unfolding nameStep reading
+  name-unknown e = ap (λ (r : Read (List ℕ)). reading r (numberStep d name n symbol)) e
+
+  pub name-known : textOf texts name ≡ value (getD texts name []) → nameStep texts d name n symbol ≡ numberStep d name n symbol (getD texts name [])
+  unfolding nameStep reading
+  name-known e = ap (λ (r : Read (List ℕ)). reading r (numberStep d name n symbol)) e
+
+-- a number that was read, and the other side's name: the entry, or 8
+unfoldable pub numbered : ℕ → Read ℕ → Step Entry
+unfolding reading
+numbered v r = reading r (λ i. give (record { instrument = i; symbol = v }))
+
+module _ (name n : ℕ) (symbol mapped : List ℕ) where
+  pub forward-step : numberStep Forward name n symbol mapped ≡ numbered name (numberIn symbol)
+  unfolding numberStep numbered
+  forward-step = refl
+
+  pub inverse-step : numberStep Inverse name n symbol mapped ≡ numbered n (numberIn mapped)
+  unfolding numberStep numbered
+  inverse-step = refl
+
+-- ---- the mappings
+
+module _ (room : ℕ) (texts : List (List ℕ)) (d : Direction) (day : ℕ) where
+  pub pick-end : (t : ℕ) (es : List Entry) → pickMappings room texts d day t [] es ≡ built es
+  unfolding pickMappings
+  pick-end t es = refl
+
+  module _ (t : ℕ) (m : Mapping) (ms : List Mapping) (es : List Entry) where
+    picked : {o : Outcome Entry} → pickMapping room texts d day m es ≡ o
+        → pickMappings room texts d day t (m ∷ ms) es ≡ onward t (placeOf (counting day 0 (m .intervals))) (pickMappings room texts d day (t + 1) ms) o
+    unfolding pickMappings
+    picked e = ap (onward t (placeOf (counting day 0 (m .intervals))) (pickMappings room texts d day (t + 1) ms)) e
+
+    pub pick-stored : {out : List Entry} → pickMapping room texts d day m es ≡ stored out
+        → pickMappings room texts d day t (m ∷ ms) es ≡ pickMappings room texts d day (t + 1) ms out
+    unfolding onward
+    pick-stored e = picked e
+
+    pub pick-refused : {c : ℕ} → pickMapping room texts d day m es ≡ refusedBy c
+        → pickMappings room texts d day t (m ∷ ms) es ≡ stopped c t (placeOf (counting day 0 (m .intervals)))
+    unfolding onward
+    pick-refused e = picked e
+
+  pub pick-is : (m : Mapping) (es : List Entry) {s : Step Entry} → s ≡ pointStep texts d (m .name) (counting day 0 (m .intervals))
+      → pickMapping room texts d day m es ≡ pointTaken room s es
+  unfolding pickMapping
+  pick-is m es e = ap (λ (s : Step Entry). pointTaken room s es) (sym e)
+
+module _ (room : ℕ) (es : List Entry) where
+  pub taken-stop : (c : ℕ) → pointTaken room (stop c) es ≡ refusedBy c
+  unfolding pointTaken
+  taken-stop c = refl
+
+  pub taken-skip : pointTaken room skip es ≡ stored es
+  unfolding pointTaken
+  taken-skip = refl
+
+  pub taken-set : (e : Entry) → length (setEntry e es) ≤ room → pointTaken room (give e) es ≡ stored (setEntry e es)
+  unfolding pointTaken ifRoom
+  taken-set e h = rw (le-ltb room (length (setEntry e es)) h) refl
+
+  pub taken-full : (e : Entry) → room < length (setEntry e es) → pointTaken room (give e) es ≡ refusedBy 2
+  unfolding pointTaken ifRoom
+  taken-full e h = rw (lt-ltb room (length (setEntry e es)) h) refl
+
+-- ---- what a build gives: a sorted table with known symbols that fits its room, or one of the refusals that document 01 has for it
+
+unfoldable pub pointRefusal : ℕ → Bool
+pointRefusal c = eqb c 2 || (eqb c 3 || (eqb c 8 || (eqb c 9 || (eqb c 10 || eqb c 11))))
+
+pub record Sorted (room names : ℕ) (es : List Entry) : Type 0 where
+  pub sorted : T (rising es)
+  pub known : T (allKnown names es)
+  pub fits : length es ≤ room
+
+abbrev pub Sound : ℕ → ℕ → Build Entry → Type 0
+Sound room names (stopped c t k) = T (pointRefusal c)
+Sound room names (built es) = Sorted room names es
+
+abbrev OutcomeSound : ℕ → ℕ → Outcome Entry → Type 0
+OutcomeSound room names (refusedBy c) = T (pointRefusal c)
+OutcomeSound room names (stored es) = Sorted room names es
+
+abbrev StepSound : ℕ → Step Entry → Type 0
+StepSound names (stop c) = T (pointRefusal c)
+StepSound names skip = Unit {0}
+StepSound names (give e) = e .symbol < names
+
+-- a reading that meets no other refusal
+abbrev Only : {X : Type 0} → ℕ → Read X → Type 0
+Only w r = (c : ℕ) → fault c ≡ r → c ≡ w
+
+only-fault : {X : Type 0} (w : ℕ) → Only {X = X} w (fault w)
+only-fault w c e = cc
+
+only-value : {X : Type 0} (w : ℕ) (x : X) → Only w (value x)
+only-value w x c e = cc
+
+only-cond : {X : Type 0} (w : ℕ) (b : Bool) {x y : Read X} → Only w x → Only w y → Only w (cond b x y)
+only-cond w true p q = p
+only-cond w false p q = q
+
+abbrev Reads : ℕ → Answer → Type 0
+Reads w a = Only w (readOf a)
+
+reads-cond : (w : ℕ) (b : Bool) (x y : Answer) → Reads w x → Reads w y → Reads w (cond b x y)
+reads-cond w true x y p q = p
+reads-cond w false x y p q = q
+
+reads-done : (w v : ℕ) → Reads w (answer 0 (v ∷ []))
+unfolding readOf
+reads-done w v = only-value w v
+
+reads-stuck : (place : ℕ) → Reads 8 (answer 8 (place ∷ []))
+unfolding readOf
+reads-stuck place = only-fault 8
+
+digits-8 : (place v : ℕ) (s : List ℕ) → Reads 8 (digits place v s)
+unfolding digits
+digits-8 place v [] = reads-done 8 v
+digits-8 place v (b ∷ s) = reads-cond 8 (isDigit b && leb (v * 10 + (b - 48)) 4294967295) _ _ (digits-8 (place + 1) (v * 10 + (b - 48)) s) (reads-stuck place)
+
+some-8 : (place : ℕ) (s : List ℕ) → Reads 8 (someDigits place s)
+unfolding someDigits
+some-8 place [] = reads-stuck place
+some-8 place (b ∷ s) = digits-8 place 0 (b ∷ s)
+
+number-8 : (text : List ℕ) → Only 8 (numberIn text)
+unfolding numberIn numberText
+number-8 [] = reads-stuck 0
+number-8 (b ∷ s) = reads-cond 8 (eqb b 43) (someDigits 1 s) (someDigits 0 (b ∷ s)) (some-8 1 s) (some-8 0 (b ∷ s))
+
+day-11 : (date : ℕ) → Only 11 (dayIn date)
+unfolding dayIn dayOf readOf
+day-11 date = reads-cond 11 (isDate date && inRange date) (answer 0 (dayNumber date ∷ [])) (refused NoDate) (reads-done 11 (dayNumber date)) (only-fault 11)
+
+direction-9 : (f : Fields) → Only 9 (directionOf f)
+unfolding directionOf directionBy
+direction-9 f = only-cond 9 (eqb (f .stype-out) 0) (only-value 9 Forward) (only-cond 9 (eqb (f .stype-in) 0) (only-value 9 Inverse) (only-fault 9))
+
+numbered-sound : (names v : ℕ) (r : Read ℕ) → v < names → Only 8 r → StepSound names (numbered v r)
+unfolding numbered reading pointRefusal
+numbered-sound names v (fault c) h f = rw (f c refl) tt
+numbered-sound names v (value i) h f = h
+
+number-sound : (names : ℕ) (d : Direction) (name n : ℕ) (symbol mapped : List ℕ) → name < names → n < names → StepSound names (numberStep d name n symbol mapped)
+number-sound names Forward name n symbol mapped h l = rw (forward-step name n symbol mapped) (numbered-sound names name (numberIn symbol) h (number-8 symbol))
+number-sound names Inverse name n symbol mapped h l = rw (inverse-step name n symbol mapped) (numbered-sound names n (numberIn mapped) l (number-8 mapped))
+
+module _ (texts : List (List ℕ)) (d : Direction) (name : ℕ) where
+  name-sound : (n : ℕ) (symbol : List ℕ) → n < length texts → StepSound (length texts) (nameStep texts d name n symbol)
+  unfolding nameStep reading pointRefusal
+  name-sound n symbol l =
+      text-case texts name (λ r. StepSound (length texts) (reading r (numberStep d name n symbol)))
+      (λ h. number-sound (length texts) d name n symbol (getD texts name []) h l) (λ h. tt)
+
+  unless-sound : (text : List ℕ) (s : Step Entry) → StepSound (length texts) s → StepSound (length texts) (unlessEmpty text s)
+  unfolding unlessEmpty isEmpty
+  unless-sound [] s h = tt
+  unless-sound (b ∷ t) s h = h
+
+  step-sound : (z : Counted) → StepSound (length texts) (pointStep texts d name z)
+  unfolding pointStep pointRefusal
+  step-sound (undated k) = tt
+  step-sound noneCounts = tt
+  step-sound (counts k x) = rw (stepped texts d name k x) (counted-sound x)
+    where
+      counted-sound : (x : Interval) → StepSound (length texts) (reading (textOf texts (x .symbol)) (λ symbol. unlessEmpty symbol (nameStep texts d name (x .symbol) symbol)))
+      counted-sound x =
+          text-case texts (x .symbol) (λ r. StepSound (length texts) (reading r (λ symbol. unlessEmpty symbol (nameStep texts d name (x .symbol) symbol))))
+          (λ h. unless-sound (getD texts (x .symbol) []) _ (name-sound (x .symbol) (getD texts (x .symbol) []) h)) (λ h. tt)
+
+module _ (room names : ℕ) (es : List Entry) (w : Sorted room names es) where
+  taken-sound : (s : Step Entry) → StepSound names s → OutcomeSound room names (pointTaken room s es)
+  unfolding pointTaken ifRoom pointRefusal
+  taken-sound (stop c) h = h
+  taken-sound skip h = w
+  taken-sound (give e) h =
+      ltb-case (OutcomeSound room names) room (length (setEntry e es)) _ _ (λ l. tt)
+      (λ l. record { sorted = set-rising e es (w .sorted); known = set-known names e es h (w .known); fits = l })
+
+module _ (room : ℕ) (texts : List (List ℕ)) (d : Direction) (day : ℕ) where
+  pick-sound : (ms : List Mapping) (t : ℕ) (es : List Entry) → Sorted room (length texts) es → Sound room (length texts) (pickMappings room texts d day t ms es)
+  unfolding pickMappings pickMapping onward
+  pick-sound [] t es w = w
+  pick-sound (m ∷ ms) t es w =
+      go (pointTaken room (pointStep texts d (m .name) (counting day 0 (m .intervals))) es)
+      (taken-sound room (length texts) es w (pointStep texts d (m .name) (counting day 0 (m .intervals))) (step-sound texts d (m .name) (counting day 0 (m .intervals))))
+      (pick-sound ms (t + 1))
+    where
+      go : (o : Outcome Entry) → OutcomeSound room (length texts) o
+          → ((out : List Entry) → Sorted room (length texts) out → Sound room (length texts) (pickMappings room texts d day (t + 1) ms out))
+          → Sound room (length texts) (onward t (placeOf (counting day 0 (m .intervals))) (pickMappings room texts d day (t + 1) ms) o)
+      go (refusedBy c) h f = h
+      go (stored out) h f = f out h
+
+pub point-sound : (room : ℕ) (texts : List (List ℕ)) (m : Metadata) (date : ℕ) → Sound room (length texts) (pointInTime room texts m date)
+unfolding pointInTime asked onDay pointRefusal rising allKnown
+point-sound room texts m date = go (dayIn date) (day-11 date)
+  where
+    on : (day : ℕ) (r : Read Direction) → Only 9 r → Sound room (length texts) (onDay room texts m r day)
+    on day (fault c) f = rw (f c refl) tt
+    on day (value d) f =
+        cond-case (Sound room (length texts)) (outsideQuery (m .fields) day) _ _ (λ h. tt)
+        (λ h. pick-sound room texts d day (m .mappings) 0 [] (record { sorted = tt; known = tt; fits = omega arith }))
+
+    go : (r : Read ℕ) → Only 11 r → Sound room (length texts) (asked room texts m r)
+    go (fault c) f = rw (f c refl) tt
+    go (value day) f = on day (directionOf (m .fields)) (direction-9 (m .fields))
+
+-- ---- "A later entry for one instrument replaces the earlier one"
+
+-- a mapping's entry before those set so far
+unfoldable pub onto : Step Entry → List Entry → List Entry
+onto (stop c) es = es
+onto skip es = es
+onto (give e) es = e ∷ es
+
+-- the entries that the mappings set, the latest first
+unfoldable pub settings : List (List ℕ) → Direction → ℕ → List Mapping → List Entry → List Entry
+unfolding onto pointStep counting
+settings texts d day [] es = es
+settings texts d day (m ∷ ms) es = settings texts d day ms (onto (pointStep texts d (m .name) (counting day 0 (m .intervals))) es)
+
+module _ (room : ℕ) (texts : List (List ℕ)) (d : Direction) (day : ℕ) where
+  picked-after : (ms : List Mapping) (t : ℕ) (es out : List Entry) → pickMappings room texts d day t ms (after es) ≡ built out → out ≡ after (settings texts d day ms es)
+  unfolding pickMappings pickMapping pointTaken ifRoom onward settings onto after
+  picked-after [] t es out e = cc
+  picked-after (m ∷ ms) t es out e = go (pointStep texts d (m .name) (counting day 0 (m .intervals))) (picked-after ms (t + 1)) e
+    where
+      rest : List Entry → Build Entry
+      rest = pickMappings room texts d day (t + 1) ms
+
+      place : ℕ
+      place = placeOf (counting day 0 (m .intervals))
+
+      roomy : (b : Bool) (x : Entry) → ((us out : List Entry) → rest (after us) ≡ built out → out ≡ after (settings texts d day ms us))
+          → onward t place rest (cond b (refusedBy 2) (stored (setEntry x (after es)))) ≡ built out → out ≡ after (settings texts d day ms (x ∷ es))
+      roomy true x f e = let z : _≡_ {A = ℕ} 0 1 = cc in absurd (omega arith)
+      roomy false x f e = f (x ∷ es) out e
+
+      go : (s : Step Entry) → ((us out : List Entry) → rest (after us) ≡ built out → out ≡ after (settings texts d day ms us))
+          → onward t place rest (pointTaken room s (after es)) ≡ built out → out ≡ after (settings texts d day ms (onto s es))
+      go (stop c) f e = let z : _≡_ {A = ℕ} 0 1 = cc in absurd (omega arith)
+      go skip f e = f es out e
+      go (give x) f e = roomy (ltb room (length (setEntry x (after es)))) x f e
+
+-- an instrument's symbol in the built table is that of the latest entry set for it, and one for which none was set has none
+pub point-latest : (room : ℕ) (texts : List (List ℕ)) (m : Metadata) (date : ℕ) {d : Direction} {day : ℕ} {es : List Entry}
+    → directionOf (m .fields) ≡ value d → dayIn date ≡ value day → pointInTime room texts m date ≡ built es
+    → (i : ℕ) → symbolFor i es ≡ symbolFor i (settings texts d day (m .mappings) [])
+unfolding pointInTime asked onDay after
+point-latest room texts m date {d} {day} {es} e f g i =
+    ap (symbolFor i)
+    (go (outsideQuery (m .fields) day)
+    (sym (ap (λ (r : Read Direction). onDay room texts m r day) e) ∙ sym (ap (asked room texts m) f) ∙ g))
+    ∙ latest (settings texts d day (m .mappings) []) i
+  where
+    go : (b : Bool) → cond b (stopped 10 0 0) (pickMappings room texts d day 0 (m .mappings) []) ≡ built es → es ≡ after (settings texts d day (m .mappings) [])
+    go true h = let z : _≡_ {A = ℕ} 0 1 = cc in absurd (omega arith)
+    go false h = picked-after room texts d day (m .mappings) 0 [] es h
+
+-- ---- entries laid over fewer entries
+
+-- two lists of one length that agree at x, or have a number stored over it
+put-agree : (w : ℕ) (b b′ : List ℕ) (at v x : ℕ) → length b ≡ length b′ → ((at ≤ x → x < at + w → ⊥) → getD b x 0 ≡ getD b′ x 0)
+    → getD (putField w b at v) x 0 ≡ getD (putField w b′ at v) x 0
+unfolding putField
+put-agree zero b b′ at v x l h = h (λ p q. omega arith)
+put-agree (suc w) b b′ at v x l h =
+    put-agree w (set b at (v % 256)) (set b′ at (v % 256)) (at + 1) (v / 256) x (length-set b at (v % 256) ∙ l ∙ sym (length-set b′ at (v % 256)))
+    (λ out. first (ℕ-discrete x at) out)
+  where
+    inside : Dec (at < length b) → getD (set b at (v % 256)) at 0 ≡ getD (set b′ at (v % 256)) at 0
+    inside (yes i) = getD-set-same b at (v % 256) 0 i ∙ sym (getD-set-same b′ at (v % 256) 0 (omega arith))
+    inside (no i) =
+        List·getD-eq-default (set b at (v % 256)) 0 (omega (arith, length-set b at (v % 256)))
+        ∙ sym (List·getD-eq-default (set b′ at (v % 256)) 0 (omega (arith, length-set b′ at (v % 256))))
+
+    first : Dec (x ≡ at) → (at + 1 ≤ x → x < at + 1 + w → ⊥) → getD (set b at (v % 256)) x 0 ≡ getD (set b′ at (v % 256)) x 0
+    first (yes e) out = rw e (inside (decLt at (length b)))
+    first (no d) out =
+        getD-set-other b at x (v % 256) 0 d ∙ h (λ p q. out (omega arith) (omega arith)) ∙ sym (getD-set-other b′ at x (v % 256) 0 d)
+
+-- a place is within two parts that meet, or within neither
+apart : (a m x e : ℕ) → (a ≤ x → x < m → ⊥) → (m ≤ x → x < e → ⊥) → a ≤ x → x < e → ⊥
+apart a m x e p q l u = go (decLt x m)
+  where
+    go : Dec (x < m) → ⊥
+    go (yes h) = p l h
+    go (no h) = q (omega arith) u
+
+entry-agree : (b b′ : List ℕ) (k : ℕ) (e : Entry) (x : ℕ) → length b ≡ length b′ → ((k * 8 ≤ x → x < k * 8 + 8 → ⊥) → getD b x 0 ≡ getD b′ x 0)
+    → getD (putEntry b k e) x 0 ≡ getD (putEntry b′ k e) x 0
+unfolding putEntry
+entry-agree b b′ k e x l h =
+    put-agree 4 (putField 4 b (k * 8) (e .instrument)) (putField 4 b′ (k * 8) (e .instrument)) (k * 8 + 4) (e .symbol) x
+    (length-put 4 b (k * 8) (e .instrument) ∙ l ∙ sym (length-put 4 b′ (k * 8) (e .instrument)))
+    (λ out. put-agree 4 b b′ (k * 8) (e .instrument) x l
+    (λ out′. h (λ p q. apart (k * 8) (k * 8 + 4) x (k * 8 + 4 + 4) out′ out p (omega arith))))
+
+entry-outside : (b : List ℕ) (k : ℕ) (e : Entry) (x : ℕ) → (k * 8 ≤ x → x < k * 8 + 8 → ⊥) → getD (putEntry b k e) x 0 ≡ getD b x 0
+unfolding putEntry
+entry-outside b k e x out =
+    put-byte 4 (putField 4 b (k * 8) (e .instrument)) (k * 8 + 4) (e .symbol) x (λ p q. out (omega arith) (omega arith))
+    ∙ put-byte 4 b (k * 8) (e .instrument) x (λ p q. out (omega arith) (omega arith))
+
+entries-outside : (b : List ℕ) (k : ℕ) (es : List Entry) (x : ℕ) → (k * 8 ≤ x → x < (k + length es) * 8 → ⊥) → getD (putEntries b k es) x 0 ≡ getD b x 0
+unfolding putEntries
+entries-outside b k [] x out = refl
+entries-outside b k (e ∷ es) x out =
+    entries-outside (putEntry b k e) (suc k) es x (λ p q. out (omega arith) (omega arith))
+    ∙ entry-outside b k e x (λ p q. out (omega arith) (omega arith))
+
+-- two tables that differ at n places at most are one table once as many entries are laid over these
+put-over : (ys : List Entry) (b b′ : List ℕ) (k n : ℕ) → length b ≡ length b′ → ((x : ℕ) → (k * 8 ≤ x → x < (k + n) * 8 → ⊥) → getD b x 0 ≡ getD b′ x 0)
+    → n ≤ length ys → putEntries b k ys ≡ putEntries b′ k ys
+unfolding putEntries
+put-over [] b b′ k n l h c = ext-getD 0 b b′ l (λ x i. h x (λ p q. omega arith))
+put-over (y ∷ ys) b b′ k n l h c =
+    put-over ys (putEntry b k y) (putEntry b′ k y) (suc k) (n - 1) (length-putEntry b k y ∙ l ∙ sym (length-putEntry b′ k y))
+    (λ x out. entry-agree b b′ k y x l
+    (λ out′. h x (λ p q. apart (k * 8) (k * 8 + 8) x ((k + n) * 8) out′ (λ p′ q′. out (omega arith) (omega arith)) p q)))
+    (omega arith)
+
+pub entries-over : (z : List ℕ) (xs ys : List Entry) → length xs ≤ length ys → putEntries (putEntries z 0 xs) 0 ys ≡ putEntries z 0 ys
+entries-over z xs ys h = put-over ys (putEntries z 0 xs) z 0 (length xs) (length-putEntries z 0 xs) (entries-outside z 0 xs) h
+
+-- an entry that is set makes a list no shorter
+pub set-longer : (e : Entry) (es : List Entry) → length es ≤ length (setEntry e es)
+unfolding setEntry
+set-longer e [] = omega arith
+set-longer e (y ∷ ys) =
+    ltb-case (λ (l : List Entry). suc (length ys) ≤ length l) (y .instrument) (e .instrument) _ _ (λ h. omega (arith, set-longer e ys))
+    (λ h. ltb-case (λ (l : List Entry). suc (length ys) ≤ length l) (e .instrument) (y .instrument) _ _ (λ h. omega arith) (λ h. omega arith))

@@ -1,0 +1,666 @@
+-- What the functions of the build promise one another: the table holds rows in order and 0 in every other place, and the rest of the
+-- build on it is the whole. Assumes nothing.
+use mathlib.Core.Path.{_≡_, refl, sym, ap, _∙_, subst}
+use Prim.Native.Nat.{ℕ, _+_, _-_, _*_, _/_, _≤_, _<_}
+use native.Mathlib.Omega.{arith}
+use mathlib.Core.Bool.{Bool, true, false, not, _&&_, cond}
+use mathlib.Core.List.{List, [], _∷_}
+use lib.ListN.{length, getD, replicate, length-replicate}
+use lib.Dec.{T}
+use Rattle.theory.specs.Answer.{answer}
+use Rattle.leaves.specs.Refusal.{numberOf, refused}
+use Rattle.leaves.specs.declared.refusal.Refusal.{Refusal}
+use Rattle.leaves.specs.declared.refusal.Refusal.the-variants.{Reversed, NoRoom, UnknownSymbol, BadName, NoNameRoom, Differ, Conflict, NotNumber, NoInstrumentId, OutsideQuery, NoDate, BadStreams, Damaged, IllFormed, BadMemory}
+use Rattle.map_time.specs.Interval.{rowOf}
+use Rattle.map_time.specs.Insert.{insertedOf}
+use Rattle.map_time.specs.declared.interval.Interval.{Interval}
+use Rattle.map_time.specs.declared.insert.Inserted.{Inserted}
+use Rattle.map_time.specs.declared.insert.Inserted.the-variants as inserted
+use Rattle.map_rules.specs.Table.{Row, Ordered, Outcome, refusedBy, stored, nowStored, ordered, allKnown, wellFormed, entered}
+use Rattle.map_rules.specs.Memory.{width, sameValue, knownValue, rowsFrom, rows, rowsBytes, roomOf, badTable, written, memoryAfter, outcomeAnswer, usedAfter, Gives}
+use Rattle.map_rules.specs.MemoryLaws.{length-rows}
+use Rattle.map_rules.specs.Outcomes.{Lent, table-lent}
+use Rattle.map_rules.specs.Tests.{formed-parts}
+use Rattle.map_rules.specs.Pieces.{symbols}
+use Rattle.map_rules.specs.History.{Accepted, entered-ok}
+use Rattle.leaves.specs.Names.{namesOf, memoryOk}
+use Rattle.leaves.specs.Names.{wellFormed as wellFormedNames}
+use Rattle.leaves.specs.NamesLaws.{holds, fails, memory}
+use Rattle.leaves.specs.NamesLaws.{Ordered as Ordered-names, ordered as ordered-names, formed as formed-names}
+use Rattle.leaves.specs.NamesList.{names-length}
+use Rattle.leaves.specs.declared.days.Moment.{Moment}
+use Rattle.leaves.specs.declared.days.Moment.the-variants as moment
+use Rattle.leaves.specs.FrameLaws.{refused-not-done}
+use Rattle.metadata_rules.specs.declared.Interval.{Interval as Span}
+use Rattle.metadata_rules.specs.Metadata.{Mapping, mapping}
+use Rattle.metadata_rules.specs.Words.{nameAt, countAt, before, intervalAt, stretch, mappingsFrom}
+use Rattle.metadata_form.specs.declared.header.Header.{Header}
+use Rattle.metadata_form.specs.declared.header.Lengths.{Lengths}
+use Rattle.metadata_form.specs.Header.{Lists, lengthsOf, metadataOf, sizedOf, Sized, sized-facts}
+use Rattle.metadata_lists.specs.Link.{before-next, before-up}
+use Rattle.build_rules.specs.declared.reading.Direction.{Direction}
+use Rattle.build_rules.specs.declared.reading.Direction.the-variants as direction
+use Rattle.build_rules.specs.declared.reading.Symbol.{Symbol}
+use Rattle.build_rules.specs.declared.reading.Symbol.the-variants.{Unknown, Empty, Filled}
+use Rattle.build_rules.specs.declared.reading.Instrument.{Instrument}
+use Rattle.build_rules.specs.declared.reading.Instrument.the-variants as instrument
+use Rattle.build_rules.specs.declared.reading.Heading.{Heading}
+use Rattle.build_rules.specs.declared.reading.Heading.the-variants as heading
+use Rattle.build_rules.specs.Reading.{Read, fault, andThen, textOf, numberIn, momentIn, directionBy, directionOf, symbolIn, headingRead, instrumentRead, momentRead}
+use Rattle.build_rules.specs.OverTime.{Step, stop, skip, give, reading, dated, forwardStep, inverseStep, taken, Build, stopped, built, layIntervals, layRead, layMapping, layMappings, directed, overTime, buildAnswer}
+use Rattle.build_rules.specs.OverTimeLaws.{unknown-stops, empty-skips, filled-known, filled-reads, dated-start, dated-end, dated-row, name-unknown, name-known, Plain, PlainStep, text-plain, number-plain, direction-plain, andThen-plain, forward-plain, inverse-plain, intervals-end, intervals-turn, intervals-stop, mappings-end, mappings-turn, mappings-stop, laid-blank, written-again}
+use Rattle.build_rules.specs.OverTimeHistory.{insertsAsked, Demanded, built-demanded}
+use Rattle.build_time.specs.declared.over_time.Built.{Built}
+use Rattle.build_time.specs.declared.over_time.Built.the-variants.{Done, Refused}
+use Rattle.build_time.specs.declared.over_time.Way.{Way}
+use Rattle.build_time.specs.declared.over_time.Way.the-variants.{Forward, Inverse}
+use Rattle.build_time.specs.declared.over_time.Asked.{Asked}
+use Rattle.build_time.specs.declared.over_time.Asked.the-variants.{Refuse, Nothing, Insert}
+use Rattle.build_time.specs.OverTime.{builtOf, isDone, usedOf, askedOf, wayStep, memoryFits, overTimeBuild, overTimeAnswer, builtMemory, overTimeMemory, builtRows, overTimeRows}
+
+-- ---- what holds between two steps
+
+-- a table of whole places with so many in use: well-formed, where so many names are known, and 0 in every other place
+pub record Holds (names : ℕ) (t : List ℕ) (used : ℕ) : Type 0 where
+  pub whole : length t ≡ roomOf t * width
+  pub in-use : used ≤ roomOf t
+  pub formed : T (wellFormed sameValue knownValue names (rows t used))
+  pub memory : t ≡ written (replicate (length t) 0) 0 (rows t used)
+
+-- one step had this outcome: the answer is the outcome's, and where it is done the table holds the outcome's rows
+pub record Took (names : ℕ) (o : Outcome (Row ℕ)) (r : Built) (t′ : List ℕ) : Type 0 where
+  pub answers : builtOf r ≡ outcomeAnswer o
+  pub on : (used : ℕ) → r ≡ Done used → (o ≡ stored (rows t′ used)) × Holds names t′ used
+
+-- and a stretch of the build
+pub record Lays (names : ℕ) (b : Build (Row ℕ)) (r : Built) (t′ : List ℕ) : Type 0 where
+  pub answers : builtOf r ≡ buildAnswer b
+  pub on : (used : ℕ) → r ≡ Done used → (b ≡ built (rows t′ used)) × Holds names t′ used
+
+-- the whole build: its answer, all the memory of so many bytes, and the rows that stand there
+pub record Leaves (b : Build (Row ℕ)) (long : ℕ) (r : Built) (t′ : List ℕ) : Type 0 where
+  pub answers : builtOf r ≡ buildAnswer b
+  pub memory : t′ ≡ builtMemory long b
+  pub stands : rows t′ (length (builtRows b)) ≡ builtRows b
+
+-- ---- one interval's step
+
+-- a refusal that comes with no values
+pub plain-refused : (r : Refusal) → Plain (numberOf r) → refused r ≡ answer (numberOf r) []
+plain-refused Reversed p = refl
+plain-refused NoRoom p = refl
+plain-refused UnknownSymbol p = refl
+plain-refused BadName p = refl
+plain-refused NoNameRoom p = refl
+plain-refused (Differ field) p = absurd (p .no-field refl)
+plain-refused Conflict p = refl
+plain-refused NotNumber p = refl
+plain-refused NoInstrumentId p = refl
+plain-refused OutsideQuery p = refl
+plain-refused NoDate p = refl
+plain-refused BadStreams p = refl
+plain-refused (Damaged stream place reason) p = absurd (p .no-damage refl)
+plain-refused IllFormed p = refl
+plain-refused BadMemory p = refl
+
+way-plain : (texts : List (List ℕ)) (way : Way) (x : Span) → PlainStep (wayStep texts way x)
+way-plain texts (Forward name) x = forward-plain texts name x
+way-plain texts (Inverse instrument) x = inverse-plain texts instrument x
+
+-- what a table in order gives a caller of an insert
+pub holds-ordered : {names : ℕ} {t : List ℕ} {used : ℕ} → Holds names t used → Ordered (rows t used)
+holds-ordered {names} {t} {used} h = formed-parts sameValue symbols knownValue names (rows t used) (h .formed) .0
+
+module _ (names : ℕ) (t t′ : List ℕ) (used : ℕ) (n : Row ℕ) (h : Holds names t used) (l : length t′ ≡ length t) where
+  abbrev xs : List (Row ℕ)
+  xs = rows t used
+
+  abbrev o : Outcome (Row ℕ)
+  o = entered sameValue knownValue names (roomOf t) n xs
+
+  -- an accepted insert leaves such a table
+  entered-holds : (ys : List (Row ℕ)) → o ≡ stored ys → Gives (stored ys) t used (answer 0 (length ys ∷ [])) t′ → Holds names t′ (length ys)
+  unfolding memoryAfter usedAfter nowStored
+  entered-holds ys e g =
+      let c : length xs ≡ used = length-rows t 0 used in
+      let in-use : length xs ≤ roomOf t = omega (arith, h .in-use) in
+      let a : Accepted sameValue symbols knownValue names (roomOf t) n xs ys = rw e at (entered-ok sameValue symbols knownValue names (roomOf t) n xs in-use (h .formed)) in
+      let r : roomOf t′ ≡ roomOf t = ap (λ (k : ℕ). k / 24) l in
+      let d : rows t′ (length ys) ≡ ys = g .holds in
+      let z : List ℕ = replicate (length t) 0 in
+      record {
+        whole = l ∙ h .whole ∙ ap (λ (k : ℕ). k * 24) (sym r);
+        in-use = omega (arith, a .fits, r);
+        formed = rw d (a .formed);
+        memory =
+            g .memory
+            ∙ ap (λ (k : ℕ). written t k ys) (sym c)
+            ∙ ap (λ (b : List ℕ). written b (length xs) ys) (h .memory)
+            ∙ written-again (length t) xs ys (omega (arith, h .whole)) (omega (arith, h .whole, a .fits))
+            ∙ (λ i. written (replicate (sym l i) 0) 0 (sym d i));
+      }
+
+-- ---- the step, by what its readings answered
+
+module _ (instrument symbol : ℕ) (x : Span) where
+  pub insert-start : {r : Moment} {why : Refusal} → momentRead r ≡ momentIn (x .start) → r ≡ moment.Refused why → stop (numberOf why) ≡ dated instrument symbol x
+  insert-start e d = dated-start instrument symbol x (sym e ∙ ap momentRead d)
+
+  pub insert-end : {r s : Moment} {a : ℕ} {why : Refusal} → momentRead r ≡ momentIn (x .start) → r ≡ moment.Nanoseconds a
+      → momentRead s ≡ momentIn (x .end) → s ≡ moment.Refused why → stop (numberOf why) ≡ dated instrument symbol x
+  insert-end e d f g = dated-end instrument symbol x (sym e ∙ ap momentRead d) (sym f ∙ ap momentRead g)
+
+  pub insert-row : {r s : Moment} {a b : ℕ} → momentRead r ≡ momentIn (x .start) → r ≡ moment.Nanoseconds a
+      → momentRead s ≡ momentIn (x .end) → s ≡ moment.Nanoseconds b
+      → give (record { instrument = instrument; start = a; end = b; value = symbol }) ≡ dated instrument symbol x
+  insert-row e d f g = dated-row instrument symbol x (sym e ∙ ap momentRead d) (sym f ∙ ap momentRead g)
+
+module _ (texts : List (List ℕ)) (x : Span) where
+  pub step-unknown : (way : Way) {s : Symbol} → s ≡ symbolIn texts (x .symbol) → s ≡ Unknown → stop 3 ≡ wayStep texts way x
+  unfolding forwardStep inverseStep
+  step-unknown (Forward name) e d = sym (unknown-stops texts (x .symbol) (sym e ∙ d) _)
+  step-unknown (Inverse instrument) e d = sym (unknown-stops texts (x .symbol) (sym e ∙ d) _)
+
+  pub step-empty : (way : Way) {s : Symbol} → s ≡ symbolIn texts (x .symbol) → s ≡ Empty → skip ≡ wayStep texts way x
+  unfolding forwardStep inverseStep
+  step-empty (Forward name) e d = sym (empty-skips texts (x .symbol) (sym e ∙ d) _)
+  step-empty (Inverse instrument) e d = sym (empty-skips texts (x .symbol) (sym e ∙ d) _)
+
+  forward-filled : (name : ℕ) {s : Symbol} → s ≡ symbolIn texts (x .symbol) → s ≡ Filled
+      → forwardStep texts name x ≡ reading (numberIn (getD texts (x .symbol) [])) (λ i. dated i name x)
+  unfolding forwardStep
+  forward-filled name e d = filled-reads texts (x .symbol) (sym e ∙ d) (λ text. reading (numberIn text) (λ i. dated i name x))
+
+  pub step-no-number : (name : ℕ) {way : Way} {s : Symbol} {r : Instrument} {why : Refusal} → s ≡ symbolIn texts (x .symbol) → s ≡ Filled → way ≡ Forward name
+      → instrumentRead r ≡ numberIn (getD texts (x .symbol) []) → r ≡ instrument.Refused why → stop (numberOf why) ≡ wayStep texts way x
+  unfolding reading
+  step-no-number name e d w f g =
+      sym (ap (λ (v : Way). wayStep texts v x) w ∙ forward-filled name e d
+      ∙ ap (λ (r : Read ℕ). reading r (λ i. dated i name x)) (sym f ∙ ap instrumentRead g))
+
+  pub step-number : (name : ℕ) {way : Way} {s : Symbol} {r : Instrument} {i : ℕ} → s ≡ symbolIn texts (x .symbol) → s ≡ Filled → way ≡ Forward name
+      → instrumentRead r ≡ numberIn (getD texts (x .symbol) []) → r ≡ instrument.Number i → dated i name x ≡ wayStep texts way x
+  unfolding reading
+  step-number name e d w f g =
+      sym (ap (λ (v : Way). wayStep texts v x) w ∙ forward-filled name e d
+      ∙ ap (λ (r : Read ℕ). reading r (λ i. dated i name x)) (sym f ∙ ap instrumentRead g))
+
+  pub step-inverse : (i : ℕ) {way : Way} {s : Symbol} → s ≡ symbolIn texts (x .symbol) → s ≡ Filled → way ≡ Inverse i
+      → dated i (x .symbol) x ≡ wayStep texts way x
+  unfolding inverseStep
+  step-inverse i e d w =
+      sym (ap (λ (v : Way). wayStep texts v x) w ∙ filled-reads texts (x .symbol) (sym e ∙ d) (λ text. dated i (x .symbol) x))
+
+-- ---- a name's number
+
+module _ (bytes ends : List ℕ) (names n : ℕ) where
+  pub symbol-known : {s : Symbol} → s ≡ symbolIn (namesOf bytes ends names) n → s ≡ Filled → n < names
+  symbol-known e d = subst (λ (k : ℕ). n < k) (names-length bytes ends names) (filled-known (namesOf bytes ends names) n (sym e ∙ d))
+
+  pub named-known : n < names → numberIn (getD (namesOf bytes ends names) n []) ≡ andThen (textOf (namesOf bytes ends names) n) numberIn
+  named-known h = name-known (namesOf bytes ends names) n numberIn (subst (λ (k : ℕ). n < k) (sym (names-length bytes ends names)) h)
+
+  pub named-unknown : names ≤ n → fault 3 ≡ andThen (textOf (namesOf bytes ends names) n) numberIn
+  named-unknown h = name-unknown (namesOf bytes ends names) n numberIn (subst (λ (k : ℕ). k ≤ n) (sym (names-length bytes ends names)) h)
+
+-- ---- one interval taken
+
+module _ (names : ℕ) (texts : List (List ℕ)) (way : Way) (x : Span) (t : List ℕ) (used : ℕ) where
+  abbrev step : Step (Row ℕ)
+  step = wayStep texts way x
+
+  pub took-refuse : {a : Asked} {why : Refusal} (t′ : List ℕ) → askedOf a ≡ wayStep texts way x → a ≡ Refuse why
+      → Took names (taken names (roomOf t) (wayStep texts way x) (rows t used)) (Refused why) t′
+  unfolding taken outcomeAnswer
+  took-refuse {a} {why} t′ e d =
+      let s : step ≡ stop (numberOf why) = sym e ∙ ap askedOf d in
+      rw s (record { answers = plain-refused why (way-plain texts way x (numberOf why) s); on = λ u f. absurd (let z : _≡_ {A = ℕ} 0 1 = cc in omega arith) })
+
+  pub took-skip : {a : Asked} → Holds names t used → askedOf a ≡ wayStep texts way x → a ≡ Nothing
+      → Took names (taken names (roomOf t) (wayStep texts way x) (rows t used)) (Done used) t
+  unfolding taken outcomeAnswer
+  took-skip h e d =
+      let s : step ≡ skip = sym e ∙ ap askedOf d in
+      rw s (record {
+        answers = ap (λ (k : ℕ). answer 0 (k ∷ [])) (sym (length-rows t 0 used));
+        on = λ u f. let v : used ≡ u = cc in subst (λ (k : ℕ). (stored (rows t used) ≡ stored (rows t k)) × Holds names t k) v (refl, h);
+      })
+
+  pub took-insert : {a : Asked} {n : Interval} {r : Inserted} {u : ℕ} (t′ : List ℕ) → Holds names t used → length t′ ≡ length t
+      → askedOf a ≡ wayStep texts way x → a ≡ Insert n
+      → Gives (entered sameValue knownValue names (roomOf t) (rowOf n) (rows t used)) t used (insertedOf r) t′ → r ≡ inserted.Done u
+      → Took names (taken names (roomOf t) (wayStep texts way x) (rows t used)) (Done u) t′
+  unfolding taken outcomeAnswer usedAfter nowStored
+  took-insert {a} {n} {r} {u} t′ h l e d g f =
+      let s : step ≡ give (rowOf n) = sym e ∙ ap askedOf d in
+      rw s (go (entered sameValue knownValue names (roomOf t) (rowOf n) (rows t used)) refl (subst (λ (q : Inserted). Gives o t used (insertedOf q) t′) f g))
+    where
+      o : Outcome (Row ℕ)
+      o = entered sameValue knownValue names (roomOf t) (rowOf n) (rows t used)
+
+      go : (p : Outcome (Row ℕ)) → entered sameValue knownValue names (roomOf t) (rowOf n) (rows t used) ≡ p → Gives p t used (answer 0 (u ∷ [])) t′ → Took names p (Done u) t′
+      go (refusedBy c) y k = let v : answer 0 (u ∷ []) ≡ answer c [] = k .answers in absurd (let z : _≡_ {A = ℕ} 0 1 = cc in omega arith)
+      go (stored ys) y k =
+          let v : answer 0 (u ∷ []) ≡ answer 0 (length ys ∷ []) = k .answers in
+          let w : length ys ≡ u = cc in
+          let b : Holds names t′ (length ys) = entered-holds names t t′ used (rowOf n) h l ys y (record { answers = refl; memory = k .memory; holds = k .holds }) in
+          record {
+            answers = k .answers;
+            on = λ q j. let i : length ys ≡ q = cc in subst (λ (c : ℕ). (stored ys ≡ stored (rows t′ c)) × Holds names t′ c) i (ap stored (sym (k .holds)), b);
+          }
+
+  pub took-full : {a : Asked} {n : Interval} {r : Inserted} {why : Refusal} (t′ : List ℕ)
+      → askedOf a ≡ wayStep texts way x → a ≡ Insert n
+      → Gives (entered sameValue knownValue names (roomOf t) (rowOf n) (rows t used)) t used (insertedOf r) t′ → r ≡ inserted.Refused why
+      → Took names (taken names (roomOf t) (wayStep texts way x) (rows t used)) (Refused why) t′
+  unfolding taken
+  took-full {a} {n} {r} {why} t′ e d g f =
+      let s : step ≡ give (rowOf n) = sym e ∙ ap askedOf d in
+      rw s (record { answers = sym (ap insertedOf f) ∙ g .answers; on = λ u j. absurd (let z : _≡_ {A = ℕ} 0 1 = cc in omega arith) })
+
+-- ---- a stretch that goes on, or stops
+
+done-is : (r : Built) → isDone r ≡ true → r ≡ Done (usedOf r)
+done-is (Done u) e = refl
+done-is (Refused why) e = absurd (let z : _≡_ {A = ℕ} 0 1 = cc in omega arith)
+
+not-done : {r : Built} {u : ℕ} → isDone r ≡ false → r ≡ Done u → ⊥
+not-done {r} {u} e d = let f : true ≡ false = sym (ap isDone d) ∙ e in let z : _≡_ {A = ℕ} 0 1 = cc in omega arith
+
+-- a refusal is no answer of a call that is done
+no-refusal : (r : Built) (n : ℕ) → isDone r ≡ false → builtOf r ≡ answer 0 (n ∷ []) → ⊥
+no-refusal (Done u) n e d = let z : _≡_ {A = ℕ} 0 1 = cc in omega arith
+no-refusal (Refused why) n e d = let z : numberOf why ≡ 0 = cc in refused-not-done why z
+
+step-stops : (o : Outcome (Row ℕ)) (r : Built) (b : Build (Row ℕ)) → builtOf r ≡ outcomeAnswer o → isDone r ≡ false
+    → ((c : ℕ) → o ≡ refusedBy c → answer c [] ≡ buildAnswer b) → builtOf r ≡ buildAnswer b
+unfolding outcomeAnswer
+step-stops (refusedBy c) r b e d f = e ∙ f c refl
+step-stops (stored ys) r b e d f = absurd (no-refusal r (length ys) d e)
+
+stretch-stops : (p : Build (Row ℕ)) (r : Built) (b : Build (Row ℕ)) → builtOf r ≡ buildAnswer p → isDone r ≡ false
+    → ((c s k : ℕ) → p ≡ stopped c s k → answer c [] ≡ buildAnswer b) → builtOf r ≡ buildAnswer b
+unfolding buildAnswer
+stretch-stops (stopped c s k) r b e d f = e ∙ f c s k refl
+stretch-stops (built ys) r b e d f = absurd (no-refusal r (length ys) d e)
+
+-- ---- the intervals of a mapping, one after the other
+
+-- before the interval of number k: what is left of them on this table is the whole
+pub record Laying (names : ℕ) (texts : List (List ℕ)) (way : Way) (v : List ℕ) (from count : ℕ) (t₀ : List ℕ) (used₀ : ℕ) (t : List ℕ) (used k : ℕ) : Type 0 where
+  pub upto : k ≤ count
+  pub long : length t ≡ length t₀
+  pub holds : Holds names t used
+  pub left : (m : ℕ) → layIntervals names (roomOf t₀) (wayStep texts way) m 0 (stretch v from count) (rows t₀ used₀)
+      ≡ layIntervals names (roomOf t₀) (wayStep texts way) m k (stretch v (from + k) (count - k)) (rows t used)
+
+module _ (names : ℕ) (texts : List (List ℕ)) (way : Way) (v : List ℕ) (from count : ℕ) (t₀ : List ℕ) (used₀ : ℕ) where
+  pub laying-start : Holds names t₀ used₀ → Laying names texts way v from count t₀ used₀ t₀ used₀ 0
+  laying-start h =
+      let e : from ≡ from + 0 = omega arith in
+      let d : count ≡ count - 0 = omega arith in
+      record { upto = omega arith; long = refl; holds = h; left = λ m i. layIntervals names (roomOf t₀) (wayStep texts way) m 0 (stretch v (e i) (d i)) (rows t₀ used₀) }
+
+  module _ (t : List ℕ) (used k : ℕ) (l : Laying names texts way v from count t₀ used₀ t used k) (h : k < count) where
+    -- the room is as it was
+    same-room : roomOf t ≡ roomOf t₀
+    same-room = ap (λ (n : ℕ). n / 24) (l .long)
+
+    taken-here : (o : Outcome (Row ℕ)) → taken names (roomOf t) (wayStep texts way (intervalAt v (from + k))) (rows t used) ≡ o
+        → taken names (roomOf t₀) (wayStep texts way (intervalAt v (from + k))) (rows t used) ≡ o
+    taken-here o e = ap (λ (n : ℕ). taken names n (wayStep texts way (intervalAt v (from + k))) (rows t used)) (sym same-room) ∙ e
+
+    pub laying-turn : (t′ : List ℕ) (r : Built) (u : ℕ) (x : Span) → x ≡ intervalAt v (from + k) → length t′ ≡ length t
+        → Took names (taken names (roomOf t) (wayStep texts way x) (rows t used)) r t′ → isDone r ≡ true → u ≡ usedOf r
+        → Laying names texts way v from count t₀ used₀ t′ u (k + 1)
+    laying-turn t′ r u x e g w d y =
+        let w′ : Took names (taken names (roomOf t) (wayStep texts way (intervalAt v (from + k))) (rows t used)) r t′ =
+        subst (λ (x : Span). Took names (taken names (roomOf t) (wayStep texts way x) (rows t used)) r t′) e w in
+        let p = w′ .on u (done-is r d ∙ ap Done (sym y)) in
+        let a : from + k + 1 ≡ from + (k + 1) = omega arith in
+        let b : count - k - 1 ≡ count - (k + 1) = omega arith in
+        record {
+          upto = omega arith;
+          long = g ∙ l .long;
+          holds = p .1;
+          left = λ m.
+              l .left m ∙ intervals-turn names (roomOf t₀) (wayStep texts way) m v k (from + k) (count - k) (rows t used) (rows t′ u) (omega arith) (taken-here _ (p .0))
+              ∙ (λ i. layIntervals names (roomOf t₀) (wayStep texts way) m (k + 1) (stretch v (a i) (b i)) (rows t′ u));
+        }
+
+    pub laying-stop : (t′ : List ℕ) (r : Built) (x : Span) → x ≡ intervalAt v (from + k)
+        → Took names (taken names (roomOf t) (wayStep texts way x) (rows t used)) r t′ → isDone r ≡ false
+        → (m : ℕ) → Lays names (layIntervals names (roomOf t₀) (wayStep texts way) m 0 (stretch v from count) (rows t₀ used₀)) r t′
+    unfolding buildAnswer
+    laying-stop t′ r x e w d m =
+        let w′ : Took names (taken names (roomOf t) (wayStep texts way (intervalAt v (from + k))) (rows t used)) r t′ =
+        subst (λ (x : Span). Took names (taken names (roomOf t) (wayStep texts way x) (rows t used)) r t′) e w in
+        record {
+          answers = step-stops (taken names (roomOf t) (wayStep texts way (intervalAt v (from + k))) (rows t used)) r
+              (layIntervals names (roomOf t₀) (wayStep texts way) m 0 (stretch v from count) (rows t₀ used₀)) (w′ .answers) d
+              (λ c y. sym (ap buildAnswer (l .left m ∙ intervals-stop names (roomOf t₀) (wayStep texts way) m v k (from + k) (count - k) (rows t used) c (omega arith) (taken-here _ y))));
+          on = λ u y. absurd (not-done d y);
+        }
+
+  pub laying-end : (t : List ℕ) (used k : ℕ) → Laying names texts way v from count t₀ used₀ t used k → count ≤ k
+      → (m : ℕ) → Lays names (layIntervals names (roomOf t₀) (wayStep texts way) m 0 (stretch v from count) (rows t₀ used₀)) (Done used) t
+  unfolding buildAnswer
+  laying-end t used k l h m =
+      let z : count - k ≡ 0 = omega arith in
+      let b : layIntervals names (roomOf t₀) (wayStep texts way) m 0 (stretch v from count) (rows t₀ used₀) ≡ built (rows t used) =
+      l .left m ∙ intervals-end names (roomOf t₀) (wayStep texts way) m v k (from + k) (count - k) (rows t used) z in
+      record {
+        answers = ap (λ (n : ℕ). answer 0 (n ∷ [])) (sym (length-rows t 0 used)) ∙ sym (ap buildAnswer b);
+        on = λ u y. let i : used ≡ u = cc in
+            subst (λ (c : ℕ). (layIntervals names (roomOf t₀) (wayStep texts way) m 0 (stretch v from count) (rows t₀ used₀) ≡ built (rows t c)) × Holds names t c) i (b, l .holds);
+      }
+
+-- ---- one mapping
+
+module _ (bytes ends : List ℕ) (names : ℕ) (name room : ℕ) (xs : List Span) (ys : List (Row ℕ)) where
+  abbrev texts : List (List ℕ)
+  texts = namesOf bytes ends names
+
+  -- how many names are known is how many texts there are
+  counted : (step : Span → Step (Row ℕ)) (m : ℕ) → layIntervals names room step m 0 xs ys ≡ layIntervals (length texts) room step m 0 xs ys
+  counted step m = ap (λ (n : ℕ). layIntervals n room step m 0 xs ys) (sym (names-length bytes ends names))
+
+  pub mapping-forward : {d : Direction} (r : Built) (t′ : List ℕ) → d ≡ direction.Forward
+      → ((m : ℕ) → Lays names (layIntervals names room (wayStep (namesOf bytes ends names) (Forward name)) m 0 xs ys) r t′)
+      → (m : ℕ) → Lays names (layMapping room (namesOf bytes ends names) d m (mapping name xs) ys) r t′
+  unfolding layMapping
+  mapping-forward r t′ e l m = rw e (subst (λ (b : Build (Row ℕ)). Lays names b r t′) (counted (forwardStep texts name) m) (l m))
+
+  mapping-inverse : (a : Instrument) → instrumentRead a ≡ andThen (textOf texts name) numberIn → (m : ℕ)
+      → layMapping room texts direction.Inverse m (mapping name xs) ys ≡ layRead room texts m xs ys (instrumentRead a)
+  unfolding layMapping
+  mapping-inverse a e m = ap (layRead room texts m xs ys) (sym e)
+
+  pub mapping-number : {d : Direction} {a : Instrument} {i : ℕ} (r : Built) (t′ : List ℕ) → d ≡ direction.Inverse
+      → instrumentRead a ≡ andThen (textOf (namesOf bytes ends names) name) numberIn → a ≡ instrument.Number i
+      → ((m : ℕ) → Lays names (layIntervals names room (wayStep (namesOf bytes ends names) (Inverse i)) m 0 xs ys) r t′)
+      → (m : ℕ) → Lays names (layMapping room (namesOf bytes ends names) d m (mapping name xs) ys) r t′
+  unfolding layRead
+  mapping-number {d} {a} {i} r t′ e f g l m =
+      rw e (subst (λ (b : Build (Row ℕ)). Lays names b r t′)
+      (counted (inverseStep texts i) m ∙ sym (mapping-inverse a f m ∙ ap (λ (a : Instrument). layRead room texts m xs ys (instrumentRead a)) g)) (l m))
+
+  pub mapping-refused : {d : Direction} {a : Instrument} {why : Refusal} (t′ : List ℕ) → d ≡ direction.Inverse
+      → instrumentRead a ≡ andThen (textOf (namesOf bytes ends names) name) numberIn → a ≡ instrument.Refused why
+      → (m : ℕ) → Lays names (layMapping room (namesOf bytes ends names) d m (mapping name xs) ys) (Refused why) t′
+  unfolding layRead buildAnswer
+  mapping-refused {d} {a} {why} t′ e f g m =
+      let p : Plain (numberOf why) = andThen-plain (textOf texts name) numberIn (text-plain texts name) number-plain (numberOf why) (sym f ∙ ap instrumentRead g) in
+      let b : layMapping room texts direction.Inverse m (mapping name xs) ys ≡ stopped (numberOf why) m 0 =
+      mapping-inverse a f m ∙ ap (λ (a : Instrument). layRead room texts m xs ys (instrumentRead a)) g in
+      rw e (record {
+        answers = plain-refused why p ∙ sym (ap buildAnswer b);
+        on = λ u y. absurd (let z : _≡_ {A = ℕ} 0 1 = cc in omega arith);
+      })
+
+-- ---- the mappings, one after the other
+
+-- before the mapping of number k, whose intervals begin at this place: what is left of them on this table is the whole
+pub record Mapped (names : ℕ) (texts : List (List ℕ)) (d : Direction) (m v : List ℕ) (count : ℕ) (t₀ t : List ℕ) (used from k : ℕ) : Type 0 where
+  pub upto : k ≤ count
+  pub begins : from ≡ before m k
+  pub long : length t ≡ length t₀
+  pub holds : Holds names t used
+  pub left : layMappings (roomOf t₀) texts d 0 (mappingsFrom m v 0 0 count) []
+      ≡ layMappings (roomOf t₀) texts d k (mappingsFrom m v k from (count - k)) (rows t used)
+
+module _ (names : ℕ) (texts : List (List ℕ)) (d : Direction) (m v : List ℕ) (count : ℕ) (t₀ : List ℕ) where
+  pub mapping-start : Holds names t₀ 0 → Mapped names texts d m v count t₀ t₀ 0 0 0
+  unfolding before rowsFrom
+  mapping-start h =
+      let e : count ≡ count - 0 = omega arith in
+      record { upto = omega arith; begins = refl; long = refl; holds = h; left = λ i. layMappings (roomOf t₀) texts d 0 (mappingsFrom m v 0 0 (e i)) [] }
+
+  module _ (t : List ℕ) (used from k : ℕ) (l : Mapped names texts d m v count t₀ t used from k) (h : k < count) where
+    -- its intervals are within the lent ones
+    pub mapping-within : (n : ℕ) → n ≡ countAt m k → 3 * before m count ≤ length v → 3 * (from + n) ≤ length v
+    mapping-within n e w = omega (arith, before-next m k, before-up m (k + 1) count (omega arith), l .begins)
+
+    laid-here : (o : Build (Row ℕ)) → layMapping (roomOf t) texts d k (mapping (nameAt m k) (stretch v from (countAt m k))) (rows t used) ≡ o
+        → layMapping (roomOf t₀) texts d k (mapping (nameAt m k) (stretch v from (countAt m k))) (rows t used) ≡ o
+    laid-here o e =
+        ap (λ (n : ℕ). layMapping (n / 24) texts d k (mapping (nameAt m k) (stretch v from (countAt m k))) (rows t used)) (sym (l .long)) ∙ e
+
+    module _ (t′ : List ℕ) (r : Built) (name n : ℕ) (y : name ≡ nameAt m k) (z : n ≡ countAt m k)
+        (w : (q : ℕ) → Lays names (layMapping (roomOf t) texts d q (mapping name (stretch v from n)) (rows t used)) r t′) where
+      read : Lays names (layMapping (roomOf t) texts d k (mapping (nameAt m k) (stretch v from (countAt m k))) (rows t used)) r t′
+      read = subst (λ (b : Build (Row ℕ)). Lays names b r t′) (λ i. layMapping (roomOf t) texts d k (mapping (y i) (stretch v from (z i))) (rows t used)) (w k)
+
+      pub mapping-turn : (u : ℕ) → length t′ ≡ length t → isDone r ≡ true → u ≡ usedOf r → Mapped names texts d m v count t₀ t′ u (from + n) (k + 1)
+      mapping-turn u g e f =
+          let p = read .on u (done-is r e ∙ ap Done (sym f)) in
+          let b : count - k - 1 ≡ count - (k + 1) = omega arith in
+          record {
+            upto = omega arith;
+            begins = omega (arith, before-next m k, l .begins, z);
+            long = g ∙ l .long;
+            holds = p .1;
+            left =
+                l .left ∙ mappings-turn (roomOf t₀) texts d m v k from (count - k) (rows t used) (rows t′ u) (omega arith) (laid-here _ (p .0))
+                ∙ (λ i. layMappings (roomOf t₀) texts d (k + 1) (mappingsFrom m v (k + 1) (from + sym z i) (b i)) (rows t′ u));
+          }
+
+      pub mapping-stop : isDone r ≡ false → Lays names (layMappings (roomOf t₀) texts d 0 (mappingsFrom m v 0 0 count) []) r t′
+      unfolding buildAnswer
+      mapping-stop e = record {
+        answers = stretch-stops (layMapping (roomOf t) texts d k (mapping (nameAt m k) (stretch v from (countAt m k))) (rows t used)) r
+            (layMappings (roomOf t₀) texts d 0 (mappingsFrom m v 0 0 count) []) (read .answers) e
+            (λ c s j x. sym (ap buildAnswer (l .left ∙ mappings-stop (roomOf t₀) texts d m v k from (count - k) (rows t used) c s j (omega arith) (laid-here _ x))));
+        on = λ u x. absurd (not-done e x);
+      }
+
+  pub mapping-end : (t : List ℕ) (used from k : ℕ) → Mapped names texts d m v count t₀ t used from k → count ≤ k
+      → Lays names (layMappings (roomOf t₀) texts d 0 (mappingsFrom m v 0 0 count) []) (Done used) t
+  unfolding buildAnswer
+  mapping-end t used from k l h =
+      let z : count - k ≡ 0 = omega arith in
+      let b : layMappings (roomOf t₀) texts d 0 (mappingsFrom m v 0 0 count) [] ≡ built (rows t used) =
+      l .left ∙ mappings-end (roomOf t₀) texts d m v k from (count - k) (rows t used) z in
+      record {
+        answers = ap (λ (n : ℕ). answer 0 (n ∷ [])) (sym (length-rows t 0 used)) ∙ sym (ap buildAnswer b);
+        on = λ u y. let i : used ≡ u = cc in
+            subst (λ (c : ℕ). (layMappings (roomOf t₀) texts d 0 (mappingsFrom m v 0 0 count) [] ≡ built (rows t c)) × Holds names t c) i (b, l .holds);
+      }
+
+-- ---- the whole build
+
+module _ (names : ℕ) (t : List ℕ) (texts : List (List ℕ)) (ms : List Mapping) where
+  -- an empty table's memory
+  empty-memory : Holds names t 0 → t ≡ replicate (length t) 0
+  unfolding rowsFrom rowsBytes
+  empty-memory h = let e : length t - 0 * 24 ≡ length t = omega arith in h .memory ∙ laid-blank (length t) [] ∙ ap (λ (n : ℕ). replicate n 0) e
+
+  pub build-undirected : {s : Heading} {why : Refusal} (i o : ℕ) → Holds names t 0 → headingRead s ≡ directionBy i o → s ≡ heading.Refused why
+      → Leaves (directed (roomOf t) texts ms (directionBy i o)) (length t) (Refused why) t
+  unfolding directed buildAnswer builtMemory builtRows rowsFrom
+  build-undirected {s} {why} i o h e d =
+      let f : directionBy i o ≡ fault (numberOf why) = sym e ∙ ap headingRead d in
+      let p : Plain (numberOf why) = direction-plain i o (numberOf why) f in
+      rw f (record { answers = plain-refused why p; memory = empty-memory h; stands = refl })
+
+  module _ {s : Heading} {d : Direction} (i o : ℕ) (e : headingRead s ≡ directionBy i o) (f : s ≡ heading.Is d) (r : Built) (t′ : List ℕ) (g : length t′ ≡ length t)
+      (l : Lays names (layMappings (roomOf t) texts d 0 ms []) r t′) where
+    on-way : directed (roomOf t) texts ms (directionBy i o) ≡ layMappings (roomOf t) texts d 0 ms []
+    unfolding directed
+    on-way = ap (directed (roomOf t) texts ms) (sym e ∙ ap headingRead f)
+
+    pub build-done : isDone r ≡ true → Leaves (directed (roomOf t) texts ms (directionBy i o)) (length t) r t′
+    unfolding builtMemory builtRows
+    build-done c =
+        let p = l .on (usedOf r) (done-is r c) in
+        record {
+          answers = l .answers ∙ sym (ap buildAnswer on-way);
+          memory = p .1 .memory ∙ ap (λ (n : ℕ). written (replicate n 0) 0 (rows t′ (usedOf r))) g ∙ sym (ap (builtMemory (length t)) (on-way ∙ p .0));
+          stands = rw (on-way ∙ p .0) (ap (λ (n : ℕ). rows t′ n) (length-rows t′ 0 (usedOf r)));
+        }
+
+    pub build-cleared : (t″ : List ℕ) → isDone r ≡ false → t″ ≡ replicate (length t′) 0 → Leaves (directed (roomOf t) texts ms (directionBy i o)) (length t) r t″
+    unfolding builtMemory buildAnswer builtRows rowsFrom
+    build-cleared t″ c z = record {
+      answers = l .answers ∙ sym (ap buildAnswer on-way);
+      memory = z ∙ ap (λ (n : ℕ). replicate n 0) g ∙ sym (ap (builtMemory (length t)) on-way ∙ stops (layMappings (roomOf t) texts d 0 ms []) (l .answers));
+      stands =
+          subst (λ (b : Build (Row ℕ)). rows t″ (length (builtRows b)) ≡ builtRows b) (sym on-way) (none (layMappings (roomOf t) texts d 0 ms []) (l .answers));
+    }
+      where
+        stops : (b : Build (Row ℕ)) → builtOf r ≡ buildAnswer b → builtMemory (length t) b ≡ replicate (length t) 0
+        stops (stopped c s k) y = refl
+        stops (built ys) y = absurd (no-refusal r (length ys) c y)
+
+        none : (b : Build (Row ℕ)) → builtOf r ≡ buildAnswer b → rows t″ (length (builtRows b)) ≡ builtRows b
+        none (stopped c s k) y = refl
+        none (built ys) y = absurd (no-refusal r (length ys) c y)
+
+-- ---- the lent memory
+
+and-parts : (a b : Bool) → a && b ≡ true → (a ≡ true) × (b ≡ true)
+and-parts true b e = (refl, e)
+and-parts false b e = absurd (let z : _≡_ {A = ℕ} 0 1 = cc in omega arith)
+
+not-true : (a : Bool) → not a ≡ true → a ≡ false
+not-true true e = sym e
+not-true false e = refl
+
+module _ (long : ℕ) (h : Header) (l : Lengths) (m : List ℕ) (bytes places names used : ℕ) where
+  pub fits-table : {b : Bool} → b ≡ badTable long 0 → b ≡ true → false ≡ memoryFits long h l m bytes places names used
+  unfolding memoryFits
+  fits-table e d = let f : badTable long 0 ≡ true = sym e ∙ d in rw f refl
+
+  pub fits-metadata : {b s : Bool} → b ≡ badTable long 0 → b ≡ false → s ≡ sizedOf h l m → not s ≡ true → false ≡ memoryFits long h l m bytes places names used
+  unfolding memoryFits
+  fits-metadata e d f g =
+      let i : badTable long 0 ≡ false = sym e ∙ d in
+      let j : sizedOf h l m ≡ false = fails f g in
+      rw (i, j) refl
+
+  pub fits-list : {b s r : Bool} → b ≡ badTable long 0 → b ≡ false → s ≡ sizedOf h l m → not s ≡ false → r ≡ memoryOk bytes places names used
+      → r ≡ memoryFits long h l m bytes places names used
+  unfolding memoryFits
+  fits-list e d f g k =
+      let i : badTable long 0 ≡ false = sym e ∙ d in
+      let j : sizedOf h l m ≡ true = holds f g in
+      k ∙ rw (i, j) refl
+
+  fits-facts : memoryFits long h l m bytes places names used ≡ true → (badTable long 0 ≡ false) × (sizedOf h l m ≡ true) × (memoryOk bytes places names used ≡ true)
+  unfolding memoryFits
+  fits-facts e =
+      let p = and-parts (not (badTable long 0)) _ e in
+      let r = and-parts (sizedOf h l m) _ (p .1) in
+      (not-true (badTable long 0) (p .0), r .0, r .1)
+
+-- an emptied table
+pub empty-holds : (long names : ℕ) (z : List ℕ) → z ≡ replicate long 0 → badTable long 0 ≡ false → Holds names z 0
+unfolding wellFormed ordered allKnown rowsFrom rowsBytes
+empty-holds long names z e d =
+    let k : length z ≡ long = ap length e ∙ length-replicate long 0 in
+    let w : Lent long 0 = table-lent long 0 d in
+    let r : long - 0 * 24 ≡ long = omega arith in
+    record {
+      whole = k ∙ w .whole ∙ ap (λ (n : ℕ). n / 24 * 24) (sym k);
+      in-use = omega arith;
+      formed = tt;
+      memory = e ∙ sym (ap (λ (n : ℕ). written (replicate n 0) 0 []) k ∙ laid-blank long [] ∙ ap (λ (n : ℕ). replicate n 0) r);
+    }
+
+-- ---- the call
+
+module _ (t : List ℕ) (h : Header) (l : Lists) (bytes ends : List ℕ) (names used : ℕ) where
+  -- what the call owes: the answer, the table's memory, and the rows that stand there
+  abbrev pub Owed : Built → List ℕ → Type 0
+  Owed r t′ =
+      (builtOf r ≡ overTimeAnswer t h l bytes ends names used)
+      × ((t′ ≡ overTimeMemory t h l bytes ends names used) × (rows t′ (length (overTimeRows t h l bytes ends names used)) ≡ overTimeRows t h l bytes ends names used))
+
+  owed : (b : Build (Row ℕ)) (r : Built) (t′ : List ℕ) → overTimeBuild t h l bytes ends names used ≡ b → builtOf r ≡ buildAnswer b → t′ ≡ builtMemory (length t) b
+      → rows t′ (length (builtRows b)) ≡ builtRows b → Owed r t′
+  unfolding overTimeAnswer overTimeMemory overTimeRows
+  owed b r t′ e f g k =
+      (f ∙ sym (ap buildAnswer e), (g ∙ sym (ap (builtMemory (length t)) e), subst (λ (b : Build (Row ℕ)). rows t′ (length (builtRows b)) ≡ builtRows b) (sym e) k))
+
+  module _ {f : Bool} {q : Lengths} {z : List ℕ} (e : z ≡ replicate (length t) 0) (d : q ≡ lengthsOf l)
+      (y : f ≡ memoryFits (length z) h q (l .mappings) (length bytes) (length ends) names used) where
+    long : length z ≡ length t
+    long = ap length e ∙ length-replicate (length t) 0
+
+    fit : f ≡ memoryFits (length t) h (lengthsOf l) (l .mappings) (length bytes) (length ends) names used
+    fit = y ∙ (λ i. memoryFits (long i) h (d i) (l .mappings) (length bytes) (length ends) names used)
+
+    pub over-15 : not f ≡ true → Owed (Refused BadMemory) z
+    unfolding overTimeBuild buildAnswer builtMemory builtRows rowsFrom
+    over-15 g = let j = fails fit g in owed (stopped 15 0 0) (Refused BadMemory) z (rw j refl) refl e refl
+
+    module _ (g : not f ≡ false) where
+      good : memoryFits (length t) h (lengthsOf l) (l .mappings) (length bytes) (length ends) names used ≡ true
+      good = holds fit g
+
+      parts : (badTable (length t) 0 ≡ false) × (sizedOf h (lengthsOf l) (l .mappings) ≡ true) × (memoryOk (length bytes) (length ends) names used ≡ true)
+      parts = fits-facts (length t) h (lengthsOf l) (l .mappings) (length bytes) (length ends) names used good
+
+      pub over-list : (names ≤ length ends) × (used ≤ length bytes)
+      over-list = let m = memory (length bytes) (length ends) names used (parts .2) in (m .held, m .room)
+
+      module _ {w : Bool} (k : w ≡ wellFormedNames bytes ends names used) where
+        pub over-14 : not w ≡ true → Owed (Refused IllFormed) z
+        unfolding overTimeBuild buildAnswer builtMemory builtRows rowsFrom
+        over-14 c =
+            let j = good in
+            let i = fails k c in
+            owed (stopped 14 0 0) (Refused IllFormed) z (rw (j, i) refl) refl e refl
+
+        module _ (c : not w ≡ false) where
+          pub over-ready : Ordered-names bytes ends names × Holds names z 0 × (2 * h .mappings ≤ length (l .mappings)) × (3 * before (l .mappings) (h .mappings) ≤ length (l .intervals))
+          over-ready =
+              let m = memory (length bytes) (length ends) names used (parts .2) in
+              let s : Sized h (lengthsOf l) (l .mappings) = sized-facts h (lengthsOf l) (l .mappings) (parts .1) in
+              let a = s .fit .spans-whole in
+              let b = s .sum in (
+                ordered-names m (formed-names bytes ends used names (holds k c)),
+                empty-holds (length t) names z e (parts .0),
+                s .fit .maps-used,
+                omega arith,
+              )
+
+          pub over-built : (r : Built) (t′ : List ℕ)
+              → Leaves (directed (roomOf z) (namesOf bytes ends names) (mappingsFrom (l .mappings) (l .intervals) 0 0 (h .mappings)) (directionBy (h .«stype_in») (h .«stype_out»))) (length z) r t′
+              → Owed r t′
+          unfolding overTimeBuild overTime directionOf metadataOf
+          over-built r t′ x =
+              let j = good in
+              let i = holds k c in
+              let b : Build (Row ℕ) = directed (length z / 24) (namesOf bytes ends names) (mappingsFrom (l .mappings) (l .intervals) 0 0 (h .mappings)) (directionBy (h .«stype_in») (h .«stype_out»)) in
+              owed b r t′
+              (rw (j, i) (ap (λ (n : ℕ). directed (n / 24) (namesOf bytes ends names) (mappingsFrom (l .mappings) (l .intervals) 0 0 (h .mappings)) (directionBy (h .«stype_in») (h .«stype_out»))) (sym long)))
+              (x .answers) (x .memory ∙ ap (λ (n : ℕ). builtMemory n b) long) (x .stands)
+
+  -- ---- demand 3 of a done call
+
+  pub over-demanded : (u : ℕ) → overTimeAnswer t h l bytes ends names used ≡ answer 0 (u ∷ [])
+      → (u ≡ length (overTimeRows t h l bytes ends names used))
+      × Demanded (length (namesOf bytes ends names)) (insertsAsked (namesOf bytes ends names) (metadataOf h l)) (overTimeRows t h l bytes ends names used)
+  unfolding overTimeAnswer overTimeRows overTimeBuild buildAnswer builtRows
+  over-demanded u =
+      go (memoryFits (length t) h (lengthsOf l) (l .mappings) (length bytes) (length ends) names used) refl (wellFormedNames bytes ends names used)
+      (overTime (roomOf t) (namesOf bytes ends names) (metadataOf h l)) refl
+    where
+      go : (f : Bool) → memoryFits (length t) h (lengthsOf l) (l .mappings) (length bytes) (length ends) names used ≡ f → (w : Bool) (b : Build (Row ℕ))
+          → overTime (roomOf t) (namesOf bytes ends names) (metadataOf h l) ≡ b
+          → buildAnswer (cond f (cond w b (stopped 14 0 0)) (stopped 15 0 0)) ≡ answer 0 (u ∷ [])
+          → (u ≡ length (builtRows (cond f (cond w b (stopped 14 0 0)) (stopped 15 0 0))))
+          × Demanded (length (namesOf bytes ends names)) (insertsAsked (namesOf bytes ends names) (metadataOf h l)) (builtRows (cond f (cond w b (stopped 14 0 0)) (stopped 15 0 0)))
+      go false y w b z e = absurd (let q : _≡_ {A = ℕ} 15 0 = cc in omega arith)
+      go true y false b z e = absurd (let q : _≡_ {A = ℕ} 14 0 = cc in omega arith)
+      go true y true (stopped c s k) z e = absurd (let q : _≡_ {A = ℕ} 0 1 = cc in omega arith)
+      go true y true (built ys) z e =
+          let p = fits-facts (length t) h (lengthsOf l) (l .mappings) (length bytes) (length ends) names used y in
+          let m = memory (length bytes) (length ends) names used (p .2) in
+          let a : names ≤ length ends = m .held in
+          let b : length ends ≤ 4096 = m .few in
+          let n : length (namesOf bytes ends names) ≡ names = names-length bytes ends names in
+          let d : length t / 24 ≤ 65536 = table-lent (length t) 0 (p .0) .limit in
+          let q : length ys ≡ u = cc in
+          (sym q, built-demanded (roomOf t) (namesOf bytes ends names) (omega arith) d (metadataOf h l) ys z)

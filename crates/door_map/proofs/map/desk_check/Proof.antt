@@ -1,0 +1,29 @@
+-- Each arm of the match is what its case says. Assumes nothing.
+use Rattle.map_time.specs.Table.{checkedOf}
+use Rattle.door_map.specs.AnswersLaws.{told, done-number, not-number}
+use borrow.Author.Needs.{needs}
+use Rattle.door_map.proofs.map.desk_check.Statement.{statement}
+use Rattle.door_map.proofs.map.desk_check.Tie as tie
+
+check-requires : tie.Need-check-requires
+check-requires c κs = search needs
+
+enum-told : tie.Need-enum-told
+enum-told c = search needs
+
+enum-known-checked : tie.Need-enum-known-checked
+enum-known-checked c = search needs
+
+number-requires : tie.Need-number-requires
+number-requires c κs = search needs
+
+returns : tie.Need-returns
+returns c = done-number (told checkedOf (c .before .before .check .ensures) (c .enum-told .given .1))
+
+returns-2 : tie.Need-returns-2
+returns-2 c = not-number (c .before .before .checked .given .0 .0) (c .number .ensures) (told checkedOf (c .before .before .before .before .check .ensures) (c .before .before .checked .given .1))
+
+pub desk-check-spec : {M : Type 1} → statement M
+desk-check-spec =
+    tie.close
+    (tie.spec check-requires enum-told enum-known-checked number-requires returns returns-2)

@@ -1,0 +1,29 @@
+-- Each arm of the match is what its case says. Assumes nothing.
+use Rattle.leaves.specs.Names.{checkedOf}
+use Rattle.door_map.specs.AnswersLaws.{told, done-number, not-number}
+use borrow.Author.Needs.{needs}
+use Rattle.door_map.proofs.names.desk_check_names.Statement.{statement}
+use Rattle.door_map.proofs.names.desk_check_names.Tie as tie
+
+check-names-requires : tie.Need-check-names-requires
+check-names-requires c κs = search needs
+
+enum-told : tie.Need-enum-told
+enum-told c = search needs
+
+enum-known-checked : tie.Need-enum-known-checked
+enum-known-checked c = search needs
+
+number-requires : tie.Need-number-requires
+number-requires c κs = search needs
+
+returns : tie.Need-returns
+returns c = done-number (told checkedOf (c .before .before .check-names .ensures) (c .enum-told .given .1))
+
+returns-2 : tie.Need-returns-2
+returns-2 c = not-number (c .before .before .checked .given .0 .0) (c .number .ensures) (told checkedOf (c .before .before .before .before .check-names .ensures) (c .before .before .checked .given .1))
+
+pub desk-check-names-spec : {M : Type 1} → statement M
+desk-check-names-spec =
+    tie.close
+    (tie.spec check-names-requires enum-told enum-known-checked number-requires returns returns-2)

@@ -1,0 +1,72 @@
+-- Each arm of the match is what its case says. Assumes nothing.
+use Rattle.leaves.specs.Names.{namedOf}
+use Rattle.door_map.specs.AnswersLaws.{told, done-number, done-value, not-number, not-value}
+use borrow.Author.Needs.{needs}
+use Rattle.door_map.proofs.names.desk_number_of.Statement.{statement}
+use Rattle.door_map.proofs.names.desk_number_of.Tie as tie
+
+number-of-requires : tie.Need-number-of-requires
+number-of-requires c κs = search needs
+
+enum-known-named : tie.Need-enum-known-named
+enum-known-named c = search needs
+
+enum-known-named-2 : tie.Need-enum-known-named-2
+enum-known-named-2 c = search needs
+
+number-requires : tie.Need-number-requires
+number-requires c κs = search needs
+
+same-length : tie.Need-same-length
+same-length c = search needs
+
+same-length-2 : tie.Need-same-length-2
+same-length-2 c = search needs
+
+returns : tie.Need-returns
+returns c =
+    let e = told namedOf (c .before .before .before .before .before .before .before .number-of .ensures .0) (c .before .named .given .1) in (
+      done-number e,
+      (
+        done-value (c .before .before .before .before .before .before .before .before .before .before .before .before .before .before .before .args .symbol .now) 0 e,
+        (
+          done-value (c .before .before .before .before .before .before .before .before .before .before .before .before .before .before .before .args .names .now) 1 e,
+          (done-value (c .before .before .before .before .before .before .before .before .before .before .before .before .before .before .before .args .size .now) 2 e, c .before .before .before .before .before .before .before .number-of .ensures .1),
+        ),
+      ),
+    )
+
+same-length-3 : tie.Need-same-length-3
+same-length-3 c = search needs
+
+same-length-4 : tie.Need-same-length-4
+same-length-4 c = search needs
+
+returns-2 : tie.Need-returns-2
+returns-2 c =
+    let e = told namedOf (c .before .before .before .before .before .before .before .before .number-of .ensures .0) (c .before .before .named2 .given .1) in
+    let r = c .before .before .named2 .given .0 .0 in (
+      not-number r (c .number .ensures) e,
+      (
+        not-value r (c .before .before .before .before .before .before .before .before .before .before .before .before .before .before .before .before .args .symbol .now) 0 e,
+        (
+          not-value r (c .before .before .before .before .before .before .before .before .before .before .before .before .before .before .before .before .args .names .now) 1 e,
+          (not-value r (c .before .before .before .before .before .before .before .before .before .before .before .before .before .before .before .before .args .size .now) 2 e, c .before .before .before .before .before .before .before .before .number-of .ensures .1),
+        ),
+      ),
+    )
+
+pub desk-number-of-spec : {M : Type 1} → statement M
+desk-number-of-spec =
+    tie.close
+    (tie.spec
+    number-of-requires
+    enum-known-named
+    enum-known-named-2
+    number-requires
+    same-length
+    same-length-2
+    returns
+    same-length-3
+    same-length-4
+    returns-2)

@@ -1,0 +1,83 @@
+// The name list at the C door (01, Names, numbers, days): the names' bytes one after another, where each ends, and two numbers in use.
+use crate::DONE;
+use leaves::names::Checked;
+use leaves::names::Named;
+use leaves::names::Placed;
+use leaves::refusal::number;
+ghost use mathlib.Core.Path.{_≡_};
+ghost use Rattle.leaves.specs.Names.{checkNames, naming, namingAnswer, bytesAfter, endsAfter, placeOfName};
+ghost use Rattle.door_map.specs.Answers.{numberIn, valueIn};
+
+// Whether the name list is well-formed: 0, 14 or 15.
+#[no_mangle]
+pub extern "C" fn desk_check_names(bytes: &[u8], ends: &[u32], names: usize, size: usize) -> u32
+    ensures { λ r. ⌜ r ≡ numberIn (checkNames (now (bytes .entry)) (now (ends .entry)) names size) ⌝ }
+{
+    let checked = leaves::names::check_names(bytes, ends, names, size);
+    match checked {
+        Checked::Done => DONE,
+        Checked::Refused(refusal) => number(refusal),
+    }
+}
+
+// The number of a name, the least with equal bytes, else the next new one, which joins the list: 0, 15, 14, 4 or 5.
+#[no_mangle]
+pub extern "C" fn desk_number_of(
+    bytes: &mut [u8],
+    ends: &mut [u32],
+    names: &mut usize,
+    size: &mut usize,
+    name: &[u8],
+    symbol: &mut u32,
+) -> u32
+    ensures { λ r. ⌜ r ≡ numberIn (namingAnswer (now (names .entry)) (now (size .entry)) (now (name .entry)) (naming (now (bytes .entry)) (now (ends .entry)) (now (names .entry)) (now (size .entry)) (now (name .entry)))) ⌝ }
+    ensures { λ _. ⌜ now (symbol .exit) ≡ valueIn (now (symbol .entry)) 0 (namingAnswer (now (names .entry)) (now (size .entry)) (now (name .entry)) (naming (now (bytes .entry)) (now (ends .entry)) (now (names .entry)) (now (size .entry)) (now (name .entry)))) ⌝ }
+    ensures { λ _. ⌜ now (names .exit) ≡ valueIn (now (names .entry)) 1 (namingAnswer (now (names .entry)) (now (size .entry)) (now (name .entry)) (naming (now (bytes .entry)) (now (ends .entry)) (now (names .entry)) (now (size .entry)) (now (name .entry)))) ⌝ }
+    ensures { λ _. ⌜ now (size .exit) ≡ valueIn (now (size .entry)) 2 (namingAnswer (now (names .entry)) (now (size .entry)) (now (name .entry)) (naming (now (bytes .entry)) (now (ends .entry)) (now (names .entry)) (now (size .entry)) (now (name .entry)))) ⌝ }
+    ensures { λ _. ⌜ now (bytes .exit) ≡ bytesAfter (now (bytes .entry)) (now (size .entry)) (now (name .entry)) (naming (now (bytes .entry)) (now (ends .entry)) (now (names .entry)) (now (size .entry)) (now (name .entry))) ⌝ }
+    ensures { λ _. ⌜ now (ends .exit) ≡ endsAfter (now (ends .entry)) (now (names .entry)) (now (size .entry)) (now (name .entry)) (naming (now (bytes .entry)) (now (ends .entry)) (now (names .entry)) (now (size .entry)) (now (name .entry))) ⌝ }
+{
+    let named = leaves::names::number_of(bytes, ends, *names, *size, name);
+    match named {
+        Named::Number {
+            number: n,
+            names: count,
+            used,
+        } => {
+            *symbol = n;
+            *names = count;
+            *size = used;
+            DONE
+        }
+        Named::Refused(refusal) => number(refusal),
+    }
+}
+
+// Where a name lies, its first byte and its end: 0, 15, 14 or 3.
+#[no_mangle]
+pub extern "C" fn desk_place_of_name(
+    bytes: &[u8],
+    ends: &[u32],
+    names: usize,
+    size: usize,
+    symbol: u32,
+    first: &mut usize,
+    end: &mut usize,
+) -> u32
+    ensures { λ r. ⌜ r ≡ numberIn (placeOfName (now (bytes .entry)) (now (ends .entry)) names size symbol) ⌝ }
+    ensures { λ _. ⌜ now (first .exit) ≡ valueIn (now (first .entry)) 0 (placeOfName (now (bytes .entry)) (now (ends .entry)) names size symbol) ⌝ }
+    ensures { λ _. ⌜ now (end .exit) ≡ valueIn (now (end .entry)) 1 (placeOfName (now (bytes .entry)) (now (ends .entry)) names size symbol) ⌝ }
+{
+    let placed = leaves::names::place_of_name(bytes, ends, names, size, symbol);
+    match placed {
+        Placed::At {
+            first: from,
+            end: to,
+        } => {
+            *first = from;
+            *end = to;
+            DONE
+        }
+        Placed::Refused(refusal) => number(refusal),
+    }
+}

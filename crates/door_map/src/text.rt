@@ -1,0 +1,39 @@
+// Number text and UTF-8 at the C door (01, Names, numbers, days).
+use crate::DONE;
+use leaves::number_text::Reading;
+ghost use mathlib.Core.Path.{_≡_};
+ghost use Rattle.leaves.specs.NumberText.{numberText};
+ghost use Rattle.leaves.specs.Utf8.{isUtf8};
+ghost use Rattle.door_map.specs.Answers.{numberIn, valueIn, utf8Answer};
+
+// The refusals 8, "text is not a `u32`", and 4, "not UTF-8".
+const NOT_NUMBER: u32 = 8;
+
+const NOT_UTF8: u32 = 4;
+
+// The number that a text says: 0 or 8.
+#[no_mangle]
+pub extern "C" fn desk_number_text(text: &[u8], value: &mut u32) -> u32
+    ensures { λ r. ⌜ r ≡ numberIn (numberText (now (text .entry))) ⌝ }
+    ensures { λ _. ⌜ now (value .exit) ≡ valueIn (now (value .entry)) 0 (numberText (now (text .entry))) ⌝ }
+{
+    let reading = leaves::number_text::number(text);
+    match reading {
+        Reading::Value(n) => {
+            *value = n;
+            DONE
+        }
+        Reading::Stuck(_) => NOT_NUMBER,
+    }
+}
+
+// Whether a text of any length is UTF-8: 0 or 4.
+#[no_mangle]
+pub extern "C" fn desk_utf8(text: &[u8]) -> u32
+    ensures { λ r. ⌜ r ≡ numberIn (utf8Answer (isUtf8 (now (text .entry)))) ⌝ }
+{
+    if leaves::utf8::is_utf8(text) {
+        return DONE;
+    }
+    NOT_UTF8
+}

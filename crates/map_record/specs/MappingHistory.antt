@@ -1,0 +1,287 @@
+-- A mapping call that stores is an insert of the table's history, with the name's number and the names known once it has joined;
+-- any other leaves table and history. Assumes nothing.
+use mathlib.Core.Path.{_≡_, refl, sym, ap, _∙_}
+use mathlib.Core.Logic.{_≢_, _⊎_, inl, inr}
+use Prim.Native.Nat.{ℕ, _+_, _≤_, _<_}
+use native.Mathlib.Omega.{arith}
+use mathlib.Core.Bool.{Bool, true, false, not, _&&_, _||_, cond}
+use mathlib.Core.List.{List, [], _∷_}
+use lib.ListN.{length}
+use lib.Dec.{T, ltb, leb, eqb, lt→ltb}
+use borrow.Author.Tests.{lt-ltb, le-ltb, ltb-true, ltb-false, leb-true, eqb-false, ne-eqb, not-true, not-false}
+use mir.Facts.{ltb-yes}
+use Rattle.theory.specs.Answer.{Answer}
+use Rattle.theory.specs.RunsTools.{T-and, T-fst, T-snd}
+use Rattle.leaves.specs.Refusal.{refused}
+use Rattle.leaves.specs.declared.refusal.Refusal.the-variants.{Reversed, BadName, NoNameRoom, IllFormed, BadMemory}
+use Rattle.leaves.specs.Frame.{Mapped, other, symbol, notOne, mappedIn, nameIn}
+use Rattle.leaves.specs.Names.{memoryOk, wellFormed as wellFormedNames, isName, numbering, naming, hasRoom}
+use Rattle.leaves.specs.NamesLaws.{Memory, memory}
+use Rattle.leaves.specs.declared.names.Naming.{Naming}
+use Rattle.leaves.specs.declared.names.Naming.the-variants.{Old, New, Refused as NotNamed}
+use Rattle.map_rules.specs.Table.{Row, Ordered, Outcome, nowStored, ifRoom, badRoom, badNames, wellFormed, ordered, allKnown, insertRows, entered, inserted}
+use Rattle.map_rules.specs.History.{Event, insertion, after}
+use Rattle.map_rules.specs.Memory.{sameValue, knownValue, rows, roomOf, badTable, usedAfter}
+use Rattle.map_rules.specs.MemoryLaws.{length-rows}
+use Rattle.map_rules.specs.Outcomes.{Lent, table-lent}
+use Rattle.map_rules.specs.Calls.{Holds}
+use Rattle.map_time.specs.declared.entries.Entry.{Entry}
+use Rattle.map_time.specs.Entries.{entries}
+use Rattle.map_time.specs.Points as points
+use Rattle.map_time.specs.Points.{rising, setEntry, pointsFit}
+use Rattle.map_time.specs.PointsLaws.{set-rising, set-known}
+use Rattle.map_record.specs.Mapping.{pointWanted, pointJudged, pointOutcome, Wanted, nothing, refuses, stores, numberingIn, numbered, timeWanted, timeJudged, mappingRow, timeOutcome, timeTable, timeUsed, timeRows, namesThen}
+use Rattle.map_record.specs.MappingLaws.{two, and-fst, and-snd, room}
+
+-- ---- what a call that stores has passed
+
+pub record Passed (t : List ℕ) (used names i s e n : ℕ) (new : Bool) : Type 0 where
+  pub fits : badTable (length t) used ≡ false
+  pub formed : wellFormed sameValue knownValue names (rows t used) ≡ true
+  pub forward : s < e
+  pub known : n < namesThen new names
+  pub few : namesThen new names ≤ 4096
+
+-- and what naming makes of its name
+abbrev pub named : Bool → ℕ → Naming
+named new n = cond new (New n) (Old n)
+
+-- a choice that is not a refusal
+chosen : (b : Bool) (w : Wanted) (a : Answer) {i s e n : ℕ} {new : Bool} → cond b w (refuses a) ≡ stores i s e n new → (b ≡ true) × (w ≡ stores i s e n new)
+chosen true w a h = (refl, h)
+chosen false w a h = let z : _≡_ {A = ℕ} 0 1 = cc in absurd (omega arith)
+
+past : (b : Bool) (a : Answer) (w : Wanted) {i s e n : ℕ} {new : Bool} → cond b (refuses a) w ≡ stores i s e n new → (b ≡ false) × (w ≡ stores i s e n new)
+past true a w h = let z : _≡_ {A = ℕ} 0 1 = cc in absurd (omega arith)
+past false a w h = (refl, h)
+
+nonempty : (b : Bool) (w : Wanted) {i s e n : ℕ} {new : Bool} → cond b nothing w ≡ stores i s e n new → (b ≡ false) × (w ≡ stores i s e n new)
+nonempty true w h = let z : _≡_ {A = ℕ} 0 1 = cc in absurd (omega arith)
+nonempty false w h = (refl, h)
+
+-- the number that a valid name gets is known then
+numbered-known : (bytes places names used size number i s e : ℕ) {i′ s′ e′ n : ℕ} {new : Bool} → names ≤ 4096
+    → numbered i s e (numbering bytes places names used size number) ≡ stores i′ s′ e′ n new → (n < namesThen new names) × (namesThen new names ≤ 4096) × (s ≡ s′) × (e ≡ e′)
+unfolding numbering
+numbered-known bytes places names used size number i s e {i′} {s′} {e′} {n} {new} few h =
+    first (ltb number names) refl h
+  where
+    old : number < names → stores i s e number false ≡ stores i′ s′ e′ n new → (n < namesThen new names) × (namesThen new names ≤ 4096) × (s ≡ s′) × (e ≡ e′)
+    old l q =
+        let a : number ≡ n = cc in
+        let b : false ≡ new = cc in
+        rw (← b, ← a) (l, few, cc, cc)
+
+    fresh : (b : Bool) → hasRoom bytes places names used size ≡ b → numbered i s e (cond b (New names) (NotNamed NoNameRoom)) ≡ stores i′ s′ e′ n new
+        → (n < namesThen new names) × (namesThen new names ≤ 4096) × (s ≡ s′) × (e ≡ e′)
+    fresh true r q =
+        let a : names ≡ n = cc in
+        let b : true ≡ new = cc in
+        let m : names + 1 ≤ 4096 = room bytes places names used size r .few in
+        rw (← b, ← a) (omega arith, m, cc, cc)
+    fresh false r q = let z : _≡_ {A = ℕ} 0 1 = cc in absurd (omega arith)
+
+    first : (b : Bool) → ltb number names ≡ b
+        → numbered i s e (cond b (Old number) (cond (hasRoom bytes places names used size) (New names) (NotNamed NoNameRoom))) ≡ stores i′ s′ e′ n new
+        → (n < namesThen new names) × (namesThen new names ≤ 4096) × (s ≡ s′) × (e ≡ e′)
+    first true l q = old (ltb-true number names l) q
+    first false l q = fresh (hasRoom bytes places names used size) refl q
+
+numbered-is : (x : Naming) (i s e : ℕ) {i′ s′ e′ n : ℕ} {new : Bool} → numbered i s e x ≡ stores i′ s′ e′ n new → x ≡ named new n
+numbered-is (Old k) i s e {i′} {s′} {e′} {n} {new} h =
+    let a : k ≡ n = cc in
+    let b : false ≡ new = cc in
+    rw (← b, a) refl
+numbered-is (New k) i s e {i′} {s′} {e′} {n} {new} h =
+    let a : k ≡ n = cc in
+    let b : true ≡ new = cc in
+    rw (← b, a) refl
+numbered-is (NotNamed r) i s e h = let z : _≡_ {A = ℕ} 0 1 = cc in absurd (omega arith)
+
+-- in a well-formed list in lent memory, a valid name is named so
+named-so : (bytes ends : List ℕ) (names size : ℕ) (name : List ℕ) → memoryOk (length bytes) (length ends) names size ≡ true → wellFormedNames bytes ends names size ≡ true
+    → isName name ≡ true → naming bytes ends names size name ≡ numberingIn bytes ends names size name
+unfolding naming numberingIn
+named-so bytes ends names size name m w v = rw (m, w, v) refl
+
+wanted-known : (bytes ends : List ℕ) (names size : ℕ) (name : List ℕ) (m : Mapped) {i s e n : ℕ} {new : Bool} → names ≤ 4096
+    → timeWanted bytes ends names size name m ≡ stores i s e n new → (s < e) × (n < namesThen new names) × (namesThen new names ≤ 4096) × (isName name ≡ true) × (numberingIn bytes ends names size name ≡ named new n)
+unfolding timeWanted numberingIn
+wanted-known bytes ends names size name other few h = let z : _≡_ {A = ℕ} 0 1 = cc in absurd (omega arith)
+wanted-known bytes ends names size name (notOne reason) few h = let z : _≡_ {A = ℕ} 0 1 = cc in absurd (omega arith)
+wanted-known bytes ends names size name (symbol j a b) few h =
+    let number = numbered j a b (numberingIn bytes ends names size name) in
+    let p = chosen (isName name) (cond (ltb b a) (refuses (refused Reversed)) (cond (eqb a b) nothing number)) (refused BadName) h in
+    let q = past (ltb b a) (refused Reversed) (cond (eqb a b) nothing number) (p .1) in
+    let r = nonempty (eqb a b) number (q .1) in
+    let k = numbered-known (length bytes) (length ends) names size (length name) _ j a b few (r .1) in
+    let le : a ≤ b = ltb-false b a (q .0) in
+    let ne : a ≢ b = eqb-false a b (r .0) in
+    (omega (arith, k .2, k .3), k .0, k .1, p .0, numbered-is (numberingIn bytes ends names size name) j a b (r .1))
+
+-- a call that stores has passed every test
+pub passed : (t : List ℕ) (used : ℕ) (bytes ends : List ℕ) (names size : ℕ) (rec : List ℕ) {i s e n : ℕ} {new : Bool}
+    → timeJudged t used bytes ends names size rec ≡ stores i s e n new → Passed t used names i s e n new
+unfolding timeJudged
+passed t used bytes ends names size rec h =
+    let w = timeWanted bytes ends names size (nameIn rec) (mappedIn rec) in
+    let bad = badTable (length t) used in
+    let lent = memoryOk (length bytes) (length ends) names size in
+    let rowsOk = wellFormed sameValue knownValue names (rows t used) in
+    let listOk = wellFormedNames bytes ends names size in
+    let p = chosen (not bad && lent) (cond (rowsOk && listOk) w (refuses (refused IllFormed))) (refused BadMemory) h in
+    let q = chosen (rowsOk && listOk) w (refused IllFormed) (p .1) in
+    let m : Memory (length bytes) (length ends) names size = memory _ _ _ _ (and-snd (not bad) lent (p .0)) in
+    let k = wanted-known bytes ends names size (nameIn rec) (mappedIn rec) (omega (arith, m .held, m .few)) (q .1) in
+    record {
+      fits = not-true bad (and-fst (not bad) lent (p .0));
+      formed = and-fst rowsOk listOk (q .0);
+      forward = k .0;
+      known = k .1;
+      few = k .2;
+    }
+
+pub time-naming : (t : List ℕ) (used : ℕ) (bytes ends : List ℕ) (names size : ℕ) (rec : List ℕ) {i s e n : ℕ} {new : Bool}
+    → timeJudged t used bytes ends names size rec ≡ stores i s e n new → naming bytes ends names size (nameIn rec) ≡ named new n
+unfolding timeJudged
+time-naming t used bytes ends names size rec h =
+    let w = timeWanted bytes ends names size (nameIn rec) (mappedIn rec) in
+    let bad = badTable (length t) used in
+    let lent = memoryOk (length bytes) (length ends) names size in
+    let rowsOk = wellFormed sameValue knownValue names (rows t used) in
+    let listOk = wellFormedNames bytes ends names size in
+    let p = chosen (not bad && lent) (cond (rowsOk && listOk) w (refuses (refused IllFormed))) (refused BadMemory) h in
+    let q = chosen (rowsOk && listOk) w (refused IllFormed) (p .1) in
+    let m : Memory (length bytes) (length ends) names size = memory _ _ _ _ (and-snd (not bad) lent (p .0)) in
+    let k = wanted-known bytes ends names size (nameIn rec) (mappedIn rec) (omega (arith, m .held, m .few)) (q .1) in
+    named-so bytes ends names size (nameIn rec) (and-snd (not bad) lent (p .0)) (and-snd rowsOk listOk (q .0)) (k .3) ∙ k .4
+
+-- ---- and is an insert
+
+known-more : (names more : ℕ) (xs : List (Row ℕ)) → names ≤ more → T (allKnown (knownValue names) xs) → T (allKnown (knownValue more) xs)
+unfolding allKnown
+known-more names more [] h k = tt
+known-more names more (x ∷ xs) h k =
+    let l : x .value < names = ltb-yes (T-fst (ltb (x .value) names) (allKnown (knownValue names) xs) k) in
+    T-and (ltb (x .value) more) (allKnown (knownValue more) xs) (lt→ltb (x .value) more (omega arith))
+    (known-more names more xs h (T-snd (ltb (x .value) names) (allKnown (knownValue names) xs) k))
+
+true-T : (b : Bool) → b ≡ true → T b
+true-T b e = rw e tt
+
+T-true : (b : Bool) → T b → b ≡ true
+T-true true t = refl
+T-true false t = absurd t
+
+formed-more : (names more : ℕ) (xs : List (Row ℕ)) → names ≤ more → wellFormed sameValue knownValue names xs ≡ true → wellFormed sameValue knownValue more xs ≡ true
+unfolding wellFormed
+formed-more names more xs h e =
+    let o = ordered sameValue xs in
+    let t : T (o && allKnown (knownValue names) xs) = true-T _ e in
+    T-true (o && allKnown (knownValue more) xs)
+    (T-and o (allKnown (knownValue more) xs) (T-fst o (allKnown (knownValue names) xs) t) (known-more names more xs h (T-snd o (allKnown (knownValue names) xs) t)))
+
+names-more : (new : Bool) (names : ℕ) → names ≤ namesThen new names
+names-more true names = omega arith
+names-more false names = omega arith
+
+pub stores-insert : (t : List ℕ) (used names i s e n : ℕ) (new : Bool) → Passed t used names i s e n new
+    → inserted sameValue knownValue (namesThen new names) (roomOf t) (mappingRow i s e n) (rows t used) ≡ timeOutcome t used i s e n
+unfolding inserted entered badRoom badNames timeOutcome
+stores-insert t used names i s e n new p =
+    let l : Lent (length t) used = table-lent (length t) used (p .fits) in
+    let ne : s ≢ e = omega (arith, p .forward) in
+    rw (
+      length-rows t 0 used,
+      le-ltb 65536 (roomOf t) (l .limit),
+      le-ltb (roomOf t) used (l .in-use),
+      le-ltb 4096 (namesThen new names) (p .few),
+      formed-more names (namesThen new names) (rows t used) (names-more new names) (p .formed),
+      le-ltb e s (omega (arith, p .forward)),
+      ne-eqb s e ne,
+      lt-ltb n (namesThen new names) (p .known),
+    )
+    refl
+
+-- memory that holds the table after some events holds it after the call: one insert more where it stores, else the same
+module _ (es : List (Event ℕ)) (t : List ℕ) (used : ℕ) (bytes ends : List ℕ) (names size : ℕ) (rec : List ℕ) (held : Holds es t used) where
+  abbrev judged : Wanted
+  judged = timeJudged t used bytes ends names size rec
+
+  pub stores-call : {i s e n : ℕ} {new : Bool} (t′ : List ℕ) → judged ≡ stores i s e n new → rows t′ (timeUsed t used judged) ≡ timeRows t used judged
+      → Holds (insertion (namesThen new names) (roomOf t) (mappingRow i s e n) ∷ es) t′ (timeUsed t used judged)
+  unfolding after timeRows
+  stores-call {i} {s} {e} {n} {new} t′ h r =
+      let o = stores-insert t used names i s e n new (passed t used bytes ends names size rec h) in
+      r
+      ∙ ap (timeRows t used) h
+      ∙ ap (nowStored (rows t used)) (sym o)
+      ∙ ap (λ (xs : List (Row ℕ)). nowStored xs (inserted sameValue knownValue (namesThen new names) (roomOf t) (mappingRow i s e n) xs)) held
+
+  pub nothing-call : {t′ : List ℕ} → judged ≡ nothing → t′ ≡ timeTable t used judged → Holds es t′ used
+  unfolding timeTable
+  nothing-call h r = ap (λ (l : List ℕ). rows l used) (r ∙ ap (timeTable t used) h) ∙ held
+
+  pub refused-call : {a : Answer} {t′ : List ℕ} → judged ≡ refuses a → t′ ≡ timeTable t used judged → Holds es t′ used
+  unfolding timeTable
+  refused-call h r = ap (λ (l : List ℕ). rows l used) (r ∙ ap (timeTable t used) h) ∙ held
+
+-- ---- on a point-in-time table
+
+point-known : (bytes ends : List ℕ) (names size : ℕ) (name : List ℕ) (m : Mapped) {i s e n : ℕ} {new : Bool} → names ≤ 4096
+    → pointWanted bytes ends names size name m ≡ stores i s e n new
+    → (n < namesThen new names) × (isName name ≡ true) × (numberingIn bytes ends names size name ≡ named new n)
+unfolding pointWanted numberingIn
+point-known bytes ends names size name other few h = let z : _≡_ {A = ℕ} 0 1 = cc in absurd (omega arith)
+point-known bytes ends names size name (notOne reason) few h = let z : _≡_ {A = ℕ} 0 1 = cc in absurd (omega arith)
+point-known bytes ends names size name (symbol j a b) few h =
+    let number = numbered j a b (numberingIn bytes ends names size name) in
+    let p = chosen (isName name) number (refused BadName) h in
+    let k = numbered-known (length bytes) (length ends) names size (length name) _ j a b few (p .1) in
+    (k .0, p .0, numbered-is (numberingIn bytes ends names size name) j a b (p .1))
+
+-- what a call that stores has passed, and what naming makes of its name
+pub record PointPassed (t : List ℕ) (used : ℕ) (bytes ends : List ℕ) (names size : ℕ) (name : List ℕ) (n : ℕ) (new : Bool) : Type 0 where
+  pub formed : points.wellFormed names (entries t used) ≡ true
+  pub known : n < namesThen new names
+  pub naming-is : naming bytes ends names size name ≡ named new n
+
+pub point-passed : (t : List ℕ) (used : ℕ) (bytes ends : List ℕ) (names size : ℕ) (rec : List ℕ) {i s e n : ℕ} {new : Bool}
+    → pointJudged t used bytes ends names size rec ≡ stores i s e n new → PointPassed t used bytes ends names size (nameIn rec) n new
+unfolding pointJudged
+point-passed t used bytes ends names size rec h =
+    let w = pointWanted bytes ends names size (nameIn rec) (mappedIn rec) in
+    let fit = pointsFit (length t) used in
+    let lent = memoryOk (length bytes) (length ends) names size in
+    let entriesOk = points.wellFormed names (entries t used) in
+    let listOk = wellFormedNames bytes ends names size in
+    let p = chosen (fit && lent) (cond (entriesOk && listOk) w (refuses (refused IllFormed))) (refused BadMemory) h in
+    let q = chosen (entriesOk && listOk) w (refused IllFormed) (p .1) in
+    let m : Memory (length bytes) (length ends) names size = memory _ _ _ _ (and-snd fit lent (p .0)) in
+    let k = point-known bytes ends names size (nameIn rec) (mappedIn rec) (omega (arith, m .held, m .few)) (q .1) in
+    record {
+      formed = and-fst entriesOk listOk (q .0);
+      known = k .0;
+      naming-is = named-so bytes ends names size (nameIn rec) (and-snd fit lent (p .0)) (and-snd entriesOk listOk (q .0)) (k .1) ∙ k .2;
+    }
+
+entries-more : (names more : ℕ) (xs : List Entry) → names ≤ more → T (points.allKnown names xs) → T (points.allKnown more xs)
+unfolding points.allKnown
+entries-more names more [] h k = tt
+entries-more names more (x ∷ xs) h k =
+    let l : x .symbol < names = ltb-yes (T-fst (ltb (x .symbol) names) (points.allKnown names xs) k) in
+    T-and (ltb (x .symbol) more) (points.allKnown more xs) (lt→ltb (x .symbol) more (omega arith))
+    (entries-more names more xs h (T-snd (ltb (x .symbol) names) (points.allKnown names xs) k))
+
+-- the entries that it sets are well-formed with the names known then
+pub point-formed : (t : List ℕ) (used : ℕ) (bytes ends : List ℕ) (names size : ℕ) (name : List ℕ) (i n : ℕ) (new : Bool)
+    → PointPassed t used bytes ends names size name n new → points.wellFormed (namesThen new names) (pointOutcome t used i n) ≡ true
+unfolding points.wellFormed pointOutcome
+point-formed t used bytes ends names size name i n new p =
+    let xs = entries t used in
+    let x : Entry = record { instrument = i; symbol = n } in
+    let more = namesThen new names in
+    let f : T (rising xs && points.allKnown names xs) = true-T _ (p .formed) in
+    T-true (rising (setEntry x xs) && points.allKnown more (setEntry x xs))
+    (T-and (rising (setEntry x xs)) (points.allKnown more (setEntry x xs)) (set-rising x xs (T-fst (rising xs) (points.allKnown names xs) f))
+    (set-known more x xs (p .known) (entries-more names more xs (names-more new names) (T-snd (rising xs) (points.allKnown names xs) f))))

@@ -1,0 +1,93 @@
+-- Calls on lent memory make a history: a memory that holds the table after some events holds it after one more, whatever the
+-- name count and the room of the call; a lookup in it gives what the latest accepted insert says; and each refusal is given
+-- exactly when document 01's table says, in its order. Assumes nothing.
+use mathlib.Core.Path.{_≡_, ap, _∙_}
+use mathlib.Core.Logic.{_≢_}
+use Prim.Native.Nat.{ℕ, _%_, _≤_, _<_}
+use native.Mathlib.Omega.{arith}
+use mathlib.Core.Bool.{Bool, not, _||_}
+use mathlib.Core.List.{List, [], _∷_}
+use lib.ListN.{length}
+use lib.Dec.{T, ltb, eqb, eqb-refl, not-T}
+use mir.Facts.{eqb-yes, eqb-no, ltb-yes, ltb-no}
+use Rattle.theory.specs.Answer.{Answer, answer}
+use Rattle.theory.specs.RunsTools.{cond-case, cond-yes, cond-no}
+use Rattle.map_rules.specs.Table.{Row, answerFor, Ordered, Outcome, refusedBy, stored, nowStored, ifRoom, badRoom, badNames, wellFormed, insertRows, entered, inserted}
+use Rattle.map_rules.specs.History.{Event, insertion, after, accepted, told}
+use Rattle.map_rules.specs.Lookup.{lookupRows, lookupRows-right}
+use Rattle.map_rules.specs.Memory.{width, sameValue, knownValue, rows, roomOf, insertOutcome, memoryAfter, outcomeAnswer, usedAfter, Gives}
+use Rattle.map_rules.specs.Pieces.{symbols}
+
+-- the memory holds the table after these events
+abbrev pub Holds : List (Event ℕ) → List ℕ → ℕ → Type 0
+Holds es t used = rows t used ≡ after sameValue knownValue es
+
+module _ (es : List (Event ℕ)) (t : List ℕ) (used : ℕ) (s : Holds es t used) where
+  -- one more call of insert
+  pub insert-call : (names : ℕ) (n : Row ℕ) (a : Answer) (t′ : List ℕ) → length t % width ≡ 0 → Gives (insertOutcome t used names n) t used a t′
+      → Holds (insertion names (roomOf t) n ∷ es) t′ (usedAfter used (insertOutcome t used names n))
+  unfolding after insertOutcome
+  insert-call names n a t′ h g =
+      g .holds
+      ∙ ap (λ (o : Outcome (Row ℕ)). nowStored (rows t used) o) (cond-yes (eqb (length t % width) 0) _ _ (rw h (eqb-refl 0)))
+      ∙ ap (λ (xs : List (Row ℕ)). nowStored xs (inserted sameValue knownValue names (roomOf t) n xs)) s
+
+  -- memory of an odd length is refused, and stays
+  pub odd-call : (names : ℕ) (n : Row ℕ) (a : Answer) (t′ : List ℕ) → length t % width ≢ 0 → Gives (insertOutcome t used names n) t used a t′
+      → (a ≡ answer 15 []) × (t′ ≡ t)
+  unfolding insertOutcome memoryAfter outcomeAnswer
+  odd-call names n a t′ h g =
+      let e : insertOutcome t used names n ≡ refusedBy 15 = cond-no (eqb (length t % width) 0) _ _ (not-T (eqb (length t % width) 0) (λ x. h (eqb-yes x))) in
+      (g .answers ∙ ap outcomeAnswer e, g .memory ∙ ap (memoryAfter t used) e)
+
+  -- it is in order at any time, so that the promise on lookups holds
+  pub in-order-call : Ordered (rows t used)
+  in-order-call = rw s (told sameValue symbols knownValue es .in-order)
+
+  -- a lookup, with any hint
+  pub lookup-call : (i m h : ℕ) → lookupRows (rows t used) i m h .said ≡ answerFor (accepted sameValue knownValue es) i m
+  lookup-call i m h =
+      lookupRows-right (rows t used) in-order-call i m h
+      ∙ ap (λ (xs : List (Row ℕ)). answerFor xs i m) s
+      ∙ told sameValue symbols knownValue es .latest i m
+
+-- ---- the refusals, each exactly when the table says
+
+-- the number of an outcome: 0 is done
+unfoldable pub outcomeNumber : Outcome (Row ℕ) → ℕ
+outcomeNumber (refusedBy c) = c
+outcomeNumber (stored ys) = 0
+
+module _ (names room : ℕ) (n : Row ℕ) (xs : List (Row ℕ)) where
+  abbrev bad : Bool
+  bad = badRoom room (length xs) || badNames names
+
+  abbrev formed : Bool
+  formed = wellFormed sameValue knownValue names xs
+
+  -- which refusal, if any, comes first in the order
+  pub data First : ℕ → Type 0 where
+    by-15 : T (badRoom room (length xs) || badNames names) → First 15
+    by-14 : T (not (badRoom room (length xs) || badNames names)) → T (not (wellFormed sameValue knownValue names xs)) → First 14
+    by-1 : T (not (badRoom room (length xs) || badNames names)) → T (wellFormed sameValue knownValue names xs) → n .end < n .start → First 1
+    empty : T (not (badRoom room (length xs) || badNames names)) → T (wellFormed sameValue knownValue names xs) → n .start ≡ n .end → First 0
+    by-3 : T (not (badRoom room (length xs) || badNames names)) → T (wellFormed sameValue knownValue names xs) → n .start < n .end → names ≤ n .value → First 3
+    by-2 : T (not (badRoom room (length xs) || badNames names)) → T (wellFormed sameValue knownValue names xs) → n .start < n .end → n .value < names
+        → room < length (insertRows sameValue n xs) → First 2
+    fits : T (not (badRoom room (length xs) || badNames names)) → T (wellFormed sameValue knownValue names xs) → n .start < n .end → n .value < names
+        → length (insertRows sameValue n xs) ≤ room → First 0
+
+  pub refused-first : First (outcomeNumber (inserted sameValue knownValue names room n xs))
+  unfolding inserted entered ifRoom outcomeNumber
+  refused-first =
+      let P : Outcome (Row ℕ) → Type 0 = λ o. First (outcomeNumber o) in
+      cond-case P bad _ _ (λ b. by-15 b) (λ b.
+      cond-case P formed _ _ (λ f.
+      cond-case P (ltb (n .end) (n .start)) _ _ (λ h. by-1 b f (ltb-yes h)) (λ h.
+      cond-case P (eqb (n .start) (n .end)) _ _ (λ e. empty b f (eqb-yes e)) (λ e.
+      let d : n .start ≢ n .end = eqb-no e in
+      let h′ : n .start ≤ n .end = ltb-no h in
+      let l : n .start < n .end = omega arith in
+      cond-case P (ltb (n .value) names) _ _ (λ k.
+      cond-case P (ltb room (length (insertRows sameValue n xs))) _ _ (λ r. by-2 b f l (ltb-yes k) (ltb-yes r)) (λ r. fits b f l (ltb-yes k) (ltb-no r)))
+      (λ k. by-3 b f l (ltb-no k))))) (λ f. by-14 b f))

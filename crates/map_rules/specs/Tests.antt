@@ -1,0 +1,139 @@
+-- The tests for the two parts of well-formedness are right: `ordered` for the order, `allKnown` for the values.
+-- Assumes nothing.
+use mathlib.Core.Path.{_≡_, refl, _∙_}
+use mathlib.Core.Logic.{_↔_, inl, inr}
+use Prim.Native.Nat.{ℕ, _≤_, _<_}
+use native.Mathlib.Omega.{arith}
+use mathlib.Core.Bool.{Bool, true, false, not, _&&_, _||_}
+use mathlib.Core.List.{List, [], _∷_}
+use lib.Dec.{T, ltb, lt→ltb}
+use lib.Arith.{le→nltb}
+use mir.Facts.{ltb-yes, ltb-no}
+use Rattle.theory.specs.Runs.{Mem, Same, apart}
+use Rattle.theory.specs.RunsTools.{cond-lt, cond-ge, T-and, T-fst, T-snd, Order, less, equal, more, order}
+use Rattle.theory.specs.RunsOverwrite.{apart-iff}
+use Rattle.map_rules.specs.Table.{Row, intervalOf, AheadRow, Ordered, allKnown, apartRow, ordered, wellFormed, badRoom, badNames}
+
+module _ {A : Type 0} (same : A → A → Bool) (laws : Same same) where
+  -- the test of two neighbours, by how their instruments stand
+  pub apart-lower : (x y : Row A) (ys : List (Row A)) → x .instrument < y .instrument → apartRow same x (y ∷ ys) ≡ true
+  unfolding apartRow
+  apart-lower x y ys h = cond-lt (x .instrument) (y .instrument) _ _ h
+
+  pub apart-higher : (x y : Row A) (ys : List (Row A)) → y .instrument < x .instrument → apartRow same x (y ∷ ys) ≡ false
+  unfolding apartRow
+  apart-higher x y ys h =
+      cond-ge (x .instrument) (y .instrument) _ _ (omega arith) ∙ cond-lt (y .instrument) (x .instrument) _ _ h
+
+  pub apart-own : (x y : Row A) (ys : List (Row A)) → x .instrument ≡ y .instrument
+      → apartRow same x (y ∷ ys) ≡ apart same (intervalOf x) (intervalOf y ∷ [])
+  unfolding apartRow
+  apart-own x y ys e =
+      cond-ge (x .instrument) (y .instrument) _ _ (omega arith) ∙ cond-ge (y .instrument) (x .instrument) _ _ (omega arith)
+
+  ahead-yes : (x : Row A) (xs : List (Row A)) → T (apartRow same x xs) → AheadRow x xs
+  ahead-yes x [] t = tt
+  ahead-yes x (y ∷ ys) t = go (order (x .instrument) (y .instrument))
+    where
+      go : Order (x .instrument) (y .instrument) → AheadRow x (y ∷ ys)
+      go (less h) = (omega arith, λ e. absurd (omega arith))
+      go (equal h) = (omega arith, λ e. apart-iff same laws (intervalOf x) (intervalOf y ∷ []) .0 (rw (apart-own x y ys h) at t))
+      go (more h) = let f : T false = rw (apart-higher x y ys h) at t in absurd f
+
+  ahead-if : (x : Row A) (xs : List (Row A)) → AheadRow x xs → T (apartRow same x xs)
+  unfolding apartRow
+  ahead-if x [] a = tt
+  ahead-if x (y ∷ ys) a = go (order (x .instrument) (y .instrument))
+    where
+      go : Order (x .instrument) (y .instrument) → T (apartRow same x (y ∷ ys))
+      go (less h) = rw (apart-lower x y ys h) tt
+      go (equal h) = rw (apart-own x y ys h) (apart-iff same laws (intervalOf x) (intervalOf y ∷ []) .1 (a .1 h))
+      go (more h) = absurd (omega (arith, a .0))
+
+  ordered-yes : (xs : List (Row A)) → T (ordered same xs) → Ordered xs
+  unfolding ordered
+  ordered-yes [] t = tt
+  ordered-yes (x ∷ xs) t =
+      let b : Bool = ltb (x .start) (x .end) in
+      let c : Bool = apartRow same x xs in
+      let s : T (b && c) = T-fst (b && c) (ordered same xs) t in
+      (ltb-yes (T-fst b c s), ahead-yes x xs (T-snd b c s), ordered-yes xs (T-snd (b && c) (ordered same xs) t))
+
+  ordered-if : (xs : List (Row A)) → Ordered xs → T (ordered same xs)
+  unfolding ordered
+  ordered-if [] w = tt
+  ordered-if (x ∷ xs) w =
+      let b : Bool = ltb (x .start) (x .end) in
+      let c : Bool = apartRow same x xs in
+      T-and (b && c) (ordered same xs) (T-and b c (lt→ltb _ _ (w .0)) (ahead-if x xs (w .1))) (ordered-if xs (w .2))
+
+  pub ordered-iff : (xs : List (Row A)) → T (ordered same xs) ↔ Ordered xs
+  ordered-iff xs = (ordered-yes xs, ordered-if xs)
+
+module _ {A : Type 0} (known : A → Bool) where
+  known-yes : (xs : List (Row A)) → T (allKnown known xs) → (x : Row A) → Mem x xs → T (known (x .value))
+  unfolding allKnown
+  known-yes [] t x h = absurd h
+  known-yes (y ∷ ys) t x (inl e) = rw e (T-fst (known (y .value)) (allKnown known ys) t)
+  known-yes (y ∷ ys) t x (inr h) = known-yes ys (T-snd (known (y .value)) (allKnown known ys) t) x h
+
+  known-if : (xs : List (Row A)) → ((x : Row A) → Mem x xs → T (known (x .value))) → T (allKnown known xs)
+  unfolding allKnown
+  known-if [] f = tt
+  known-if (x ∷ xs) f = T-and (known (x .value)) (allKnown known xs) (f x (inl refl)) (known-if xs (λ y h. f y (inr h)))
+
+  pub known-iff : (xs : List (Row A)) → T (allKnown known xs) ↔ ((x : Row A) → Mem x xs → T (known (x .value)))
+  known-iff xs = (known-yes xs, known-if xs)
+
+-- both parts
+module _ {A : Type 0} (same : A → A → Bool) (laws : Same same) (known : ℕ → A → Bool) where
+  pub formed-parts : (names : ℕ) (xs : List (Row A)) → T (wellFormed same known names xs) → Ordered xs × T (allKnown (known names) xs)
+  unfolding wellFormed
+  formed-parts names xs t =
+      let b : Bool = ordered same xs in
+      let c : Bool = allKnown (known names) xs in
+      (ordered-iff same laws xs .0 (T-fst b c t), T-snd b c t)
+
+  pub formed-both : (names : ℕ) (xs : List (Row A)) → Ordered xs → T (allKnown (known names) xs) → T (wellFormed same known names xs)
+  unfolding wellFormed
+  formed-both names xs w k = T-and (ordered same xs) (allKnown (known names) xs) (ordered-iff same laws xs .1 w) k
+
+-- ---- room and names
+
+not-or : (a b : Bool) → T (not (a || b)) → T (not a) × T (not b)
+not-or true b t = absurd t
+not-or false b t = (tt, t)
+
+or-left : (a b : Bool) → T a → T (a || b)
+or-left true b t = tt
+or-left false b t = absurd t
+
+-- the memory is as it should be, as numbers
+pub record Good (room used : ℕ) : Type 0 where
+  pub limit : room ≤ 65536
+  pub in-use : used ≤ room
+
+pub room-good : (room used : ℕ) → T (not (badRoom room used)) → Good room used
+unfolding badRoom
+room-good room used t =
+    let p : T (not (ltb 65536 room)) × T (not (ltb room used)) = not-or (ltb 65536 room) (ltb room used) t in
+    record { limit = ltb-no (p .0); in-use = ltb-no (p .1) }
+
+pub good-room : (room used : ℕ) → Good room used → T (not (badRoom room used))
+unfolding badRoom
+good-room room used g = both (ltb 65536 room) (ltb room used) (le→nltb 65536 room (g .limit)) (le→nltb room used (g .in-use))
+  where
+    both : (a b : Bool) → T (not a) → T (not b) → T (not (a || b))
+    both true b s t = s
+    both false b s t = t
+
+pub bad-limit : (room used : ℕ) → 65536 < room → T (badRoom room used)
+unfolding badRoom
+bad-limit room used h = or-left (ltb 65536 room) (ltb room used) (lt→ltb 65536 room h)
+
+-- and the names too
+pub memory-good : (room used names : ℕ) → T (not (badRoom room used || badNames names)) → Good room used × names ≤ 4096
+unfolding badNames
+memory-good room used names t =
+    let p : T (not (badRoom room used)) × T (not (badNames names)) = not-or (badRoom room used) (badNames names) t in
+    (room-good room used (p .0), ltb-no (p .1))

@@ -1,0 +1,126 @@
+// A table over time: the memory that is lent for it (01, Numbers the desk lives by), and its check (01, The map over time).
+use crate::interval::Interval;
+use crate::interval::WIDTH;
+use leaves::refusal::Refusal;
+ghost use mathlib.Core.Path.{_≡_};
+ghost use mathlib.Core.Bool.{_||_};
+ghost use mathlib.Core.List.{[], _∷_};
+ghost use Prim.Native.Nat.{_*_, _≤_, _<_};
+ghost use lib.ListN.{length};
+ghost use Rattle.map_rules.specs.Table.{badNames, apartRow, wellFormed};
+ghost use Rattle.map_rules.specs.Memory.{sameValue, knownValue, width, rows, badTable, checkAnswer};
+ghost use Rattle.map_rules.specs.Checks.{valid, soundAt};
+ghost use Rattle.map_time.specs.Interval.{rowOf};
+ghost use Rattle.map_time.specs.Table.{checkedOf};
+
+// A table's room is at most so many intervals.
+pub const ROOM_LIMIT: usize = 65536;
+// At most so many names.
+pub const NAME_LIMIT: usize = 4096;
+
+// The check's answer: the table is well-formed, or 14 or 15.
+pub enum Checked {
+    WellFormed,
+    Refused(Refusal),
+}
+
+// Whether memory of this length is no table with so many intervals in use: 15.
+pub fn bad_table(length: usize, used: usize) -> bool
+    ensures { λ r. ⌜ r ≡ badTable length used ⌝ }
+{
+    if length % WIDTH == 0 {
+        if length / WIDTH <= ROOM_LIMIT {
+            length / WIDTH < used
+        } else {
+            true
+        }
+    } else {
+        true
+    }
+}
+
+// The same, with the name count.
+pub fn bad_memory(length: usize, used: usize, names: usize) -> bool
+    ensures { λ r. ⌜ r ≡ badTable length used || badNames names ⌝ }
+{
+    if bad_table(length, used) {
+        true
+    } else {
+        NAME_LIMIT < names
+    }
+}
+
+// Whether an interval by itself is as it should be: non-empty, its symbol known.
+fn is_valid(x: Interval, names: usize) -> bool
+    ensures { λ r. ⌜ r ≡ valid names (rowOf x) ⌝ }
+{
+    if x.start < x.end {
+        (x.symbol as usize) < names
+    } else {
+        false
+    }
+}
+
+// Whether y may stand right after x: of a higher instrument, or of the same one and apart, or touching with another value.
+fn may_follow(x: Interval, y: Interval) -> bool
+    ensures { λ r. ⌜ r ≡ apartRow sameValue (rowOf x) (rowOf y ∷ []) ⌝ }
+{
+    if x.instrument < y.instrument {
+        true
+    } else if y.instrument < x.instrument {
+        false
+    } else if x.end < y.start {
+        true
+    } else if y.start < x.end {
+        false
+    } else {
+        !crate::interval::same_value(x, y)
+    }
+}
+
+// Whether the interval at place k is as it should be, by itself and before the next.
+fn is_sound(table: &[u8], used: usize, names: usize, k: usize) -> bool
+    requires { ⌜ (used * width ≤ length (now table)) × (k < used) ⌝ }
+    ensures { λ r. ⌜ r ≡ soundAt (now (table .entry)) used names k ⌝ }
+{
+    let x = crate::interval::interval_at(table, k);
+    if is_valid(x, names) {
+        if k + 1 < used {
+            let y = crate::interval::interval_at(table, k + 1);
+            may_follow(x, y)
+        } else {
+            true
+        }
+    } else {
+        false
+    }
+}
+
+// Whether the table is well-formed.
+pub fn well_formed(table: &[u8], used: usize, names: usize) -> bool
+    requires { ⌜ used * width ≤ length (now table) ⌝ }
+    ensures { λ r. ⌜ r ≡ wellFormed sameValue knownValue names (rows (now (table .entry)) used) ⌝ }
+{
+    let mut k: usize = 0;
+    while k < used {
+        if is_sound(table, used, names, k) {
+            k += 1;
+        } else {
+            return false;
+        }
+    }
+    true
+}
+
+// The check: yes exactly for well-formed tables, else 14; 15 where the memory is no table.
+pub fn check(table: &[u8], used: usize, names: usize) -> Checked
+    ensures { λ r. ⌜ checkedOf r ≡ checkAnswer (now (table .entry)) used names ⌝ }
+{
+    if bad_memory(table.len(), used, names) {
+        Checked::Refused(Refusal::BadMemory)
+    } else if well_formed(table, used, names) {
+        Checked::WellFormed
+    } else {
+        Checked::Refused(Refusal::IllFormed)
+    }
+}

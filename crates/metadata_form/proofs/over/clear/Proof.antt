@@ -1,0 +1,59 @@
+-- `over::clear` meets its contract. The invariant: the places passed hold 0. Assumes nothing.
+use mathlib.Core.Path.{_≡_, refl, sym, ap, _∙_, subst}
+use Prim.Native.Nat.{ℕ, _≤_, _<_, _+_, _-_}
+use lib.ListN.{length, length-set, replicate, take}
+use lib.Seq.{paste, paste-zero, length-take-le}
+use denote.Ref.{now}
+use Rattle.metadata_form.specs.Over.{clear-turn}
+use native.Mathlib.Omega.{arith}
+use Rattle.metadata_form.proofs.over.clear.Statement.{statement}
+use Rattle.metadata_form.proofs.over.clear.Tie as tie
+
+abbrev Inv-loop : tie.InvT-loop
+Inv-loop d₀ at k j₀ d j = (j ≤ k) × (length d ≡ length d₀) × (d ≡ paste d₀ at (replicate k 0) j)
+
+abbrev μ-loop : tie.MeasureT-loop
+μ-loop d₀ at k j₀ d j = k - j
+
+loop-holds : tie.Need-loop-holds Inv-loop μ-loop
+loop-holds c = (omega arith, refl, paste-zero (now (c .args .d)) (c .args .at) (replicate (c .args .k) 0))
+
+add-d : tie.Need-add-d Inv-loop μ-loop
+add-d c = omega arith
+
+mul-d : tie.Need-mul-d Inv-loop μ-loop
+mul-d c = omega arith
+
+slice-write-d : tie.Need-slice-write-d Inv-loop μ-loop
+slice-write-d c = omega arith
+
+add-j : tie.Need-add-j Inv-loop μ-loop
+add-j c = omega arith
+
+loop-less : tie.Need-loop-less Inv-loop μ-loop
+loop-less c = omega arith
+
+loop-again : tie.Need-loop-again Inv-loop μ-loop
+loop-again c = (omega arith, simp length-set (c .before .loop .inv .1), clear-turn (now (c .before .before .args .d)) (c .before .loop .d) (c .before .before .args .at) (c .before .before .args .k) (c .before .loop .j) (c .before .before .pre) (c .loop-test .taken) (c .before .loop .inv .2))
+
+same-length : tie.Need-same-length Inv-loop μ-loop
+same-length c = c .before .loop .inv .1
+
+returns : tie.Need-returns Inv-loop μ-loop
+returns c = let e : c .before .loop .j ≡ c .before .before .args .k = omega arith in c .before .loop .inv .2 ∙ ap (paste (now (c .before .before .args .d)) (c .before .before .args .at) (replicate (c .before .before .args .k) 0)) e
+
+pub clear-spec : {M : Type 1} → statement M
+clear-spec =
+    tie.close
+    (tie.spec
+    Inv-loop
+    μ-loop
+    loop-holds
+    add-d
+    mul-d
+    slice-write-d
+    add-j
+    loop-less
+    loop-again
+    same-length
+    returns)

@@ -1,0 +1,198 @@
+-- The form of a metadata in lent memory (01, Numbers the desk lives by: 15), and its value. A set is one word an entry, a mapping
+-- two (name, number of intervals), an interval three (start, end, symbol).
+use mathlib.Core.Path.{_≡_, refl}
+use Prim.Native.Nat.{ℕ, _*_, _/_, _%_, _≤_, min, max}
+use native.Mathlib.Omega.{arith}
+use mathlib.Core.Bool.{Bool, true, false, _&&_}
+use mathlib.Core.List.{List}
+use lib.ListN.{length, take}
+use lib.Dec.{leb, eqb}
+use borrow.Author.Tests.{leb-true, eqb-true}
+use Rattle.metadata_rules.specs.Metadata.{Metadata, Fields, sameSchema}
+use Rattle.metadata_rules.specs.Words.{before, mappingsFrom}
+use Rattle.metadata_form.specs.declared.header.Header.{Header}
+use Rattle.metadata_form.specs.declared.header.Lengths.{Lengths}
+use Rattle.metadata_form.specs.declared.header.Counts.{Counts}
+
+-- what the header says besides the lists
+abbrev pub headerFields : Header → Fields
+headerFields h = record {
+  version = h .version;
+  dataset = h .dataset;
+  schema = h .schema;
+  start = h .start;
+  end = h .end;
+  limit = h .limit;
+  stype-in = h .«stype_in»;
+  stype-out = h .«stype_out»;
+  ts-out = h .«ts_out»;
+  symbol-cstr-len = h .«symbol_cstr_len»;
+}
+
+-- the five lent lists, whole
+pub record Lists : Type 0 where
+  pub symbols : List ℕ
+  pub partial : List ℕ
+  pub not-found : List ℕ
+  pub mappings : List ℕ
+  pub intervals : List ℕ
+
+abbrev pub lists : List ℕ → List ℕ → List ℕ → List ℕ → List ℕ → Lists
+lists a b c m v = record { symbols = a; partial = b; not-found = c; mappings = m; intervals = v }
+
+abbrev pub lengthsOf : Lists → Lengths
+lengthsOf l = record {
+  symbols = length (l .symbols);
+  partial = length (l .partial);
+  «not_found» = length (l .not-found);
+  mappings = length (l .mappings);
+  intervals = length (l .intervals);
+}
+
+-- the metadata that header and lists are
+unfoldable pub metadataOf : Header → Lists → Metadata
+metadataOf h l = record {
+  fields = headerFields h;
+  symbols = take (h .symbols) (l .symbols);
+  partial = take (h .partial) (l .partial);
+  not-found = take (h .«not_found») (l .not-found);
+  mappings = mappingsFrom (l .mappings) (l .intervals) 0 0 (h .mappings);
+}
+
+-- a set's list is within the limit, and what is in use within the list
+unfoldable pub setFits : ℕ → ℕ → Bool
+setFits used lent = leb lent 4096 && leb used lent
+
+-- the lists are within their limits and made of whole mappings and intervals, and what is in use is within the lists
+unfoldable pub lengthsFit : Header → Lengths → Bool
+unfolding setFits
+lengthsFit h l =
+    setFits (h .symbols) (l .symbols)
+    && (setFits (h .partial) (l .partial)
+    && (setFits (h .«not_found») (l .«not_found»)
+    && (eqb (l .mappings % 2) 0
+    && (leb (l .mappings / 2) 4096
+    && (leb (h .mappings) (l .mappings / 2)
+    && (eqb (l .intervals % 3) 0
+    && leb (l .intervals / 3) 65536))))))
+
+-- and the intervals in use, the sum of the mappings' counts, are within the lent ones; where not, 15
+unfoldable pub sizedOf : Header → Lengths → List ℕ → Bool
+unfolding lengthsFit
+sizedOf h l m = lengthsFit h l && leb (before m (h .mappings)) (l .intervals / 3)
+
+-- the header of a merge
+abbrev pub mergedHeader : Header → Header → Counts → Header
+mergedHeader h g c = record {
+  version = h .version;
+  dataset = h .dataset;
+  schema = sameSchema (h .schema) (g .schema);
+  start = min (h .start) (g .start);
+  end = max (h .end) (g .end);
+  limit = 0;
+  «stype_in» = h .«stype_in»;
+  «stype_out» = h .«stype_out»;
+  «ts_out» = h .«ts_out»;
+  «symbol_cstr_len» = h .«symbol_cstr_len»;
+  symbols = c .symbols;
+  partial = c .partial;
+  «not_found» = c .«not_found»;
+  mappings = c .mappings;
+}
+
+-- a header with other counts
+abbrev pub countedHeader : Header → Counts → Header
+countedHeader h c = record {
+  version = h .version;
+  dataset = h .dataset;
+  schema = h .schema;
+  start = h .start;
+  end = h .end;
+  limit = h .limit;
+  «stype_in» = h .«stype_in»;
+  «stype_out» = h .«stype_out»;
+  «ts_out» = h .«ts_out»;
+  «symbol_cstr_len» = h .«symbol_cstr_len»;
+  symbols = c .symbols;
+  partial = c .partial;
+  «not_found» = c .«not_found»;
+  mappings = c .mappings;
+}
+
+-- counts within the rooms; where not, 2
+unfoldable pub countsFit : Counts → Lengths → Bool
+countsFit c l =
+    leb (c .symbols) (l .symbols)
+    && (leb (c .partial) (l .partial)
+    && (leb (c .«not_found») (l .«not_found»)
+    && (leb (c .mappings) (l .mappings / 2)
+    && leb (c .intervals) (l .intervals / 3))))
+
+-- ---- laws
+
+both-left : (a b : Bool) → (a && b) ≡ true → a ≡ true
+both-left true b e = refl
+both-left false b e = e
+
+both-right : (a b : Bool) → (a && b) ≡ true → b ≡ true
+both-right true b e = e
+both-right false true e = refl
+both-right false false e = e
+
+-- what a test of the form says, as facts
+pub record Fitting (h : Header) (l : Lengths) : Type 0 where
+  pub symbols-lent : l .symbols ≤ 4096
+  pub symbols-used : h .symbols ≤ l .symbols
+  pub partial-lent : l .partial ≤ 4096
+  pub partial-used : h .partial ≤ l .partial
+  pub not-found-lent : l .«not_found» ≤ 4096
+  pub not-found-used : h .«not_found» ≤ l .«not_found»
+  pub maps-lent : l .mappings ≤ 8192
+  pub maps-used : 2 * h .mappings ≤ l .mappings
+  pub maps-even : l .mappings ≡ 2 * (l .mappings / 2)
+  pub spans-lent : l .intervals ≤ 196608
+  pub spans-whole : l .intervals ≡ 3 * (l .intervals / 3)
+
+pub fitting : (h : Header) (l : Lengths) → lengthsFit h l ≡ true → Fitting h l
+unfolding lengthsFit setFits
+fitting h l e0 =
+    let a0 = both-left (setFits (h .symbols) (l .symbols)) _ e0 in
+    let e1 = both-right (setFits (h .symbols) (l .symbols)) _ e0 in
+    let a1 = both-left (setFits (h .partial) (l .partial)) _ e1 in
+    let e2 = both-right (setFits (h .partial) (l .partial)) _ e1 in
+    let a2 = both-left (setFits (h .«not_found») (l .«not_found»)) _ e2 in
+    let e3 = both-right (setFits (h .«not_found») (l .«not_found»)) _ e2 in
+    let a3 = eqb-true (l .mappings % 2) 0 (both-left (eqb (l .mappings % 2) 0) _ e3) in
+    let e4 = both-right (eqb (l .mappings % 2) 0) _ e3 in
+    let a4 = leb-true (l .mappings / 2) 4096 (both-left (leb (l .mappings / 2) 4096) _ e4) in
+    let e5 = both-right (leb (l .mappings / 2) 4096) _ e4 in
+    let a5 = leb-true (h .mappings) (l .mappings / 2) (both-left (leb (h .mappings) (l .mappings / 2)) _ e5) in
+    let e6 = both-right (leb (h .mappings) (l .mappings / 2)) _ e5 in
+    let a6 = eqb-true (l .intervals % 3) 0 (both-left (eqb (l .intervals % 3) 0) _ e6) in
+    let a7 = leb-true (l .intervals / 3) 65536 (both-right (eqb (l .intervals % 3) 0) _ e6) in
+    record {
+      symbols-lent = leb-true (l .symbols) 4096 (both-left (leb (l .symbols) 4096) _ a0);
+      symbols-used = leb-true (h .symbols) (l .symbols) (both-right (leb (l .symbols) 4096) _ a0);
+      partial-lent = leb-true (l .partial) 4096 (both-left (leb (l .partial) 4096) _ a1);
+      partial-used = leb-true (h .partial) (l .partial) (both-right (leb (l .partial) 4096) _ a1);
+      not-found-lent = leb-true (l .«not_found») 4096 (both-left (leb (l .«not_found») 4096) _ a2);
+      not-found-used = leb-true (h .«not_found») (l .«not_found») (both-right (leb (l .«not_found») 4096) _ a2);
+      maps-lent = omega arith;
+      maps-used = omega arith;
+      maps-even = omega arith;
+      spans-lent = omega arith;
+      spans-whole = omega arith;
+    }
+
+-- and of the sum
+pub record Sized (h : Header) (l : Lengths) (m : List ℕ) : Type 0 where
+  pub fit : Fitting h l
+  pub sum : before m (h .mappings) ≤ l .intervals / 3
+
+pub sized-facts : (h : Header) (l : Lengths) (m : List ℕ) → sizedOf h l m ≡ true → Sized h l m
+unfolding sizedOf
+sized-facts h l m e =
+    record {
+      fit = fitting h l (both-left (lengthsFit h l) _ e);
+      sum = leb-true (before m (h .mappings)) (l .intervals / 3) (both-right (lengthsFit h l) _ e);
+    }

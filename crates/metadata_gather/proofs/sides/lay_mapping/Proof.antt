@@ -1,0 +1,66 @@
+-- `sides::lay_mapping` meets its contract: the mapping's words, then its intervals. Assumes nothing.
+use mathlib.Core.Path.{_≡_, refl, sym, ap, _∙_, subst}
+use Prim.Native.Nat.{ℕ, _+_}
+use mathlib.Core.List.{List}
+use denote.Ref.{now}
+use Rattle.metadata_rules.specs.Words.{nameAt}
+use Rattle.metadata_rules.specs.declared.Interval.{Interval}
+use Rattle.walk.specs.Words.{putMapping, lay}
+use Rattle.metadata_lists.specs.Name.{rest-list}
+use borrow.Author.Needs.{needs}
+use Rattle.metadata_gather.proofs.sides.lay_mapping.Statement.{statement}
+use Rattle.metadata_gather.proofs.sides.lay_mapping.Tie as tie
+
+name-at-requires : tie.Need-name-at-requires
+name-at-requires c κs = search needs
+
+count-at-requires : tie.Need-count-at-requires
+count-at-requires c κs = search needs
+
+mul-o : tie.Need-mul-o
+mul-o c = search needs
+
+shared-slice-read-o : tie.Need-shared-slice-read-o
+shared-slice-read-o c = search needs
+
+put-mapping-requires : tie.Need-put-mapping-requires
+put-mapping-requires c κs = search needs
+
+add-copy-intervals : tie.Need-add-copy-intervals
+add-copy-intervals c = search needs
+
+copy-intervals-requires : tie.Need-copy-intervals-requires
+copy-intervals-requires c κs = search needs
+
+add-result : tie.Need-add-result
+add-result c = search needs
+
+same-length : tie.Need-same-length
+same-length c = search needs
+
+same-length-2 : tie.Need-same-length-2
+same-length-2 c = search needs
+
+returns : tie.Need-returns
+returns c = (
+  c .before .before .before .before .before .before .put-mapping .ensures ∙ ap (λ (u : ℕ). putMapping (now (c .before .before .before .before .before .before .before .before .before .before .before .before .before .before .before .before .args .gm)) (c .before .before .before .before .before .before .before .before .before .before .before .before .before .before .before .before .args .q) u (c .before .before .before .before .before .before .before .before .before .count-at .result)) (c .before .before .before .before .before .before .before .before .before .before .name-at .ensures)
+      ∙ ap (putMapping (now (c .before .before .before .before .before .before .before .before .before .before .before .before .before .before .before .before .args .gm)) (c .before .before .before .before .before .before .before .before .before .before .before .before .before .before .before .before .args .q) (nameAt (now (c .before .before .before .before .before .before .before .before .before .before .before .before .before .before .before .before .args .m)) (c .before .before .before .before .before .before .before .before .before .before .before .before .before .before .before .before .args .j))) (c .before .before .before .before .before .before .before .before .before .count-at .ensures),
+  c .before .before .copy-intervals .ensures ∙ ap (lay (now (c .before .before .before .before .before .before .before .before .before .before .before .before .before .before .before .before .args .gv)) (c .before .before .before .before .before .before .before .before .before .before .before .before .before .before .before .before .args .k)) (rest-list _ _ _ _ _ _ refl (c .before .before .before .before .before .before .before .before .before .count-at .ensures)),
+  ap (λ (u : ℕ). c .before .before .before .before .before .before .before .before .before .before .before .before .before .before .before .before .args .k + u) (c .before .before .before .before .before .before .before .before .before .count-at .ensures),
+)
+
+pub lay-mapping-spec : {M : Type 1} → statement M
+lay-mapping-spec =
+    tie.close
+    (tie.spec
+    name-at-requires
+    count-at-requires
+    mul-o
+    shared-slice-read-o
+    put-mapping-requires
+    add-copy-intervals
+    copy-intervals-requires
+    add-result
+    same-length
+    same-length-2
+    returns)

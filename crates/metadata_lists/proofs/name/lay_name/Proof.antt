@@ -1,0 +1,139 @@
+-- `name::lay_name` meets its contract. The invariant: what is laid so far, walked on with the lists still to come, gives the name's
+-- outcome. Assumes nothing.
+use mathlib.Core.Path.{_≡_, refl, sym, ap, _∙_}
+use Prim.Native.Nat.{ℕ, _≤_, _<_, _+_, _-_, _*_}
+use native.Mathlib.Omega.{arith}
+use borrow.Author.Needs.{needs}
+use lib.ListN.{length, getD}
+use Rattle.walk.specs.declared.heads.Walked.{Walked}
+use Rattle.walk.specs.Words.{laid-length}
+use Rattle.walk.specs.Heads.{endOf}
+use Rattle.metadata_lists.specs.Name.{Going, Ready, start-going, turn-needs, turn-clashed, turn-going, turn-further, going-end}
+use Rattle.metadata_lists.proofs.name.lay_name.Statement.{statement}
+use Rattle.metadata_lists.proofs.name.lay_name.Tie as tie
+
+abbrev Inv-loop : tie.InvT-loop
+Inv-loop m total v off nx i temp₀ out₀ k n₀ j₀ temp out n j =
+    Going m v off total i out₀ out (length temp₀) k j n × (length temp ≡ length temp₀)
+
+abbrev μ-loop : tie.MeasureT-loop
+μ-loop m total v off nx i temp₀ out₀ k n₀ j₀ temp out n j = total - j
+
+loop-holds : tie.Need-loop-holds Inv-loop μ-loop
+loop-holds c = (start-going _ _ _ _ _ _ _ _ _ (c .before .before .before .before .before .before .pre) _ refl, refl)
+
+add-copy-intervals : tie.Need-add-copy-intervals Inv-loop μ-loop
+add-copy-intervals c = omega (arith, c .before .before .before .before .before .before .before .before .before .good, c .before .before .loop .inv .0 .room)
+
+copy-intervals-requires : tie.Need-copy-intervals-requires Inv-loop μ-loop
+copy-intervals-requires c κs =
+    let a = c .before .before .before .loop .inv .0 .room in
+    let b = c .before .before .before .loop .inv .0 .space in
+    let d = c .before .before .before .loop .inv .0 .same in
+    (omega arith, omega arith, omega (arith, c .before .before .before .loop .inv .1))
+
+mul-p : tie.Need-mul-p Inv-loop μ-loop
+mul-p c = let a = c .before .before .before .before .before .before .before .before .before .before .before .before .before .pre .offs in omega (arith, c .before .before .before .before .before .before .before .before .before .before .before .before .before .good .1 .1 .1 .0)
+
+shared-slice-read-p : tie.Need-shared-slice-read-p Inv-loop μ-loop
+shared-slice-read-p c = let a = c .before .before .before .before .before .before .before .before .before .before .before .before .before .before .pre .offs in omega arith
+
+count-at-requires : tie.Need-count-at-requires Inv-loop μ-loop
+count-at-requires c κs = omega (arith, c .before .before .before .before .before .before .before .before .before .before .before .before .before .before .pre .words, c .before .before .before .before .before .before .loop-test)
+
+add-merge-intervals : tie.Need-add-merge-intervals Inv-loop μ-loop
+add-merge-intervals c =
+    let w = c .before .before .before .before .before .before .before .before .before .before .before .before .before .before .before .before .pre .within (c .before .before .before .before .before .before .before .before .before .loop .j) (c .before .before .before .before .before .before .before .before .loop-test .taken) in
+    let d = c .before .count-at .ensures in
+    omega (arith, c .before .before .before .before .before .before .before .before .before .before .before .before .before .before .before .before .good .1 .1 .0)
+
+merge-intervals-requires : tie.Need-merge-intervals-requires Inv-loop μ-loop
+merge-intervals-requires c κs =
+    let w = c .before .before .before .before .before .before .before .before .before .before .before .before .before .before .before .before .before .pre .within (c .before .before .before .before .before .before .before .before .before .before .loop .j) (c .before .before .before .before .before .before .before .before .before .loop-test .taken) in
+    let d = c .before .before .count-at .ensures in
+    let q = turn-needs _ _ _ _ _ _ _ _ _ (c .before .before .before .before .before .before .before .before .before .before .before .before .before .before .before .before .before .pre) _ _ _ _ (c .before .before .before .before .before .before .before .before .before .before .loop .inv .0) (c .before .before .before .before .before .before .before .before .before .loop-test .taken) _ _ (sym (c .before .before .before .before .before .before .before .before .before .before .loop .inv .1)) (c .before .before .before .before .before .before .copy-intervals .ensures) _ _ refl (c .before .before .count-at .ensures) in
+    let l = laid-length _ _ _ _ (c .before .before .before .before .before .before .copy-intervals .ensures) in
+    let t = c .before .before .before .before .before .before .before .before .before .before .loop .inv .1 in
+    let o = c .before .before .before .before .before .before .before .before .before .before .loop .inv .0 .same in
+    (omega arith, omega arith, omega arith, omega arith, omega arith)
+
+enum-told : tie.Need-enum-told Inv-loop μ-loop
+enum-told c = search needs
+
+same-length : tie.Need-same-length Inv-loop μ-loop
+same-length c = laid-length _ _ _ _ (c .before .before .before .before .before .before .before .before .before .before .before .copy-intervals .ensures) ∙ c .before .before .before .before .before .before .before .before .before .before .before .before .before .before .before .loop .inv .1
+
+same-length-2 : tie.Need-same-length-2 Inv-loop μ-loop
+same-length-2 c = c .before .before .before .before .merge-intervals .kept .1 .1 .1 .1 .1 .1 .0 ∙ c .before .before .before .before .before .before .before .before .before .before .before .before .before .before .before .loop .inv .0 .same
+
+returns : tie.Need-returns Inv-loop μ-loop
+unfolding endOf
+returns c =
+    turn-clashed _ _ _ _ _ _ _ _ _ (c .before .before .before .before .before .before .before .before .before .before .before .before .before .before .before .before .before .before .before .before .before .before .pre) _ _ _ _ (c .before .before .before .before .before .before .before .before .before .before .before .before .before .before .before .loop .inv .0) (c .before .before .before .before .before .before .before .before .before .before .before .before .before .before .loop-test .taken) _ _ (sym (c .before .before .before .before .before .before .before .before .before .before .before .before .before .before .before .loop .inv .1)) (c .before .before .before .before .before .before .before .before .before .before .before .copy-intervals .ensures) _ _ refl (c .before .before .before .before .before .before .before .count-at .ensures) (c .before .before .before .before .merge-intervals .last .1 .1 .1 .1 .1 .1 .0)
+    (ap (λ (q : Walked). endOf q (c .before .before .before .before .merge-intervals .last .1 .1 .1 .1 .1 .1 .0)) (sym (c .enum-told .given .1)) ∙ c .before .before .before .before .merge-intervals .ensures)
+
+enum-known-w : tie.Need-enum-known-w Inv-loop μ-loop
+enum-known-w c = search needs
+
+sub-n : tie.Need-sub-n Inv-loop μ-loop
+sub-n c =
+    (turn-going _ _ _ _ _ _ _ _ _ (c .before .before .before .before .before .before .before .before .before .before .before .before .before .before .before .before .before .before .before .before .before .before .before .pre) _ _ _ _ (c .before .before .before .before .before .before .before .before .before .before .before .before .before .before .before .before .loop .inv .0) (c .before .before .before .before .before .before .before .before .before .before .before .before .before .before .before .loop-test .taken) _ _ (sym (c .before .before .before .before .before .before .before .before .before .before .before .before .before .before .before .before .loop .inv .1)) (c .before .before .before .before .before .before .before .before .before .before .before .before .copy-intervals .ensures) _ _ refl (c .before .before .before .before .before .before .before .before .count-at .ensures) _ _ _
+    (ap (λ (q : Walked). endOf q (c .before .before .before .before .before .merge-intervals .last .1 .1 .1 .1 .1 .1 .0)) (sym (c .before .w .given .1)) ∙ c .before .before .before .before .before .merge-intervals .ensures) (c .before .before .before .before .before .merge-intervals .kept .1 .1 .1 .1 .1 .1 .0) refl) .1
+
+mul-j : tie.Need-mul-j Inv-loop μ-loop
+mul-j c = let a = c .before .before .before .before .before .before .before .before .before .before .before .before .before .before .before .before .before .before .before .before .before .before .before .pre .links in omega (arith, c .before .before .before .before .before .before .before .before .before .before .before .before .before .before .before .before .before .before .before .before .before .before .before .good .1 .1 .1 .1 .0)
+
+shared-slice-read-j : tie.Need-shared-slice-read-j Inv-loop μ-loop
+shared-slice-read-j c = let a = c .before .before .before .before .before .before .before .before .before .before .before .before .before .before .before .before .before .before .before .before .before .before .before .before .pre .links in omega arith
+
+loop-less : tie.Need-loop-less Inv-loop μ-loop
+loop-less c = let f = turn-further _ _ _ _ _ _ _ _ _ (c .before .before .before .before .before .before .before .before .before .before .before .before .before .before .before .before .before .before .before .before .before .before .before .before .pre) _ _ _ _ (c .before .before .before .before .before .before .before .before .before .before .before .before .before .before .before .before .before .loop .inv .0) (c .before .before .before .before .before .before .before .before .before .before .before .before .before .before .before .before .loop-test .taken) _ _ (sym (c .before .before .before .before .before .before .before .before .before .before .before .before .before .before .before .before .before .loop .inv .1)) (c .before .before .before .before .before .before .before .before .before .before .before .before .before .copy-intervals .ensures) _ _ refl (c .before .before .before .before .before .before .before .before .before .count-at .ensures) _ refl in omega arith
+
+loop-again : tie.Need-loop-again Inv-loop μ-loop
+loop-again c = (
+  (turn-going _ _ _ _ _ _ _ _ _ (c .before .before .before .before .before .before .before .before .before .before .before .before .before .before .before .before .before .before .before .before .before .before .before .before .pre) _ _ _ _ (c .before .before .before .before .before .before .before .before .before .before .before .before .before .before .before .before .before .loop .inv .0) (c .before .before .before .before .before .before .before .before .before .before .before .before .before .before .before .before .loop-test .taken) _ _ (sym (c .before .before .before .before .before .before .before .before .before .before .before .before .before .before .before .before .before .loop .inv .1)) (c .before .before .before .before .before .before .before .before .before .before .before .before .before .copy-intervals .ensures) _ _ refl (c .before .before .before .before .before .before .before .before .before .count-at .ensures) _ _ _
+      (ap (λ (q : Walked). endOf q (c .before .before .before .before .before .before .merge-intervals .last .1 .1 .1 .1 .1 .1 .0)) (sym (c .before .before .w .given .1)) ∙ c .before .before .before .before .before .before .merge-intervals .ensures) (c .before .before .before .before .before .before .merge-intervals .kept .1 .1 .1 .1 .1 .1 .0) refl) .0,
+  laid-length _ _ _ _ (c .before .before .before .before .before .before .before .before .before .before .before .before .before .copy-intervals .ensures) ∙ c .before .before .before .before .before .before .before .before .before .before .before .before .before .before .before .before .before .loop .inv .1,
+)
+
+add-t30 : tie.Need-add-t30 Inv-loop μ-loop
+add-t30 c = omega (arith, c .before .before .before .before .before .before .before .before .good, c .before .loop .inv .0 .room)
+
+same-length-3 : tie.Need-same-length-3 Inv-loop μ-loop
+same-length-3 c = c .before .loop .inv .1
+
+same-length-4 : tie.Need-same-length-4 Inv-loop μ-loop
+same-length-4 c = c .before .loop .inv .0 .same
+
+returns-2 : tie.Need-returns-2 Inv-loop μ-loop
+unfolding endOf
+returns-2 c = going-end _ _ _ _ _ _ _ _ _ (c .before .before .before .before .before .before .before .before .pre) _ _ _ _ (c .before .loop .inv .0) (c .loop-test .left)
+
+pub lay-name-spec : {M : Type 1} → statement M
+lay-name-spec =
+    tie.close
+    (tie.spec
+    Inv-loop
+    μ-loop
+    loop-holds
+    add-copy-intervals
+    copy-intervals-requires
+    mul-p
+    shared-slice-read-p
+    count-at-requires
+    add-merge-intervals
+    merge-intervals-requires
+    enum-told
+    same-length
+    same-length-2
+    returns
+    enum-known-w
+    sub-n
+    mul-j
+    shared-slice-read-j
+    loop-less
+    loop-again
+    add-t30
+    same-length-3
+    same-length-4
+    returns-2)

@@ -1,0 +1,94 @@
+-- `names::lay_place` meets its contract: not the first of its name, a conflict, or laid. Assumes nothing.
+use mathlib.Core.Path.{_≡_, refl, sym, ap, _∙_}
+use Prim.Native.Nat.{ℕ, _≤_, _<_, _+_, _-_, _*_}
+use native.Mathlib.Omega.{arith}
+use lib.ListN.{length, getD}
+use Rattle.walk.specs.declared.heads.Walked.{Walked}
+use Rattle.walk.specs.Heads.{endOf}
+use Rattle.metadata_lists.specs.Names.{endNames, place-skip, place-clash, place-laid, laid-bound}
+use borrow.Author.Needs.{needs}
+use Rattle.metadata_lists.proofs.names.lay_place.Statement.{statement}
+use Rattle.metadata_lists.proofs.names.lay_place.Tie as tie
+
+name-at-requires : tie.Need-name-at-requires
+name-at-requires c κs = search needs
+
+wide-requires : tie.Need-wide-requires
+wide-requires c κs = search needs
+
+mul-if1 : tie.Need-mul-if1
+mul-if1 c = search needs
+
+shared-slice-read-if1 : tie.Need-shared-slice-read-if1
+shared-slice-read-if1 c = search needs
+
+returns : tie.Need-returns
+unfolding endNames
+returns c = place-skip _ _ _ _ _ _ _ _ _ _ _ (c .before .before .wide .ensures ∙ c .before .before .before .name-at .ensures) (c .if1 .taken)
+
+lay-name-requires : tie.Need-lay-name-requires
+lay-name-requires c κs = c .before .before .before .before .before .before .before .before .before .before .before .before .before .before .pre .5 (ap (λ (y : ℕ). getD (c .before .before .before .before .before .before .before .before .before .before .before .before .before .before .args .head .now) y 0) (sym (c .before .before .before .before .wide .ensures ∙ c .before .before .before .before .before .name-at .ensures)) ∙ c .before .before .if1 .left)
+
+enum-told : tie.Need-enum-told
+enum-told c = search needs
+
+enum-known-w : tie.Need-enum-known-w
+enum-known-w c = search needs
+
+sub-c : tie.Need-sub-c
+sub-c c = (laid-bound _ _ _ _ _ _ (c .before .before .before .before .before .before .before .lay-name .last .1 .1 .1 .1 .1 .1 .1 .0) _ _ (ap (λ (x : Walked). endOf x (c .before .before .before .before .before .before .before .lay-name .last .1 .1 .1 .1 .1 .1 .1 .0)) (sym (c .before .w .given .1)) ∙ c .before .before .before .before .before .before .before .lay-name .ensures)) .0
+
+put-mapping-requires : tie.Need-put-mapping-requires
+put-mapping-requires c κs =
+    let b = laid-bound _ _ _ _ _ _ (c .before .before .before .before .before .before .before .before .lay-name .last .1 .1 .1 .1 .1 .1 .1 .0) _ _ (ap (λ (x : Walked). endOf x (c .before .before .before .before .before .before .before .before .lay-name .last .1 .1 .1 .1 .1 .1 .1 .0)) (sym (c .before .before .w .given .1)) ∙ c .before .before .before .before .before .before .before .before .lay-name .ensures) in
+    let r = c .before .before .before .before .before .before .before .before .before .before .before .before .before .before .before .before .before .before .before .before .before .before .before .pre .5 (ap (λ (y : ℕ). getD (c .before .before .before .before .before .before .before .before .before .before .before .before .before .before .before .before .before .before .before .before .before .before .before .args .head .now) y 0) (sym (c .before .before .before .before .before .before .before .before .before .before .before .before .before .wide .ensures ∙ c .before .before .before .before .before .before .before .before .before .before .before .before .before .before .name-at .ensures)) ∙ c .before .before .before .before .before .before .before .before .before .before .before .if1 .left) .room in
+    (omega (arith, c .before .before .before .before .before .before .before .before .before .before .before .before .before .before .before .before .before .before .before .before .before .before .before .pre .0), omega (arith, c .before .before .before .before .before .before .before .before .before .before .before .before .before .before .before .before .before .before .before .before .before .before .before .pre .4))
+
+add-t30 : tie.Need-add-t30
+add-t30 c = omega (arith, c .before .before .before .before .before .before .before .before .before .before .before .before .before .before .before .before .before .before .before .before .before .before .before .before .before .before .pre .0, c .before .before .before .before .before .before .before .before .before .before .before .before .before .before .before .before .before .before .before .before .before .before .before .before .before .before .good)
+
+same-length : tie.Need-same-length
+same-length c = search needs
+
+same-length-2 : tie.Need-same-length-2
+same-length-2 c = search needs
+
+returns-2 : tie.Need-returns-2
+unfolding endNames
+returns-2 c = place-clash _ _ _ _ _ _ _ _ _ (c .before .before .before .before .before .before .lay-name .last .1 .1 .1 .1 .1 .1 .1 .0) _ _ (c .before .before .before .before .before .before .before .before .before .before .before .wide .ensures ∙ c .before .before .before .before .before .before .before .before .before .before .before .before .name-at .ensures) (c .before .before .before .before .before .before .before .before .before .if1 .left) (ap (λ (x : Walked). endOf x (c .before .before .before .before .before .before .lay-name .last .1 .1 .1 .1 .1 .1 .1 .0)) (sym (c .enum-told .given .1)) ∙ c .before .before .before .before .before .before .lay-name .ensures)
+
+same-length-3 : tie.Need-same-length-3
+same-length-3 c = search needs
+
+same-length-4 : tie.Need-same-length-4
+same-length-4 c = search needs
+
+same-length-5 : tie.Need-same-length-5
+same-length-5 c = search needs
+
+returns-3 : tie.Need-returns-3
+unfolding endNames
+returns-3 c = place-laid _ _ _ _ _ _ _ _ _ _ (c .before .before .before .before .before .before .before .before .before .before .before .lay-name .last .1 .1 .1 .1 .1 .1 .1 .0) _ _ _ _ (c .before .before .before .before .before .before .before .before .before .before .before .before .before .before .before .before .before .name-at .ensures) (ap (λ (y : ℕ). getD (c .before .before .before .before .before .before .before .before .before .before .before .before .before .before .before .before .before .before .before .before .before .before .before .before .before .before .args .head .now) y 0) (sym (c .before .before .before .before .before .before .before .before .before .before .before .before .before .before .before .before .wide .ensures)) ∙ c .before .before .before .before .before .before .before .before .before .before .before .before .before .before .if1 .left) (ap (λ (x : Walked). endOf x (c .before .before .before .before .before .before .before .before .before .before .before .lay-name .last .1 .1 .1 .1 .1 .1 .1 .0)) (sym (c .before .before .before .before .before .w .given .1)) ∙ c .before .before .before .before .before .before .before .before .before .before .before .lay-name .ensures) refl (c .before .before .put-mapping .ensures)
+
+pub lay-place-spec : {M : Type 1} → statement M
+lay-place-spec =
+    tie.close
+    (tie.spec
+    name-at-requires
+    wide-requires
+    mul-if1
+    shared-slice-read-if1
+    returns
+    lay-name-requires
+    enum-told
+    enum-known-w
+    sub-c
+    put-mapping-requires
+    add-t30
+    same-length
+    same-length-2
+    returns-2
+    same-length-3
+    same-length-4
+    same-length-5
+    returns-3)

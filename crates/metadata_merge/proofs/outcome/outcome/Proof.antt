@@ -1,0 +1,59 @@
+-- `outcome::outcome` meets its contract: the sets, the plan of the mappings, and the room make the verdict. Assumes nothing.
+use mathlib.Core.Path.{_≡_, refl, sym, ap, _∙_, subst}
+use denote.Ref.{now}
+use Rattle.metadata_merge.specs.Outcome.{set-a, set-b, set-c, planable, outcomes}
+use Rattle.metadata_merge.proofs.outcome.outcome.Statement.{statement}
+use Rattle.metadata_merge.proofs.outcome.outcome.Tie as tie
+
+unite-requires : tie.Need-unite-requires
+unite-requires c κs = set-a _ _ _ _ _ _ _ _ _ _ _ (c .before .before .before .before .before .before .before .before .before .before .before .before .before .before .before .before .pre)
+
+unite-requires-2 : tie.Need-unite-requires-2
+unite-requires-2 c κs = set-b _ _ _ _ _ _ _ _ _ _ _ (c .before .before .before .before .before .before .before .before .before .before .before .before .before .before .before .before .before .before .before .before .pre)
+
+unite-requires-3 : tie.Need-unite-requires-3
+unite-requires-3 c κs = set-c _ _ _ _ _ _ _ _ _ _ _ (c .before .before .before .before .before .before .before .before .before .before .before .before .before .before .before .before .before .before .before .before .before .before .before .before .pre)
+
+rest-known-requires : tie.Need-rest-known-requires
+rest-known-requires c κs = tt
+
+plan-requires : tie.Need-plan-requires
+plan-requires c κs = planable _ _ _ _ _ _ _ _ _ _ _ (c .before .before .before .before .before .before .before .before .before .before .before .before .before .before .before .before .before .before .before .before .before .before .before .before .before .before .before .before .before .before .pre)
+
+decide-requires : tie.Need-decide-requires
+decide-requires c κs = tt
+
+same-length : tie.Need-same-length
+same-length c = c .before .before .before .before .before .before .before .before .before .before .before .before .before .before .before .before .before .before .before .unite .kept .1 .1 .1 .1 .1 .0
+
+same-length-2 : tie.Need-same-length-2
+same-length-2 c = c .before .before .before .before .before .before .before .before .before .before .before .before .before .before .before .unite2 .kept .1 .1 .1 .1 .1 .0
+
+same-length-3 : tie.Need-same-length-3
+same-length-3 c = c .before .before .before .before .before .before .before .before .before .before .before .unite3 .kept .1 .1 .1 .1 .1 .0
+
+same-length-4 : tie.Need-same-length-4
+same-length-4 c = c .before .before .before .before .before .plan .kept .1 .1 .1 .1 .1 .1 .1 .1 .0
+
+same-length-5 : tie.Need-same-length-5
+same-length-5 c = c .before .before .before .before .before .plan .kept .1 .1 .1 .1 .1 .1 .1 .1 .1 .0
+
+returns : tie.Need-returns
+returns c = outcomes _ _ _ _ _ _ (now (c .before .before .before .before .before .before .before .before .before .before .before .before .before .before .before .before .before .before .before .before .before .before .before .before .before .before .before .before .before .before .before .before .before .before .before .before .args .m)) (now (c .before .before .before .before .before .before .before .before .before .before .before .before .before .before .before .before .before .before .before .before .before .before .before .before .before .before .before .before .before .before .before .before .before .before .before .before .args .v)) _ _ _ (c .before .before .before .before .before .before .before .before .before .before .before .before .before .before .before .before .before .before .before .before .before .before .before .before .before .before .before .before .before .before .before .before .before .before .before .before .pre) _ _ _ (c .before .before .before .before .before .before .before .before .before .before .before .before .before .before .before .before .before .before .before .unite .ensures) _ _ _ (c .before .before .before .before .before .before .before .before .before .before .before .before .before .before .before .unite2 .ensures) _ _ _ (c .before .before .before .before .before .before .before .before .before .before .before .unite3 .ensures) _ (c .before .before .before .before .before .before .before .before .rest-known .ensures) _ _ _ (c .before .before .before .before .before .plan .ensures) _ (c .decide .ensures)
+
+pub outcome-spec : {M : Type 1} → statement M
+outcome-spec =
+    tie.close
+    (tie.spec
+    unite-requires
+    unite-requires-2
+    unite-requires-3
+    rest-known-requires
+    plan-requires
+    decide-requires
+    same-length
+    same-length-2
+    same-length-3
+    same-length-4
+    same-length-5
+    returns)

@@ -1,0 +1,410 @@
+-- The outcome of a merge from its parts: the sets, the plan of the mappings, the room. Assumes nothing.
+use mathlib.Core.Path.{_≡_, refl, sym, ap, _∙_, subst}
+use mathlib.Core.Logic.{_≢_}
+use Prim.Native.Nat.{ℕ, zero, suc, _+_, _-_, _*_, _/_, _≤_, _<_}
+use native.Mathlib.Omega.{arith}
+use mathlib.Core.Bool.{Bool, true, false, _&&_, cond}
+use mathlib.Core.List.{List, [], _∷_, _++_}
+use lib.ListN.{length, take, drop, length-append}
+use lib.Seq.{take-at}
+use lib.Dec.{leb, ltb, eqb}
+use Rattle.theory.specs.Answer.{Answer, answer}
+use Rattle.leaves.specs.Refusal.{refused}
+use Rattle.leaves.specs.declared.refusal.Refusal.{Refusal}
+use Rattle.leaves.specs.declared.refusal.Refusal.the-variants.{Reversed, NoRoom, UnknownSymbol, Conflict, NoDate}
+use Rattle.metadata_rules.specs.declared.Interval.{Interval}
+use Rattle.metadata_rules.specs.Cases.{eqb-case}
+use Rattle.metadata_rules.specs.Metadata.{Metadata, Fields, Mapping, Merged, clash, merged, add, addAll, once, enterAll, opened, byName, every, everyInterval, datesKnown, mappingsKnown, restKnown, namesKnown, forwards, countIntervals, Rooms, Given, Outcome, done, together, fieldsOf, ifFits, ifMerged, agreedMerge, fits}
+use Rattle.metadata_rules.specs.Metadata.{refused as stopped}
+use Rattle.metadata_rules.specs.Words.{mappingsFrom, mappingWords, intervalWords, before, every-append, mapping-length, interval-length}
+use Rattle.metadata_lists.specs.Names.{Final, placed, layAll}
+use Rattle.metadata_lists.specs.NamesWords.{Stands, stands}
+use Rattle.judge.specs.Judge.{knownDate, below}
+use Rattle.plan.specs.Plan.{Planable, both-count, both-size, Shown, fault, shown, endPlan, shownMerged, planOn, planOf, faultOf, bothSides}
+use Rattle.plan.specs.declared.Planned.{Planned}
+use Rattle.plan.specs.declared.Planned.the-variants.{Fault, Laid}
+use Rattle.metadata_form.specs.declared.header.Header.{Header}
+use Rattle.metadata_form.specs.declared.header.Lengths.{Lengths}
+use Rattle.metadata_form.specs.declared.header.Counts.{Counts}
+use Rattle.metadata_form.specs.Header.{Sized, Fitting, Lists, lists, lengthsOf, headerFields, metadataOf, countsFit}
+use Rattle.metadata_form.specs.Over.{over}
+use Rattle.metadata_form.specs.Sets.{AllUnited, IsUnited}
+use Rattle.metadata_merge.specs.Room.{merged-few, merged-short}
+use Rattle.metadata_merge.specs.declared.outcome.Verdict.{Verdict}
+use Rattle.metadata_merge.specs.declared.outcome.Verdict.the-variants.{Refused, Fits}
+
+-- the refusal of a plan's number
+unfoldable pub refusalOf : ℕ → Refusal
+refusalOf n = cond (eqb n 11) NoDate (cond (eqb n 3) UnknownSymbol (cond (eqb n 1) Reversed Conflict))
+
+-- the name numbers besides the mappings' were handed out: both datasets, the three sets
+unfoldable pub restOf : ℕ → Header → Header → Bool → Bool → Bool → Bool
+restOf names h g a b c = ltb (h .dataset) names && (ltb (g .dataset) names && (a && (b && c)))
+
+abbrev pub countsOf : ℕ → ℕ → ℕ → ℕ → ℕ → Counts
+countsOf a b c q k = record { symbols = a; partial = b; «not_found» = c; mappings = q; intervals = k }
+
+unfoldable pub decideOf : Planned → ℕ → ℕ → ℕ → Lengths → Verdict
+unfolding refusalOf
+decideOf (Fault n) a b c l = Refused (refusalOf n)
+decideOf (Laid q k) a b c l = cond (countsFit (countsOf a b c q k) l) (Fits (countsOf a b c q k)) (Refused NoRoom)
+
+-- the rooms of the lent lists, and what a merge is given
+abbrev pub roomsOf : Lists → Rooms
+roomsOf l = record {
+  symbols = length (l .symbols);
+  partial = length (l .partial);
+  not-found = length (l .not-found);
+  mappings = length (l .mappings) / 2;
+  intervals = length (l .intervals) / 3;
+}
+
+abbrev pub given : ℕ → Lists → Given
+given names l = record { date = knownDate; names = names; rooms = roomsOf l }
+
+-- ---- bools
+
+swap : (a x b y : Bool) → ((a && x) && (b && y)) ≡ ((a && b) && (x && y))
+swap true x true y = refl
+swap true true false y = refl
+swap true false false y = refl
+swap false x b y = refl
+
+assoc : (a b c : Bool) → ((a && b) && c) ≡ (a && (b && c))
+assoc true b c = refl
+assoc false b c = refl
+
+-- ---- tests of both sides are tests of all
+
+every-add : (p : ℕ → Bool) (ys : List ℕ) (x : ℕ) → every p (add ys x) ≡ (every p ys && p x)
+unfolding every add
+every-add p [] x = end (p x)
+  where
+    end : (b : Bool) → (b && true) ≡ (true && b)
+    end true = refl
+    end false = refl
+every-add p (y ∷ ys) x =
+    eqb-case (λ (l : List ℕ). every p l ≡ ((p y && every p ys) && p x)) y x _ _
+    (λ e. twice (p y) (every p ys) (p x) (ap p e))
+    (λ d. ap (λ (b : Bool). p y && b) (every-add p ys x) ∙ sym (assoc (p y) (every p ys) (p x)))
+  where
+    twice : (a b c : Bool) → a ≡ c → (a && b) ≡ ((a && b) && c)
+    twice true true true e = refl
+    twice true true false e = e
+    twice true false c e = refl
+    twice false b c e = refl
+
+every-all : (p : ℕ → Bool) (xs ys : List ℕ) → every p (addAll ys xs) ≡ (every p ys && every p xs)
+unfolding every addAll
+every-all p [] ys = end (every p ys)
+  where
+    end : (b : Bool) → b ≡ (b && true)
+    end true = refl
+    end false = refl
+every-all p (x ∷ xs) ys =
+    every-all p xs (add ys x) ∙ ap (λ (b : Bool). b && every p xs) (every-add p ys x) ∙ assoc (every p ys) (p x) (every p xs)
+
+every-once : (p : ℕ → Bool) (xs : List ℕ) → every p (once xs) ≡ every p xs
+unfolding once every
+every-once p xs = every-all p xs []
+
+interval-append : (p : Interval → Bool) (xs ys : List Mapping) → everyInterval p (xs ++ ys) ≡ (everyInterval p xs && everyInterval p ys)
+unfolding everyInterval
+interval-append p xs ys = every-append (λ (m : Mapping). every p (m .intervals)) xs ys
+
+dates-both : (date : ℕ → Bool) (xs ys : List Mapping) → datesKnown date (xs ++ ys) ≡ (datesKnown date xs && datesKnown date ys)
+unfolding datesKnown
+dates-both date xs ys = interval-append (λ x. date (x .start) && date (x .end)) xs ys
+
+forwards-both : (xs ys : List Mapping) → forwards (xs ++ ys) ≡ (forwards xs && forwards ys)
+unfolding forwards
+forwards-both xs ys = interval-append (λ x. leb (x .start) (x .end)) xs ys
+
+known-both : (names : ℕ) (xs ys : List Mapping) → mappingsKnown names (xs ++ ys) ≡ (mappingsKnown names xs && mappingsKnown names ys)
+unfolding mappingsKnown
+known-both names xs ys =
+    ap (λ (b : Bool). b && everyInterval (λ x. ltb (x .symbol) names) (xs ++ ys)) (every-append (λ (k : Mapping). ltb (k .name) names) xs ys)
+    ∙ ap (λ (b : Bool). (every (λ (k : Mapping). ltb (k .name) names) xs && every (λ (k : Mapping). ltb (k .name) names) ys) && b) (interval-append (λ x. ltb (x .symbol) names) xs ys)
+    ∙ swap (every (λ (k : Mapping). ltb (k .name) names) xs) (every (λ (k : Mapping). ltb (k .name) names) ys) (everyInterval (λ x. ltb (x .symbol) names) xs) (everyInterval (λ x. ltb (x .symbol) names) ys)
+
+-- ---- the parts, and the whole
+
+module _ (names : ℕ) (h : Header) (l : Lists) (g : Header) (r : Lists) where
+  abbrev pub left : Metadata
+  left = opened (metadataOf h l)
+
+  abbrev pub right : Metadata
+  right = metadataOf g r
+
+  abbrev pub all : List Mapping
+  all = bothSides (l .mappings) (h .mappings) (l .intervals) (r .mappings) (g .mappings) (r .intervals)
+
+  all-split : all ≡ left .mappings ++ right .mappings
+  unfolding bothSides opened metadataOf
+  all-split = refl
+
+  -- what is known of the sets
+  pub record Sets (ka : Bool) (ca : ℕ) (ta : List ℕ) (kb : Bool) (cb : ℕ) (tb : List ℕ) (kc : Bool) (cc' : ℕ) (tc : List ℕ) : Type 0 where
+    pub symbols : IsUnited (take (h .symbols) (l .symbols)) (take (g .symbols) (r .symbols)) names ka ca ta
+    pub partial : IsUnited (take (h .partial) (l .partial)) (take (g .partial) (r .partial)) names kb cb tb
+    pub not-found : IsUnited (take (h .«not_found») (l .not-found)) (take (g .«not_found») (r .not-found)) names kc cc' tc
+
+  rest-same : (ka : Bool) (ca : ℕ) (ta : List ℕ) (kb : Bool) (cb : ℕ) (tb : List ℕ) (kc : Bool) (cc' : ℕ) (tc : List ℕ) → Sets ka ca ta kb cb tb kc cc' tc
+      → restOf names h g ka kb kc ≡ (restKnown names left && restKnown names right)
+  unfolding restOf restKnown opened metadataOf below
+  rest-same ka ca ta kb cb tb kc cc' tc s =
+      rw (
+        s .symbols .all-known,
+        s .partial .all-known,
+        s .not-found .all-known,
+        every-once (below names) (take (h .symbols) (l .symbols)),
+        every-once (below names) (take (h .partial) (l .partial)),
+        every-once (below names) (take (h .«not_found») (l .not-found)),
+      )
+      (four (ltb (h .dataset) names) (ltb (g .dataset) names)
+      (every (below names) (take (h .symbols) (l .symbols))) (every (below names) (take (g .symbols) (r .symbols)))
+      (every (below names) (take (h .partial) (l .partial))) (every (below names) (take (g .partial) (r .partial)))
+      (every (below names) (take (h .«not_found») (l .not-found))) (every (below names) (take (g .«not_found») (r .not-found))))
+    where
+      four : (a a' b b' c c' d d' : Bool) → (a && (a' && ((b && b') && ((c && c') && (d && d'))))) ≡ ((a && (b && (c && d))) && (a' && (b' && (c' && d'))))
+      four a a' b b' c c' d d' =
+          sym (swap a (b && (c && d)) a' (b' && (c' && d'))
+          ∙ ap (λ (x : Bool). (a && a') && x) (swap b (c && d) b' (c' && d') ∙ ap (λ (x : Bool). (b && b') && x) (swap c d c' d'))
+          ∙ assoc a a' ((b && b') && ((c && c') && (d && d'))))
+
+  -- 11, 3, 1 of both sides, in terms of all mappings
+  agreed-same : (rest : Bool) → rest ≡ (restKnown names left && restKnown names right)
+      → agreedMerge (given names l) left right
+      ≡ cond (datesKnown knownDate all) (cond (rest && mappingsKnown names all) (cond (forwards all) (ifMerged (roomsOf l) left right (byName all)) (stopped (answer 1 []))) (stopped (answer 3 []))) (stopped (answer 11 []))
+  unfolding agreedMerge namesKnown
+  agreed-same rest e =
+      let d = ap (datesKnown knownDate) all-split ∙ dates-both knownDate (left .mappings) (right .mappings) in
+      let f = ap forwards all-split ∙ forwards-both (left .mappings) (right .mappings) in
+      let n : (rest && mappingsKnown names all) ≡ ((restKnown names left && mappingsKnown names (left .mappings)) && (restKnown names right && mappingsKnown names (right .mappings))) =
+      ap (λ (b : Bool). b && mappingsKnown names all) e
+      ∙ ap (λ (b : Bool). (restKnown names left && restKnown names right) && b) (ap (mappingsKnown names) all-split ∙ known-both names (left .mappings) (right .mappings))
+      ∙ swap (restKnown names left) (restKnown names right) (mappingsKnown names (left .mappings)) (mappingsKnown names (right .mappings)) in
+      sym (rw (d, n, f, all-split) refl)
+
+-- ---- the verdict
+
+-- the outcome x is a metadata with these fields, whose lists stand in scratch, c of each
+pub record Fitted (x : Outcome) (f : Fields) (l : Lengths) (c : Counts) (ta tb tc om out : List ℕ) : Type 0 where
+  pub value : Metadata
+  pub is : x ≡ done value
+  pub fields : value .fields ≡ f
+  pub n-symbols : c .symbols ≡ length (value .symbols)
+  pub symbols : take (c .symbols) ta ≡ value .symbols
+  pub n-partial : c .partial ≡ length (value .partial)
+  pub partial : take (c .partial) tb ≡ value .partial
+  pub n-not-found : c .«not_found» ≡ length (value .not-found)
+  pub not-found : take (c .«not_found») tc ≡ value .not-found
+  pub n-mappings : c .mappings ≡ length (value .mappings)
+  pub mappings : take (2 * c .mappings) om ≡ mappingWords (value .mappings)
+  pub n-intervals : c .intervals ≡ countIntervals (value .mappings)
+  pub intervals : take (3 * c .intervals) out ≡ intervalWords (value .mappings)
+  pub room : countsFit c l ≡ true
+
+-- what a verdict says of the outcome x
+abbrev pub Decided : Outcome → Fields → Lengths → Verdict → List ℕ → List ℕ → List ℕ → List ℕ → List ℕ → Type 0
+Decided x f l (Refused r) ta tb tc om out = x ≡ stopped (refused r)
+Decided x f l (Fits c) ta tb tc om out = Fitted x f l c ta tb tc om out
+
+unfoldable pub Deciding : Outcome → Fields → Lengths → Verdict → List ℕ → List ℕ → List ℕ → List ℕ → List ℕ → Type 0
+Deciding x f l v ta tb tc om out = Decided x f l v ta tb tc om out
+
+pub front : (n : ℕ) (a b r : List ℕ) → a ≡ b ++ r → length b ≡ n → take n a ≡ b
+front n a b r e h = ap (take n) e ∙ take-at b r n h
+
+module _ (names : ℕ) (h : Header) (l : Lists) (g : Header) (r : Lists) (ka : Bool) (ca : ℕ) (ta : List ℕ) (kb : Bool) (cb : ℕ) (tb : List ℕ) (kc : Bool) (cd : ℕ) (tc : List ℕ)
+    (s : Sets names h l g r ka ca ta kb cb tb kc cd tc) (om out om' out' : List ℕ) (fit-m : 2 * length (all names h l g r) ≤ length om) (fit-v : 3 * countIntervals (all names h l g r) ≤ length out) where
+  abbrev ends : List Mapping → Metadata
+  ends ms = together (left names h l g r) (right names h l g r) ms
+
+  counts-same : (ms : List Mapping) (q k : ℕ) → q ≡ length ms → k ≡ countIntervals ms → fits (roomsOf l) (ends ms) ≡ countsFit (countsOf ca cb cd q k) (lengthsOf l)
+  unfolding fits countsFit together opened metadataOf
+  counts-same ms q k a b = rw (s .symbols .united .how-many, s .partial .united .how-many, s .not-found .united .how-many, a, b) refl
+
+  laid-fits : (ms : List Mapping) (q k : ℕ) → Stands ms om' q out' k → (b : Bool) → countsFit (countsOf ca cb cd q k) (lengthsOf l) ≡ b
+      → Decided (cond b (done (ends ms)) (stopped (answer 2 []))) (fieldsOf (headerFields h) (headerFields g)) (lengthsOf l) (cond b (Fits (countsOf ca cb cd q k)) (Refused NoRoom)) ta tb tc om' out'
+  unfolding together opened metadataOf
+  laid-fits ms q k d false e = refl
+  laid-fits ms q k d true e =
+      let x = d .how-many in
+      let y = d .how-long in
+      record {
+        value = ends ms;
+        is = refl;
+        fields = refl;
+        n-symbols = s .symbols .united .how-many;
+        symbols = s .symbols .united .stand;
+        n-partial = s .partial .united .how-many;
+        partial = s .partial .united .stand;
+        n-not-found = s .not-found .united .how-many;
+        not-found = s .not-found .united .stand;
+        n-mappings = x;
+        mappings = front (2 * q) om' (mappingWords ms) (d .rest-m) (d .maps) (let z = mapping-length ms in omega arith);
+        n-intervals = y;
+        intervals = front (3 * k) out' (intervalWords ms) (d .rest-v) (d .spans) (let z = interval-length ms in omega arith);
+        room = e;
+      }
+
+  faulted : (p : Planned) (n : ℕ) → endPlan p om' out' ≡ fault n → (x : Outcome) → x ≡ stopped (refused (refusalOf n))
+      → Decided x (fieldsOf (headerFields h) (headerFields g)) (lengthsOf l) (decideOf p ca cb cd (lengthsOf l)) ta tb tc om' out'
+  unfolding endPlan decideOf
+  faulted (Fault m) n e x d = let z : m ≡ n = cc in d ∙ ap (λ (k : ℕ). stopped (refused (refusalOf k))) (sym z)
+  faulted (Laid q k) n e x d = let z : _≡_ {A = ℕ} 0 1 = cc in absurd (omega arith)
+
+  merged-case : (p : Planned) (m : Merged) → byName (all names h l g r) ≡ m → endPlan p om' out' ≡ shownMerged om out m
+      → Decided (ifMerged (roomsOf l) (left names h l g r) (right names h l g r) m) (fieldsOf (headerFields h) (headerFields g)) (lengthsOf l) (decideOf p ca cb cd (lengthsOf l)) ta tb tc om' out'
+  unfolding shownMerged ifMerged ifFits endPlan decideOf refusalOf
+  merged-case p clash b e = faulted p 7 e (stopped (answer 7 [])) refl
+  merged-case (Fault n) (merged ms) b e = let z : _≡_ {A = ℕ} 0 1 = cc in absurd (omega arith)
+  merged-case (Laid q k) (merged ms) b e =
+      let f : placed om' q out' k ≡ layAll om 0 out 0 ms = cc in
+      let x = merged-few (all names h l g r) ms b in
+      let y = merged-short (all names h l g r) ms b in
+      let d = stands ms om out om' out' q k f (omega arith) (omega arith) in
+      subst (λ (t : Bool). Decided (cond t (done (ends ms)) (stopped (answer 2 []))) (fieldsOf (headerFields h) (headerFields g)) (lengthsOf l) (cond (countsFit (countsOf ca cb cd q k) (lengthsOf l)) (Fits (countsOf ca cb cd q k)) (Refused NoRoom)) ta tb tc om' out')
+      (sym (counts-same ms q k (d .how-many) (d .how-long)))
+      (laid-fits ms q k d (countsFit (countsOf ca cb cd q k) (lengthsOf l)) refl)
+
+  cases : (p : Planned) (d n f : Bool) → endPlan p om' out' ≡ planOn (cond d (cond n (cond f 0 1) 3) 11) om out (all names h l g r)
+      → Decided (cond d (cond n (cond f (ifMerged (roomsOf l) (left names h l g r) (right names h l g r) (byName (all names h l g r))) (stopped (answer 1 []))) (stopped (answer 3 []))) (stopped (answer 11 [])))
+      (fieldsOf (headerFields h) (headerFields g)) (lengthsOf l) (decideOf p ca cb cd (lengthsOf l)) ta tb tc om' out'
+  unfolding planOn refusalOf
+  cases p true true true e = merged-case p (byName (all names h l g r)) refl e
+  cases p true true false e = faulted p 1 e (stopped (answer 1 [])) refl
+  cases p true false f e = faulted p 3 e (stopped (answer 3 [])) refl
+  cases p false n f e = faulted p 11 e (stopped (answer 11 [])) refl
+
+  pub decided : (rest : Bool) → rest ≡ restOf names h g ka kb kc → (p : Planned) → endPlan p om' out' ≡ planOf names rest (all names h l g r) om out → (v : Verdict) → v ≡ decideOf p ca cb cd (lengthsOf l)
+      → Deciding (agreedMerge (given names l) (left names h l g r) (right names h l g r)) (fieldsOf (headerFields h) (headerFields g)) (lengthsOf l) v ta tb tc om' out'
+  unfolding planOf faultOf Deciding
+  decided rest a p e v d =
+      subst (λ (w : Verdict). Decided (agreedMerge (given names l) (left names h l g r) (right names h l g r)) (fieldsOf (headerFields h) (headerFields g)) (lengthsOf l) w ta tb tc om' out') (sym d)
+      (subst (λ (x : Outcome). Decided x (fieldsOf (headerFields h) (headerFields g)) (lengthsOf l) (decideOf p ca cb cd (lengthsOf l)) ta tb tc om' out')
+      (sym (agreed-same names h l g r rest (a ∙ rest-same names h l g r ka ca ta kb cb tb kc cd tc s)))
+      (cases p (datesKnown knownDate (all names h l g r)) (rest && mappingsKnown names (all names h l g r)) (forwards (all names h l g r)) e))
+
+pub decide-fault : (p : Planned) (a b c : ℕ) (l : Lengths) (n : ℕ) (r : Refusal) → p ≡ Fault n → r ≡ refusalOf n → Refused r ≡ decideOf p a b c l
+unfolding decideOf
+decide-fault p a b c l n r e d = ap (λ (x : Refusal). Refused x) d ∙ ap (λ (x : Planned). decideOf x a b c l) (sym e)
+
+pub decide-fits : (p : Planned) (a b c : ℕ) (l : Lengths) (q k : ℕ) (t : Bool) → p ≡ Laid q k → t ≡ countsFit (countsOf a b c q k) l → t ≡ true → Fits (countsOf a b c q k) ≡ decideOf p a b c l
+unfolding decideOf
+decide-fits p a b c l q k t e d y =
+    sym (ap (λ (x : Planned). decideOf x a b c l) e ∙ ap (λ (x : Bool). cond x (Fits (countsOf a b c q k)) (Refused NoRoom)) (sym d ∙ y))
+
+pub decide-short : (p : Planned) (a b c : ℕ) (l : Lengths) (q k : ℕ) (t : Bool) → p ≡ Laid q k → t ≡ countsFit (countsOf a b c q k) l → t ≡ false → Refused NoRoom ≡ decideOf p a b c l
+unfolding decideOf
+decide-short p a b c l q k t e d y =
+    sym (ap (λ (x : Planned). decideOf x a b c l) e ∙ ap (λ (x : Bool). cond x (Fits (countsOf a b c q k)) (Refused NoRoom)) (sym d ∙ y))
+
+-- ---- what the functions ask and ensure
+
+pub record Plannable (names : ℕ) (h : Header) (len : Lengths) (l : Lists) (g : Header) (r : Lists) (sa sb sc sm sv : ℕ) : Type 0 where
+  pub few-names : names ≤ 4096
+  pub own : len ≡ lengthsOf l
+  pub left-sized : Sized h (lengthsOf l) (l .mappings)
+  pub right-sized : Sized g (lengthsOf r) (r .mappings)
+  pub room-a : sa ≡ 8192
+  pub room-b : sb ≡ 8192
+  pub room-c : sc ≡ 8192
+  pub room-m : sm ≡ 16384
+  pub room-v : sv ≡ 393216
+
+unfoldable pub Outcomes : ℕ → Header → Lists → Header → Lists → Verdict → List ℕ → List ℕ → List ℕ → List ℕ → List ℕ → Type 0
+Outcomes names h l g r v ta tb tc om out =
+    Deciding (agreedMerge (given names l) (opened (metadataOf h l)) (metadataOf g r)) (fieldsOf (headerFields h) (headerFields g)) (lengthsOf l) v ta tb tc om out
+
+pub record Fits1 (used n ld lt : ℕ) : Type 0 where
+  pub used-lent : used ≤ ld
+  pub new-lent : n ≤ ld
+  pub new-held : n ≤ lt
+
+pub record Commit (h : Header) (used : ℕ) (c : Counts) (l t : Lists) : Type 0 where
+  pub symbols : Fits1 (h .symbols) (c .symbols) (length (l .symbols)) (length (t .symbols))
+  pub partial : Fits1 (h .partial) (c .partial) (length (l .partial)) (length (t .partial))
+  pub not-found : Fits1 (h .«not_found») (c .«not_found») (length (l .not-found)) (length (t .not-found))
+  pub mappings : Fits1 (2 * h .mappings) (2 * c .mappings) (length (l .mappings)) (length (t .mappings))
+  pub intervals : Fits1 (3 * used) (3 * c .intervals) (length (l .intervals)) (length (t .intervals))
+
+-- the lists l with what stands in t laid over them
+abbrev pub committed : Header → ℕ → Counts → Lists → Lists → Lists
+committed h used c l t = record {
+  symbols = over (l .symbols) (h .symbols) (take (c .symbols) (t .symbols));
+  partial = over (l .partial) (h .partial) (take (c .partial) (t .partial));
+  not-found = over (l .not-found) (h .«not_found») (take (c .«not_found») (t .not-found));
+  mappings = over (l .mappings) (2 * h .mappings) (take (2 * c .mappings) (t .mappings));
+  intervals = over (l .intervals) (3 * used) (take (3 * c .intervals) (t .intervals));
+}
+
+module _ (names : ℕ) (h : Header) (len : Lengths) (l : Lists) (g : Header) (r : Lists) (sa sb sc sm sv : ℕ) (p : Plannable names h len l g r sa sb sc sm sv) where
+  pub set-a : (h .symbols ≤ length (l .symbols)) × (g .symbols ≤ length (r .symbols)) × (h .symbols + g .symbols ≤ sa) × (sa < 4294967296)
+  set-a =
+      let a = p .left-sized .fit in let b = p .right-sized .fit in let c = p .room-a in
+      let d = a .symbols-lent in let e = a .symbols-used in let f = b .symbols-lent in let i = b .symbols-used in
+      (e, i, omega arith, omega arith)
+
+  pub set-b : (h .partial ≤ length (l .partial)) × (g .partial ≤ length (r .partial)) × (h .partial + g .partial ≤ sb) × (sb < 4294967296)
+  set-b =
+      let a = p .left-sized .fit in let b = p .right-sized .fit in let c = p .room-b in
+      let d = a .partial-lent in let e = a .partial-used in let f = b .partial-lent in let i = b .partial-used in
+      (e, i, omega arith, omega arith)
+
+  pub set-c : (h .«not_found» ≤ length (l .not-found)) × (g .«not_found» ≤ length (r .not-found)) × (h .«not_found» + g .«not_found» ≤ sc) × (sc < 4294967296)
+  set-c =
+      let a = p .left-sized .fit in let b = p .right-sized .fit in let c = p .room-c in
+      let d = a .not-found-lent in let e = a .not-found-used in let f = b .not-found-lent in let i = b .not-found-used in
+      (e, i, omega arith, omega arith)
+
+  pub planable : Planable (l .mappings) (h .mappings) (l .intervals) (r .mappings) (g .mappings) (r .intervals) names sm sv
+  planable =
+      let a = p .left-sized .fit in let b = p .right-sized .fit in
+      let c = p .left-sized .sum in let d = p .right-sized .sum in
+      let e = a .maps-lent in let f = a .maps-used in let i = a .spans-lent in let j = a .spans-whole in
+      let k = b .maps-lent in let m = b .maps-used in let n = b .spans-lent in let o = b .spans-whole in
+      record {
+        left-words = f;
+        left-count = omega arith;
+        left-spans = omega arith;
+        right-words = m;
+        right-count = omega arith;
+        right-spans = omega arith;
+        few-spans = omega arith;
+        few-names = p .few-names;
+        maps = p .room-m;
+        room = p .room-v;
+      }
+
+  pub all-few : (om : List ℕ) → sm ≡ length om → 2 * length (bothSides (l .mappings) (h .mappings) (l .intervals) (r .mappings) (g .mappings) (r .intervals)) ≤ length om
+  all-few om e =
+      let a = both-count (l .mappings) (h .mappings) (l .intervals) (r .mappings) (g .mappings) (r .intervals) in
+      let b = planable .left-count in let c = planable .right-count in let d = p .room-m in
+      omega arith
+
+  pub all-short : (out : List ℕ) → sv ≡ length out → 3 * countIntervals (bothSides (l .mappings) (h .mappings) (l .intervals) (r .mappings) (g .mappings) (r .intervals)) ≤ length out
+  all-short out e =
+      let a = both-size (l .mappings) (h .mappings) (l .intervals) (r .mappings) (g .mappings) (r .intervals) in
+      let b = planable .few-spans in let d = p .room-v in
+      omega arith
+
+-- the whole outcome from the calls' answers
+pub outcomes : (names : ℕ) (h : Header) (len : Lengths) (l : Lists) (g : Header) (r : Lists) (om out : List ℕ) (sa sb sc : ℕ)
+    → Plannable names h len l g r sa sb sc (length om) (length out)
+    → (ka : Bool) (ca : ℕ) (ta : List ℕ) → IsUnited (take (h .symbols) (l .symbols)) (take (g .symbols) (r .symbols)) names ka ca ta
+    → (kb : Bool) (cb : ℕ) (tb : List ℕ) → IsUnited (take (h .partial) (l .partial)) (take (g .partial) (r .partial)) names kb cb tb
+    → (kc : Bool) (cd : ℕ) (tc : List ℕ) → IsUnited (take (h .«not_found») (l .not-found)) (take (g .«not_found») (r .not-found)) names kc cd tc
+    → (rest : Bool) → rest ≡ restOf names h g ka kb kc
+    → (p : Planned) (om' out' : List ℕ) → endPlan p om' out' ≡ planOf names rest (bothSides (l .mappings) (h .mappings) (l .intervals) (r .mappings) (g .mappings) (r .intervals)) om out
+    → (v : Verdict) → v ≡ decideOf p ca cb cd len → Outcomes names h l g r v ta tb tc om' out'
+unfolding Outcomes
+outcomes names h len l g r om out sa sb sc q ka ca ta a kb cb tb b kc cd tc c rest e p om' out' f v d =
+    decided names h l g r ka ca ta kb cb tb kc cd tc (record { symbols = a; partial = b; not-found = c }) om out om' out'
+    (all-few names h len l g r sa sb sc (length om) (length out) q om refl) (all-short names h len l g r sa sb sc (length om) (length out) q out refl)
+    rest e p f v (d ∙ ap (decideOf p ca cb cd) (q .own))
+
+pub lists-same : {a a' b b' c c' m m' v v' : List ℕ} → a ≡ a' → b ≡ b' → c ≡ c' → m ≡ m' → v ≡ v' → lists a b c m v ≡ lists a' b' c' m' v'
+lists-same {a} {a'} {b} {b'} {c} {c'} {m} {m'} {v} {v'} e f g h i =
+    ap (λ (x : List ℕ). lists x b c m v) e ∙ ap (λ (x : List ℕ). lists a' x c m v) f ∙ ap (λ (x : List ℕ). lists a' b' x m v) g ∙ ap (λ (x : List ℕ). lists a' b' c' x v) h ∙ ap (λ (x : List ℕ). lists a' b' c' m' x) i

@@ -1,0 +1,42 @@
+-- Too few bytes are refused; in the others the text is laid. Assumes nothing.
+use Rattle.replay_text.specs.ReplayCalls.{replay-short, replay-laid}
+use borrow.Author.Needs.{needs}
+use Rattle.replay_text.proofs.replay.replay.Statement.{statement}
+use Rattle.replay_text.proofs.replay.replay.Tie as tie
+
+returns : tie.Need-returns
+returns c = replay-short _ _ (c .if1 .taken)
+
+bytes-space-requires : tie.Need-bytes-space-requires
+bytes-space-requires c κs = search needs
+
+cuts-space-requires : tie.Need-cuts-space-requires
+cuts-space-requires c κs = search needs
+
+slice-aggregate-written : tie.Need-slice-aggregate-written
+slice-aggregate-written c = search needs
+
+slice-aggregate-written-2 : tie.Need-slice-aggregate-written-2
+slice-aggregate-written-2 c = search needs
+
+written-requires : tie.Need-written-requires
+written-requires c κs = search needs
+
+same-length : tie.Need-same-length
+same-length c = search needs
+
+returns-2 : tie.Need-returns-2
+returns-2 c = replay-laid _ (c .before .before .before .before .before .before .before .before .before .before .if1 .left) (c .before .before .before .before .written .ensures)
+
+pub replay-spec : {M : Type 1} → statement M
+replay-spec =
+    tie.close
+    (tie.spec
+    returns
+    bytes-space-requires
+    cuts-space-requires
+    slice-aggregate-written
+    slice-aggregate-written-2
+    written-requires
+    same-length
+    returns-2)

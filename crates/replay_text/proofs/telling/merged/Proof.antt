@@ -1,0 +1,97 @@
+-- The cuts are right, so the opening is done, and the loop starts from the machine's start. Assumes nothing.
+use mathlib.Core.Path.{sym, ap, _∙_}
+use Rattle.leaves.specs.FrameLaws.{refused-not-done}
+use Rattle.records.specs.Merge.{openingOf}
+use Rattle.replay_text.specs.Telling.{opening-right, opening-held, opening-done, opened-starts, opened-ready}
+use borrow.Author.Needs.{needs}
+use Rattle.replay_text.proofs.telling.merged.Statement.{statement}
+use Rattle.replay_text.proofs.telling.merged.Tie as tie
+
+array-share-prefix-no-hint : tie.Need-array-share-prefix-no-hint
+array-share-prefix-no-hint c = search needs
+
+slice-aggregate-open : tie.Need-slice-aggregate-open
+slice-aggregate-open c = search needs
+
+open-requires : tie.Need-open-requires
+open-requires c κs = search needs
+
+enum-known-opening : tie.Need-enum-known-opening
+enum-known-opening c = search needs
+
+steps-requires : tie.Need-steps-requires
+steps-requires c κs =
+    let o = c .before .before .before .before .before .before .before .before .before .before .before .before .before .before .before .before .before .before .before .«open» in
+    let m = c .before .before .before .before .before .before .before .before .before .before .before .before .before .before .before .before .before .before .before .before .before .before .before .before .before .before .before .before .before .before .before .before .before .before .pre in
+    let e = opening-held m (ap openingOf (sym (c .before .before .before .before .before .before .before .opening .given .1)) ∙ o .ensures .0) in
+    opened-ready m (o .ensures .1 .1 (opening-right m)) e (o .kept .1 .1 .1 .0) (o .kept .1 .1 .1 .1 .0) (o .kept .1 .1 .1 .1 .1 .0) (o .kept .1 .1 .1 .1 .1 .1 .0) (o .kept .1 .1 .1 .1 .1 .1 .1 .0)
+
+enum-told : tie.Need-enum-told
+enum-told c = search needs
+
+same-length : tie.Need-same-length
+same-length c = search needs
+
+same-length-2 : tie.Need-same-length-2
+same-length-2 c = search needs
+
+same-length-3 : tie.Need-same-length-3
+same-length-3 c = search needs
+
+same-length-4 : tie.Need-same-length-4
+same-length-4 c = search needs
+
+same-length-5 : tie.Need-same-length-5
+same-length-5 c = search needs
+
+same-length-6 : tie.Need-same-length-6
+same-length-6 c = search needs
+
+returns : tie.Need-returns
+returns c =
+    let m = c .before .before .before .before .before .before .before .before .before .before .before .before .before .before .before .before .before .before .before .before .before .before .before .before .before .before .before .before .before .before .before .before .before .before .before .before .before .before .before .before .before .before .before .before .before .before .before .pre in
+    rw (sym (opened-starts m (c .before .before .before .before .before .before .before .before .before .before .before .before .before .before .before .before .before .before .before .before .before .before .before .before .before .before .before .before .before .before .before .before .«open» .ensures .1 .1 (opening-right m)))) (c .before .before .before .before .before .before .before .before .before .before .before .before .steps .ensures)
+
+same-length-7 : tie.Need-same-length-7
+same-length-7 c = search needs
+
+same-length-8 : tie.Need-same-length-8
+same-length-8 c = search needs
+
+same-length-9 : tie.Need-same-length-9
+same-length-9 c = search needs
+
+same-length-10 : tie.Need-same-length-10
+same-length-10 c = search needs
+
+same-length-11 : tie.Need-same-length-11
+same-length-11 c = search needs
+
+returns-2 : tie.Need-returns-2
+returns-2 c =
+    let m = c .before .before .before .before .before .before .before .before .before .before .before .before .before .before .before .before .before .before .before .before .before .before .before .before .before .before .before .pre in
+    absurd (refused-not-done (c .enum-told .given .0 .0) (opening-done m (ap openingOf (sym (c .enum-told .given .1)) ∙ c .before .before .before .before .before .before .before .before .before .before .before .before .«open» .ensures .0)))
+
+pub merged-spec : {M : Type 1} → statement M
+merged-spec =
+    tie.close
+    (tie.spec
+    array-share-prefix-no-hint
+    slice-aggregate-open
+    open-requires
+    enum-known-opening
+    steps-requires
+    enum-told
+    same-length
+    same-length-2
+    same-length-3
+    same-length-4
+    same-length-5
+    same-length-6
+    returns
+    same-length-7
+    same-length-8
+    same-length-9
+    same-length-10
+    same-length-11
+    returns-2)

@@ -1,0 +1,52 @@
+-- The answer is the machine's, so its line is that answer's. Assumes nothing.
+use Rattle.replay_text.specs.Telling.{places-right}
+use borrow.Author.Needs.{needs}
+use Rattle.replay_text.proofs.telling.step.Statement.{statement}
+use Rattle.replay_text.proofs.telling.step.Tie as tie
+
+next-requires : tie.Need-next-requires
+next-requires c κs = search needs
+
+line-requires : tie.Need-line-requires
+line-requires c κs = search needs
+
+same-length : tie.Need-same-length
+same-length c = search needs
+
+same-length-2 : tie.Need-same-length-2
+same-length-2 c = search needs
+
+same-length-3 : tie.Need-same-length-3
+same-length-3 c = search needs
+
+same-length-4 : tie.Need-same-length-4
+same-length-4 c = search needs
+
+same-length-5 : tie.Need-same-length-5
+same-length-5 c = search needs
+
+same-length-6 : tie.Need-same-length-6
+same-length-6 c = search needs
+
+returns : tie.Need-returns
+returns c =
+    let t = c .before .before .before .before .before .before .before .before .before .before .before .before .before .before .next .ensures in (
+      t .0,
+      λ n few ok.
+          let s = t .1 .1 (places-right (c .before .before .before .before .before .before .before .before .before .before .before .before .before .before .before .before .before .before .before .before .before .before .before .before .before .before .before .before .pre .0)) n few ok in
+          record { line = c .before .before .line .ensures _ (s .heard); leaves = s .leaves; sound = s .sound },
+    )
+
+pub step-spec : {M : Type 1} → statement M
+step-spec =
+    tie.close
+    (tie.spec
+    next-requires
+    line-requires
+    same-length
+    same-length-2
+    same-length-3
+    same-length-4
+    same-length-5
+    same-length-6
+    returns)

@@ -1,0 +1,201 @@
+-- What the functions of `telling` promise, and how one call of the merge after another leads to the whole text. Assumes nothing.
+use mathlib.Core.Path.{_≡_, refl, ap, _∙_}
+use mathlib.Core.Logic.{_≢_}
+use Prim.Native.Nat.{ℕ, zero, suc, _-_, _+_, _*_, _≤_, _<_}
+use native.Mathlib.Omega.{arith}
+use mathlib.Core.List.{List, [], _∷_}
+use lib.ListN.{length, replicate}
+use mathlib.Core.Bool.{Bool, true, _&&_}
+use borrow.Author.Tests.{le-leb, eq-eqb}
+use Rattle.theory.specs.Answer as theory
+use Rattle.records_rules.specs.Machine.{Stream, record-at, damage-at, Status, Answer, says, end, Turn, turn, next, answer, rest, start}
+use Rattle.records_rules.specs.Bytes.{streamsOf}
+use Rattle.records_rules.specs.Kept.{total}
+use Rattle.records_rules.specs.View.{tab, statusesOf}
+use Rattle.records_rules.specs.State.{answerOf, rightMemory, rightStreams, padded, opening, StateOk, Opened}
+use Rattle.replay_text.specs.Lines.{recordLine, damageLine, endLine, Lays}
+use Rattle.replay_text.specs.Replay.{lineOf}
+use Rattle.replay_text.specs.ReplayLaws.{linesLeft, left-says, Writing, writing-start, writing-says, writing-end}
+
+-- 1 where an answer is the last
+unfoldable pub lastOf : Answer → ℕ
+lastOf (says p y) = 0
+lastOf end = 1
+
+-- the line of the answer x is laid, and `last` says whether it is the last
+pub record Line (text : List ℕ) (at : ℕ) (x : Answer) (r last : ℕ) (text′ : List ℕ) : Type 0 where
+  pub lays : Lays text at (lineOf x) r text′
+  pub short : r ≤ at + 63
+  pub ends : last ≡ lastOf x
+
+-- ---- an answer of the code that is the machine's
+
+module _ (text : List ℕ) (at r : ℕ) (text′ : List ℕ) (short : r ≤ at + 63) where
+  pub line-record : (x : Answer) (stream place size kind instrument time : ℕ)
+      → theory.answer 0 (stream ∷ place ∷ size ∷ kind ∷ instrument ∷ time ∷ []) ≡ answerOf x
+      → Lays text at (recordLine stream time instrument) r text′ → Line text at x r 0 text′
+  unfolding lineOf lastOf
+  line-record (says p (record-at a c)) stream place size kind instrument time e l =
+      let e₁ : stream ≡ p = cc in
+      let e₂ : time ≡ c .time = cc in
+      let e₃ : instrument ≡ c .instrument = cc in
+      record { lays = rw (e₁, e₂, e₃) at l; short = short; ends = refl }
+  line-record (says p (damage-at a k)) stream place size kind instrument time e l = let z : _≡_ {A = ℕ} 0 13 = cc in absurd (omega arith)
+  line-record end stream place size kind instrument time e l = let z : _≡_ {A = ℕ} 0 1 = cc in absurd (omega arith)
+
+  pub line-end : (x : Answer) → theory.answer 0 [] ≡ answerOf x → Lays text at endLine r text′ → Line text at x r 1 text′
+  unfolding lineOf lastOf
+  line-end (says p (record-at a c)) e l = let z : _≡_ {A = ℕ} 0 1 = cc in absurd (omega arith)
+  line-end (says p (damage-at a k)) e l = let z : _≡_ {A = ℕ} 0 13 = cc in absurd (omega arith)
+  line-end end e l = record { lays = l; short = short; ends = refl }
+
+  pub line-damage : (x : Answer) (stream place reason : ℕ) → theory.answer 13 (stream ∷ place ∷ reason ∷ []) ≡ answerOf x
+      → Lays text at (damageLine stream place) r text′ → Line text at x r 0 text′
+  unfolding lineOf lastOf
+  line-damage (says p (record-at a c)) stream place reason e l = let z : _≡_ {A = ℕ} 0 13 = cc in absurd (omega arith)
+  line-damage (says p (damage-at a k)) stream place reason e l =
+      let e₁ : stream ≡ p = cc in
+      let e₂ : place ≡ a = cc in
+      record { lays = rw (e₁, e₂) at l; short = short; ends = refl }
+  line-damage end stream place reason e l = let z : _≡_ {A = ℕ} 0 13 = cc in absurd (omega arith)
+
+-- ---- a call
+
+-- the arrays have their 256 places
+pub record Places (held : ℕ) (ms ts cs hs hp : List ℕ) : Type 0 where
+  pub few : held ≤ 256
+  pub marks : length ms ≡ 256
+  pub times : length ts ≡ 256
+  pub places : length cs ≡ 256
+  pub heads : length hs ≡ 256
+  pub heap : length hp ≡ 256
+
+pub places-right : {held : ℕ} {ms ts cs hs hp : List ℕ} → Places held ms ts cs hs hp → rightMemory held (length ms) (length ts) (length cs) (length hs) (length hp) ≡ true
+unfolding rightMemory
+places-right {held} {ms} {ts} {cs} {hs} {hp} p =
+    rw (
+      le-leb held 256 (p .few),
+      eq-eqb (length ms) 256 (p .marks),
+      eq-eqb (length ts) 256 (p .times),
+      eq-eqb (length cs) 256 (p .places),
+      eq-eqb (length hs) 256 (p .heads),
+      eq-eqb (length hp) 256 (p .heap),
+    )
+
+-- a call's line is laid, and what it leaves is the machine's
+pub record Told (b : ℕ → Stream) (n : ℕ) (ms ts cs hs text : List ℕ) (at r last held : ℕ) (ms' ts' cs' hs' hp' text' : List ℕ) : Type 0 where
+  pub line : Line text at (answer (next b (statusesOf n ms ts cs hs))) r last text'
+  pub leaves : statusesOf n ms' ts' cs' hs' ≡ rest (next b (statusesOf n ms ts cs hs))
+  pub sound : StateOk n held ms' ts' cs' hs' hp'
+
+-- the state is sound, and the lines to come have room
+pub record Ready (b : ℕ → Stream) (n held : ℕ) (ms ts cs hs hp text : List ℕ) : Type 0 where
+  pub places : Places held ms ts cs hs hp
+  pub few : n ≤ 256
+  pub sound : StateOk n held ms ts cs hs hp
+  pub room : 63 * total b (statusesOf n ms ts cs hs) + 63 ≤ length text
+
+-- ---- call after call
+
+module _ {b : ℕ → Stream} {whole text₀ : List ℕ} {ss : List Status} {text : List ℕ} {at : ℕ} (w : Writing b whole text₀ ss text at)
+    {r last : ℕ} {text' : List ℕ} (l : Line text at (answer (next b ss)) r last text') where
+  -- not the last: less is to come
+  pub writing-more : last ≢ 1 → length text' ≡ length text → Writing b whole text₀ (rest (next b ss)) text' r × (total b (rest (next b ss)) < total b ss)
+  unfolding answer rest lastOf
+  writing-more d k = go (next b ss) refl l
+    where
+      go : (t : Turn) → next b ss ≡ t → Line text at (answer t) r last text' → Writing b whole text₀ (rest t) text' r × (total b (rest t) < total b ss)
+      go (turn (says p y) ss') e m = (writing-says w e (m .lays) (m .short) k, omega (arith, left-says b ss ss' p y e .1))
+      go (turn end ss') e m = absurd (d (m .ends))
+
+  -- the last: the whole is written
+  pub writing-last : last ≡ 1 → Lays text₀ 0 whole r text'
+  unfolding answer rest lastOf lineOf
+  writing-last d = go (next b ss) refl l
+    where
+      go : (t : Turn) → next b ss ≡ t → Line text at (answer t) r last text' → Lays text₀ 0 whole r text'
+      go (turn (says p y) ss') e m = absurd (omega (arith, m .ends))
+      go (turn end ss') e m = writing-end w e (m .lays)
+
+-- the loop: the state is sound, and so much is written
+pub record Stepping (b : ℕ → Stream) (n : ℕ) (whole text₀ : List ℕ) (size : ℕ) (ms ts cs hs hp text : List ℕ) (at : ℕ) : Type 0 where
+  pub places : Places size ms ts cs hs hp
+  pub sound : StateOk n size ms ts cs hs hp
+  pub writing : Writing b whole text₀ (statusesOf n ms ts cs hs) text at
+
+pub stepping-start : {b : ℕ → Stream} {n held : ℕ} {ms ts cs hs hp text : List ℕ} → Ready b n held ms ts cs hs hp text
+    → Stepping b n (linesLeft b (statusesOf n ms ts cs hs)) text held ms ts cs hs hp text 0
+stepping-start {b} {n} {held} {ms} {ts} {cs} {hs} {hp} {text} r =
+    record { places = r .places; sound = r .sound; writing = writing-start b text (statusesOf n ms ts cs hs) (r .room) }
+
+module _ {b : ℕ → Stream} {n : ℕ} {whole text₀ : List ℕ} {size : ℕ} {ms ts cs hs hp text : List ℕ} {at : ℕ}
+    (s : Stepping b n whole text₀ size ms ts cs hs hp text at) {r last held : ℕ} {ms' ts' cs' hs' hp' text' : List ℕ}
+    (t : Told b n ms ts cs hs text at r last held ms' ts' cs' hs' hp' text') where
+  pub stepping-more : last ≢ 1 → length text' ≡ length text → Places held ms' ts' cs' hs' hp'
+      → Stepping b n whole text₀ held ms' ts' cs' hs' hp' text' r × (total b (statusesOf n ms' ts' cs' hs') < total b (statusesOf n ms ts cs hs))
+  stepping-more d k p =
+      let w = writing-more (s .writing) (t .line) d k in (
+        record { places = p; sound = t .sound; writing = rw (t .leaves) (w .0) },
+        rw (t .leaves) (w .1),
+      )
+
+  pub stepping-last : last ≡ 1 → Lays text₀ 0 whole r text'
+  stepping-last d = writing-last (s .writing) (t .line) d
+
+-- ---- an opening
+
+-- right cuts, and room for the text of the streams between them
+pub record Cut (buffer cuts text : List ℕ) : Type 0 where
+  pub right : rightStreams (length buffer) cuts 0 ≡ true
+  pub few : length cuts ≤ 257
+  pub room : 63 * total (streamsOf buffer cuts) (start (replicate (length cuts - 1) 0)) + 63 ≤ length text
+
+-- with arrays of 256 places
+pub record Mergeable (buffer cuts ms ts cs hs hp text : List ℕ) : Type 0 where
+  pub right : rightStreams (length buffer) cuts 0 ≡ true
+  pub few : length cuts ≤ 257
+  pub places : Places 0 ms ts cs hs hp
+  pub room : 63 * total (streamsOf buffer cuts) (start (replicate (length cuts - 1) 0)) + 63 ≤ length text
+
+no-hints : (n : ℕ) → padded n [] ≡ replicate n 0
+unfolding padded tab
+no-hints zero = refl
+no-hints (suc n) = ap (λ (r : List ℕ). 0 ∷ r) (no-hints n)
+
+module _ {buffer cuts ms₀ ts₀ cs₀ hs₀ hp₀ text : List ℕ} (m : Mergeable buffer cuts ms₀ ts₀ cs₀ hs₀ hp₀ text) where
+  abbrev memory : Bool
+  memory = rightMemory 0 (length ms₀) (length ts₀) (length cs₀) (length hs₀) (length hp₀)
+
+  abbrev streams : Bool
+  streams = rightStreams (length buffer) cuts 0
+
+  -- the opening is done
+  pub opening-right : (memory && streams) ≡ true
+  opening-right = rw (places-right (m .places), m .right)
+
+  done : opening memory streams (length cuts - 1) ≡ theory.answer 0 ((length cuts - 1) ∷ (length cuts - 1) ∷ [])
+  unfolding opening
+  done = rw (places-right (m .places), m .right)
+
+  pub opening-held : {n held : ℕ} → theory.answer 0 (n ∷ held ∷ []) ≡ opening memory streams (length cuts - 1) → held ≡ length cuts - 1
+  opening-held e = let d = done in cc
+
+  pub opening-done : {k : ℕ} {vs : List ℕ} → theory.answer k vs ≡ opening memory streams (length cuts - 1) → k ≡ 0
+  opening-done e = let d = done in cc
+
+  -- and what it leaves is ready to be stepped through, from the machine's start
+  module _ {ms ts cs hs hp : List ℕ} (o : Opened (length cuts - 1) [] ms ts cs hs hp) where
+    pub opened-starts : statusesOf (length cuts - 1) ms ts cs hs ≡ start (replicate (length cuts - 1) 0)
+    opened-starts = o .starts ∙ ap start (no-hints (length cuts - 1))
+
+    pub opened-ready : {held : ℕ} → held ≡ length cuts - 1
+        → length ms ≡ length ms₀ → length ts ≡ length ts₀ → length cs ≡ length cs₀ → length hs ≡ length hs₀ → length hp ≡ length hp₀
+        → Ready (streamsOf buffer cuts) (length cuts - 1) held ms ts cs hs hp text
+    opened-ready {held} e em et ec eh ep =
+        let p = m .places in
+        rw e (record {
+          places = record { few = omega (arith, m .few); marks = em ∙ p .marks; times = et ∙ p .times; places = ec ∙ p .places; heads = eh ∙ p .heads; heap = ep ∙ p .heap };
+          few = omega (arith, m .few);
+          sound = o .sound;
+          room = rw opened-starts (m .room);
+        })

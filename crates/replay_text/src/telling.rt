@@ -1,0 +1,194 @@
+// The merge of a buffer's streams told in lines (document 01, "Merging records"): it is opened with no hints and called to its end,
+// and each answer's line is laid behind the one before.
+use crate::lines::damage_line;
+use crate::lines::record_line;
+use crate::lines::word;
+use leaves::refusal::Refusal;
+use records::merge::Opening;
+use records::merge::Turn;
+use records::merge::empty_bytes;
+use records::merge::empty_numbers;
+use records::merge::next;
+use records::merge::open;
+ghost use mathlib.Core.Path.{_≡_};
+ghost use Prim.Native.Nat.{ℕ, _+_, _-_, _≤_};
+ghost use lib.ListN.{length, replicate};
+ghost use Rattle.records_rules.specs.Machine as machine;
+ghost use Rattle.records_rules.specs.Bytes.{streamsOf};
+ghost use Rattle.records_rules.specs.View.{statusesOf};
+ghost use Rattle.records_rules.specs.State.{answerOf, StateOk};
+ghost use Rattle.records.specs.Merge.{turnOf};
+ghost use Rattle.replay_text.specs.Lines.{Lays};
+ghost use Rattle.replay_text.specs.ReplayLaws.{linesLeft};
+ghost use Rattle.replay_text.specs.Telling.{Line, Places, Told, Ready, Cut, Mergeable};
+
+// A line that was written: the place behind it, and 1 where it is the last.
+struct Wrote {
+    at: usize,
+    last: u64,
+}
+
+// What a call of the merge answered is written: the place behind its line, 1 where it is the last, and the streams that the heap holds.
+struct Stepped {
+    at: usize,
+    last: u64,
+    held: usize,
+}
+
+// Writes the line of an answer.
+fn line(answer: Turn, text: &mut [u8], at: usize) -> Wrote
+    requires { ⌜ at + 63 ≤ length (now text) ⌝ }
+    ensures { λ r. ⌜ ((x : machine.Answer) → turnOf answer ≡ answerOf x → Line (now (text .entry)) at x (r .at) (r .last) (now (text .exit))) ⌝ }
+{
+    match answer {
+        Turn::Record {
+            stream,
+            place: _,
+            length: _,
+            kind: _,
+            instrument,
+            time,
+        } => Wrote {
+            at: record_line(text, at, stream, time, instrument),
+            last: 0,
+        },
+        Turn::End => Wrote {
+            at: word(text, at, b"end\n"),
+            last: 1,
+        },
+        Turn::Refused(refusal) => match refusal {
+            Refusal::Damaged {
+                stream,
+                place,
+                reason: _,
+            } => Wrote {
+                at: damage_line(text, at, stream, place),
+                last: 0,
+            },
+            _ => Wrote { at, last: 1 },
+        },
+    }
+}
+
+// Calls the merge once, and writes the line of its answer.
+fn step(
+    buffer: &[u8],
+    cuts: &[u64],
+    held: usize,
+    marks: &mut [u8],
+    times: &mut [u64],
+    places: &mut [u64],
+    heads: &mut [u64],
+    heap: &mut [u8],
+    text: &mut [u8],
+    at: usize,
+) -> Stepped
+    requires { ⌜ Places held (now marks) (now times) (now places) (now heads) (now heap) × (at + 63 ≤ length (now text)) ⌝ }
+    ensures { λ r. ⌜ (r .held ≤ held) × ((n : ℕ) → n ≤ 256 → StateOk n held (now (marks .entry)) (now (times .entry)) (now (places .entry)) (now (heads .entry)) (now (heap .entry))
+        → Told (streamsOf (now (buffer .entry)) (now (cuts .entry))) n (now (marks .entry)) (now (times .entry)) (now (places .entry)) (now (heads .entry))
+        (now (text .entry)) at (r .at) (r .last) (r .held) (now (marks .exit)) (now (times .exit)) (now (places .exit)) (now (heads .exit)) (now (heap .exit)) (now (text .exit))) ⌝ }
+{
+    let turned = next(buffer, cuts, held, marks, times, places, heads, heap);
+    let answer = turned.answer;
+    let wrote = line(answer, text, at);
+    Stepped {
+        at: wrote.at,
+        last: wrote.last,
+        held: turned.held,
+    }
+}
+
+// Calls the merge to its end, and writes a line for each of its answers.
+fn steps(
+    buffer: &[u8],
+    cuts: &[u64],
+    held: usize,
+    marks: &mut [u8],
+    times: &mut [u64],
+    places: &mut [u64],
+    heads: &mut [u64],
+    heap: &mut [u8],
+    text: &mut [u8],
+) -> usize
+    requires { ⌜ Ready (streamsOf (now buffer) (now cuts)) (length (now cuts) - 1) held (now marks) (now times) (now places) (now heads) (now heap) (now text) ⌝ }
+    ensures { λ r. ⌜ Lays (now (text .entry)) 0 (linesLeft (streamsOf (now (buffer .entry)) (now (cuts .entry)))
+        (statusesOf (length (now (cuts .entry)) - 1) (now (marks .entry)) (now (times .entry)) (now (places .entry)) (now (heads .entry)))) r (now (text .exit)) ⌝ }
+{
+    let mut at = 0;
+    let mut size = held;
+    loop {
+        let written = step(
+            buffer,
+            cuts,
+            size,
+            marks,
+            times,
+            places,
+            heads,
+            heap,
+            text,
+            at,
+        );
+        at = written.at;
+        size = written.held;
+        if written.last == 1 {
+            return at;
+        }
+    }
+}
+
+// Opens the streams, with no hints, and writes their replay.
+fn merged(
+    buffer: &[u8],
+    cuts: &[u64],
+    marks: &mut [u8],
+    times: &mut [u64],
+    places: &mut [u64],
+    heads: &mut [u64],
+    heap: &mut [u8],
+    text: &mut [u8],
+) -> usize
+    requires { ⌜ Mergeable (now buffer) (now cuts) (now marks) (now times) (now places) (now heads) (now heap) (now text) ⌝ }
+    ensures { λ r. ⌜ Lays (now (text .entry)) 0 (linesLeft (streamsOf (now (buffer .entry)) (now (cuts .entry))) (machine.start (replicate (length (now (cuts .entry)) - 1) 0))) r (now (text .exit)) ⌝ }
+{
+    let no_hint = [0u64; 1];
+    let none = 0;
+    let opening = open(
+        buffer,
+        cuts,
+        &no_hint[..none],
+        marks,
+        times,
+        places,
+        heads,
+        heap,
+    );
+    match opening {
+        Opening::Opened { streams: _, held } => {
+            steps(buffer, cuts, held, marks, times, places, heads, heap, text)
+        }
+        Opening::Refused(_) => 0,
+    }
+}
+
+// Writes the replay of the streams of a buffer between its cuts.
+pub fn told(buffer: &[u8], cuts: &[u64], text: &mut [u8]) -> usize
+    requires { ⌜ Cut (now buffer) (now cuts) (now text) ⌝ }
+    ensures { λ r. ⌜ Lays (now (text .entry)) 0 (linesLeft (streamsOf (now (buffer .entry)) (now (cuts .entry))) (machine.start (replicate (length (now (cuts .entry)) - 1) 0))) r (now (text .exit)) ⌝ }
+{
+    let mut marks = empty_bytes();
+    let mut times = empty_numbers();
+    let mut places = empty_numbers();
+    let mut heads = empty_numbers();
+    let mut heap = empty_bytes();
+    merged(
+        buffer,
+        cuts,
+        &mut marks,
+        &mut times,
+        &mut places,
+        &mut heads,
+        &mut heap,
+        text,
+    )
+}
