@@ -6,13 +6,13 @@ use mathlib.Core.List.{List, []}
 use lib.Dec.{leb}
 use borrow.Author.Tests.{lt-ltb, le-ltb, eq-eqb, ne-eqb}
 use Rattle.leaves.specs.Refusal.{numberOf}
-use Rattle.leaves.specs.Days.{dayOf, dayAnswerOf}
-use Rattle.leaves.specs.DaysLaws.{day-limit}
+use Rattle.leaves_days.specs.Days.{dayOf, dayAnswerOf}
+use Rattle.leaves_days.specs.DaysLaws.{day-limit}
 use Rattle.leaves.specs.declared.refusal.Refusal.{Refusal}
-use Rattle.leaves.specs.declared.days.Day.{Day}
-use Rattle.leaves.specs.declared.days.Day.the-variants as day-is
+use Rattle.leaves_days.specs.declared.days.Day.{Day}
+use Rattle.leaves_days.specs.declared.days.Day.the-variants as day-is
 use Rattle.metadata_rules.specs.Metadata.{Fields, Metadata}
-use Rattle.map_time.specs.declared.entries.Entry.{Entry}
+use Rattle.map_point.specs.declared.entries.Entry.{Entry}
 use Rattle.metadata_form.specs.declared.header.Header.{Header}
 use Rattle.metadata_form.specs.Header.{headerFields}
 use Rattle.build_rules.specs.declared.reading.Direction.{Direction}

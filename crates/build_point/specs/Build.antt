@@ -5,10 +5,10 @@ use mathlib.Core.List.{List, [], _∷_}
 use lib.ListN.{length, replicate}
 use Rattle.theory.specs.Answer.{Answer, answer}
 use Rattle.leaves.specs.Refusal.{refused}
-use Rattle.leaves.specs.Names.{namesOf, wellFormed, memoryOk}
-use Rattle.map_time.specs.declared.entries.Entry.{Entry}
-use Rattle.map_time.specs.Entries.{putEntries}
-use Rattle.map_time.specs.Points.{pointsFit}
+use Rattle.leaves_names.specs.Names.{namesOf, wellFormed, memoryOk}
+use Rattle.map_point.specs.declared.entries.Entry.{Entry}
+use Rattle.map_point.specs.Entries.{putEntries}
+use Rattle.map_point.specs.Points.{pointsFit}
 use Rattle.metadata_form.specs.declared.header.Header.{Header}
 use Rattle.metadata_form.specs.declared.header.Lengths.{Lengths}
 use Rattle.metadata_form.specs.Header.{Lists, lengthsOf, metadataOf, sizedOf}

@@ -8,16 +8,16 @@ use lib.ListN.{length, replicate, length-replicate}
 use lib.Dec.{T}
 use Rattle.theory.specs.Answer.{answer}
 use Rattle.leaves.specs.Refusal.{numberOf, refused}
-use Rattle.leaves.specs.Names.{namesOf, wellFormed, memoryOk}
-use Rattle.leaves.specs.NamesLaws.{fails, holds, Memory, memory, Ordered, formed, ordered}
+use Rattle.leaves_names.specs.Names.{namesOf, wellFormed, memoryOk}
+use Rattle.leaves_names.specs.NamesLaws.{fails, holds, Memory, memory, Ordered, formed, ordered}
 use Rattle.leaves.specs.declared.refusal.Refusal.{Refusal}
 use Rattle.leaves.specs.declared.refusal.Refusal.the-variants.{Reversed, NoRoom, UnknownSymbol, BadName, NoNameRoom, Differ, Conflict, NotNumber, NoInstrumentId, OutsideQuery, NoDate, BadStreams, Damaged, IllFormed, BadMemory}
-use Rattle.map_time.specs.declared.entries.Entry.{Entry}
-use Rattle.map_time.specs.declared.points.Stored.{Stored}
-use Rattle.map_time.specs.declared.points.Stored.the-variants as stored
-use Rattle.map_time.specs.Entries.{entriesFrom, entries, putEntries}
-use Rattle.map_time.specs.EntriesLaws.{length-entries}
-use Rattle.map_time.specs.Points.{rising, pointsFit}
+use Rattle.map_point.specs.declared.entries.Entry.{Entry}
+use Rattle.map_point.specs.declared.points.Stored.{Stored}
+use Rattle.map_point.specs.declared.points.Stored.the-variants as stored
+use Rattle.map_point.specs.Entries.{entriesFrom, entries, putEntries}
+use Rattle.map_point.specs.EntriesLaws.{length-entries}
+use Rattle.map_point.specs.Points.{rising, pointsFit}
 use Rattle.metadata_rules.specs.Words.{mappingsFrom, before}
 use Rattle.metadata_form.specs.declared.header.Header.{Header}
 use Rattle.metadata_form.specs.declared.header.Lengths.{Lengths}

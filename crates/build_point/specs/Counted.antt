@@ -8,10 +8,10 @@ use native.Mathlib.Decide.{decLe, decLt}
 use lib.Dec.{leb, ltb}
 use borrow.Author.Tests.{le-leb, lt-leb, lt-ltb, le-ltb}
 use Rattle.leaves.specs.Refusal.{numberOf}
-use Rattle.leaves.specs.Days.{dayOf, dayAnswerOf}
+use Rattle.leaves_days.specs.Days.{dayOf, dayAnswerOf}
 use Rattle.leaves.specs.declared.refusal.Refusal.{Refusal}
-use Rattle.leaves.specs.declared.days.Day.{Day}
-use Rattle.leaves.specs.declared.days.Day.the-variants as day-is
+use Rattle.leaves_days.specs.declared.days.Day.{Day}
+use Rattle.leaves_days.specs.declared.days.Day.the-variants as day-is
 use Rattle.metadata_rules.specs.declared.Interval.{Interval}
 use Rattle.metadata_rules.specs.Words.{intervalAt, stretch}
 use Rattle.build_rules.specs.Reading.{Read, fault, value, dayIn}

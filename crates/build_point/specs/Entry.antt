@@ -4,10 +4,10 @@ use Prim.Native.Nat.{ℕ, _≤_, _<_}
 use mathlib.Core.List.{List, []}
 use lib.ListN.{getD}
 use Rattle.leaves.specs.Refusal.{numberOf}
-use Rattle.leaves.specs.Names.{namesOf}
-use Rattle.leaves.specs.NamesList.{names-length}
+use Rattle.leaves_names.specs.Names.{namesOf}
+use Rattle.leaves_names.specs.NamesList.{names-length}
 use Rattle.leaves.specs.declared.refusal.Refusal.{Refusal}
-use Rattle.map_time.specs.declared.entries.Entry.{Entry}
+use Rattle.map_point.specs.declared.entries.Entry.{Entry}
 use Rattle.metadata_rules.specs.declared.Interval.{Interval}
 use Rattle.build_rules.specs.declared.reading.Direction.{Direction}
 use Rattle.build_rules.specs.declared.reading.Direction.the-variants.{Forward, Inverse}

@@ -5,14 +5,14 @@ use mathlib.Core.Bool.{false}
 use mathlib.Core.List.{List, [], _∷_}
 use Rattle.theory.specs.Answer.{answer}
 use Rattle.theory.specs.Fields.{putField}
-use Rattle.leaves.specs.Names.{wellFormed, memoryOk, namesOf, nameOf, standFrom, startOf, isName, namesFrom}
-use Rattle.leaves.specs.Utf8.{isUtf8, within}
+use Rattle.leaves_names.specs.Names.{wellFormed, memoryOk, namesOf, nameOf, standFrom, startOf, isName, namesFrom}
+use Rattle.leaves_names.specs.Utf8.{isUtf8, within}
 use Rattle.leaves.specs.NumberText.{numberText, someDigits, digits, isDigit}
-use Rattle.leaves.specs.Days.{dayOf}
-use Rattle.leaves.specs.Calendar.{isDate, dayNumber, isLeap, monthDays, daysOfYears, daysBefore}
+use Rattle.leaves_days.specs.Days.{dayOf}
+use Rattle.leaves_days.specs.Calendar.{isDate, dayNumber, isLeap, monthDays, daysOfYears, daysBefore}
 use Rattle.map_rules.specs.Table.{badRoom}
-use Rattle.map_time.specs.Entries.{putEntry, putEntries}
-use Rattle.map_time.specs.Points.{pointsFit}
+use Rattle.map_point.specs.Entries.{putEntry, putEntries}
+use Rattle.map_point.specs.Points.{pointsFit}
 use Rattle.metadata_rules.specs.Words.{mappingsFrom, before}
 use Rattle.metadata_form.specs.declared.header.Header.{Header}
 use Rattle.metadata_form.specs.Header.{Lists, lists, metadataOf, sizedOf}

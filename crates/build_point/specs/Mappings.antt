@@ -12,14 +12,14 @@ use Rattle.leaves.specs.Refusal.{numberOf, refused}
 use Rattle.leaves.specs.declared.refusal.Refusal.{Refusal}
 use Rattle.leaves.specs.declared.refusal.Refusal.the-variants.{NoRoom}
 use Rattle.map_rules.specs.Table.{Outcome, refusedBy, stored}
-use Rattle.map_time.specs.declared.entries.Entry.{Entry}
-use Rattle.map_time.specs.declared.points.Stored.{Stored}
-use Rattle.map_time.specs.declared.points.Stored.the-variants.{Done, Refused}
-use Rattle.map_time.specs.Entries.{entriesFrom, entries, putEntries}
-use Rattle.map_time.specs.EntriesLaws.{length-putEntries}
-use Rattle.map_time.specs.Points.{rising, setEntry, hasRoom, storedAnswer, storedBytes, usedThen, entriesThen, storedOf}
-use Rattle.map_time.specs.PointsLaws.{set-rising}
-use Rattle.map_time.specs.PointsSteps.{Stores}
+use Rattle.map_point.specs.declared.entries.Entry.{Entry}
+use Rattle.map_point.specs.declared.points.Stored.{Stored}
+use Rattle.map_point.specs.declared.points.Stored.the-variants.{Done, Refused}
+use Rattle.map_point.specs.Entries.{entriesFrom, entries, putEntries}
+use Rattle.map_point.specs.EntriesLaws.{length-putEntries}
+use Rattle.map_point.specs.Points.{rising, setEntry, hasRoom, storedAnswer, storedBytes, usedThen, entriesThen, storedOf}
+use Rattle.map_point.specs.PointsLaws.{set-rising}
+use Rattle.map_point.specs.PointsSteps.{Stores}
 use Rattle.metadata_rules.specs.Metadata.{Mapping, mapping}
 use Rattle.metadata_rules.specs.Words.{nameAt, countAt, stretch, mappingsFrom, before}
 use Rattle.metadata_lists.specs.Link.{before-up}

@@ -3,8 +3,8 @@
 use build_rules::reading::Direction;
 use build_rules::reading::Heading;
 use build_rules::reading::direction_by;
-use leaves::days::Day;
-use leaves::days::day_of;
+use leaves_days::days::Day;
+use leaves_days::days::day_of;
 use leaves::refusal::Refusal;
 use metadata_form::header::Header;
 ghost use mathlib.Core.Path.{_≡_};

@@ -1,9 +1,9 @@
 // Which interval of a mapping counts for a day (01, "Point-in-time build"): the first with start <= day < end. Both dates of each
 // interval up to it are read.
-use leaves::days::Day;
-use leaves::days::day_of;
+use leaves_days::days::Day;
+use leaves_days::days::day_of;
 use metadata_rules::Interval;
-use walk::words::interval_at;
+use metadata_form::words::interval_at;
 ghost use mathlib.Core.Path.{_≡_};
 ghost use Prim.Native.Nat.{_+_, _*_, _≤_, _<_};
 ghost use lib.ListN.{length};

@@ -6,10 +6,10 @@ use mathlib.Core.Bool.{false}
 use mathlib.Core.List.{List, [], _∷_}
 use Rattle.theory.specs.Runs.{All}
 use Rattle.leaves.specs.NumberText.{numberText, someDigits, digits, isDigit}
-use Rattle.leaves.specs.Days.{dayOf}
-use Rattle.leaves.specs.Calendar.{isDate, dayNumber, isLeap, monthDays, daysOfYears, daysBefore}
+use Rattle.leaves_days.specs.Days.{dayOf}
+use Rattle.leaves_days.specs.Calendar.{isDate, dayNumber, isLeap, monthDays, daysOfYears, daysBefore}
 use Rattle.map_rules.specs.Table.{Row, entered}
-use Rattle.map_time.specs.declared.entries.Entry.{Entry}
+use Rattle.map_point.specs.declared.entries.Entry.{Entry}
 use Rattle.metadata_rules.specs.declared.Interval.{Interval}
 use Rattle.metadata_rules.specs.Metadata.{Mapping, mapping, Metadata}
 use Rattle.build_rules.specs.Reading.{dayLength}

@@ -12,8 +12,8 @@ use lib.Dec.{ltb, eqb, leb}
 use Rattle.theory.specs.Answer.{Answer, answer}
 use Rattle.theory.specs.RunsTools.{cond-case, ltb-case, cond-lt, cond-ge}
 use Rattle.leaves.specs.NumberText.{numberText, someDigits, digits, isDigit, stuck}
-use Rattle.leaves.specs.Days.{dayOf, inRange}
-use Rattle.leaves.specs.Calendar.{isDate, dayNumber}
+use Rattle.leaves_days.specs.Days.{dayOf, inRange}
+use Rattle.leaves_days.specs.Calendar.{isDate, dayNumber}
 use Rattle.map_rules.specs.Table.{Row, refusedBy, stored}
 use Rattle.map_rules.specs.Memory.{rowsBytes, rowBytes, written}
 use Rattle.map_rules.specs.MemoryLaws.{length-row}

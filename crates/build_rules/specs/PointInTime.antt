@@ -5,8 +5,8 @@ use mathlib.Core.Bool.{Bool, not, _&&_, _||_, cond}
 use mathlib.Core.List.{List, [], _∷_}
 use lib.Dec.{leb, ltb, eqb}
 use lib.ListN.{length}
-use Rattle.map_time.specs.declared.entries.Entry.{Entry}
-use Rattle.map_time.specs.Points.{setEntry}
+use Rattle.map_point.specs.declared.entries.Entry.{Entry}
+use Rattle.map_point.specs.Points.{setEntry}
 use Rattle.map_rules.specs.Table.{Outcome, refusedBy, stored, ifRoom}
 use Rattle.metadata_rules.specs.declared.Interval.{Interval}
 use Rattle.metadata_rules.specs.Metadata.{Fields, Mapping, Metadata}

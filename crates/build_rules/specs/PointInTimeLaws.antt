@@ -14,16 +14,16 @@ use Rattle.theory.specs.Answer.{Answer, answer}
 use Rattle.theory.specs.Fields.{putField, length-put, put-byte}
 use Rattle.theory.specs.RunsTools.{cond-case, ltb-case}
 use Rattle.leaves.specs.NumberText.{numberText, someDigits, digits, isDigit}
-use Rattle.leaves.specs.Calendar.{isDate, dayNumber}
-use Rattle.leaves.specs.Days.{dayOf, inRange}
+use Rattle.leaves_days.specs.Calendar.{isDate, dayNumber}
+use Rattle.leaves_days.specs.Days.{dayOf, inRange}
 use Rattle.leaves.specs.Refusal.{refused}
 use Rattle.leaves.specs.declared.refusal.Refusal.the-variants.{NoDate}
 use Rattle.map_rules.specs.Table.{Outcome, refusedBy, stored, ifRoom}
-use Rattle.map_time.specs.declared.entries.Entry.{Entry}
-use Rattle.map_time.specs.Entries.{putEntry, putEntries}
-use Rattle.map_time.specs.EntriesLaws.{length-putEntry, length-putEntries}
-use Rattle.map_time.specs.Points.{rising, allKnown, symbolFor, setEntry}
-use Rattle.map_time.specs.PointsLaws.{set-rising, set-known, after, latest}
+use Rattle.map_point.specs.declared.entries.Entry.{Entry}
+use Rattle.map_point.specs.Entries.{putEntry, putEntries}
+use Rattle.map_point.specs.EntriesLaws.{length-putEntry, length-putEntries}
+use Rattle.map_point.specs.Points.{rising, allKnown, symbolFor, setEntry}
+use Rattle.map_point.specs.PointsLaws.{set-rising, set-known, after, latest}
 use Rattle.metadata_rules.specs.declared.Interval.{Interval}
 use Rattle.metadata_rules.specs.Metadata.{Fields, Mapping, Metadata}
 use Rattle.build_rules.specs.Reading.{Read, fault, value, readOf, textOf, numberIn, dayIn, isEmpty, symbolUnder, symbolIn, directionBy, directionOf}

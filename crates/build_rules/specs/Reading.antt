@@ -7,11 +7,11 @@ use lib.Dec.{ltb, eqb}
 use lib.ListN.{length, getD}
 use Rattle.theory.specs.Answer.{Answer, answer}
 use Rattle.leaves.specs.NumberText.{numberText}
-use Rattle.leaves.specs.Days.{dayOf}
+use Rattle.leaves_days.specs.Days.{dayOf}
 use Rattle.metadata_rules.specs.Metadata.{Fields}
 use Rattle.leaves.specs.Refusal.{numberOf}
-use Rattle.leaves.specs.declared.days.Moment.{Moment}
-use Rattle.leaves.specs.declared.days.Moment.the-variants as moment
+use Rattle.leaves_days.specs.declared.days.Moment.{Moment}
+use Rattle.leaves_days.specs.declared.days.Moment.the-variants as moment
 use Rattle.build_rules.specs.declared.reading.Direction.{Direction}
 use Rattle.build_rules.specs.declared.reading.Direction.the-variants.{Forward, Inverse}
 use Rattle.build_rules.specs.declared.reading.Heading.{Heading}

@@ -12,19 +12,19 @@ use Rattle.theory.specs.Answer.{Answer, answer}
 use Rattle.leaves.specs.Refusal.{numberOf, refused}
 use Rattle.leaves.specs.declared.refusal.Refusal.{Refusal}
 use Rattle.leaves.specs.declared.refusal.Refusal.the-variants.{Reversed, NoRoom, UnknownSymbol, BadName, NoNameRoom, Differ, Conflict, NotNumber, NoInstrumentId, OutsideQuery, NoDate, BadStreams, Damaged, IllFormed, BadMemory}
-use Rattle.leaves.specs.declared.days.Moment.{Moment}
-use Rattle.leaves.specs.declared.days.Moment.the-variants as moment
+use Rattle.leaves_days.specs.declared.days.Moment.{Moment}
+use Rattle.leaves_days.specs.declared.days.Moment.the-variants as moment
 use Rattle.leaves.specs.NumberText.{numberText, readingOf}
 use Rattle.leaves.specs.declared.number_text.Reading.{Reading}
 use Rattle.leaves.specs.declared.number_text.Reading.the-variants.{Value, Stuck}
-use Rattle.leaves.specs.Days.{dayOf, startOf, dayAnswerOf, momentAnswerOf}
-use Rattle.leaves.specs.declared.days.Day.{Day}
-use Rattle.leaves.specs.declared.days.Day.the-variants as day
-use Rattle.leaves.specs.DaysLaws.{day-limit, start-good}
-use Rattle.leaves.specs.Names.{nameOf, namesOf, endOf}
-use Rattle.leaves.specs.Names.{startOf as nameStart}
-use Rattle.leaves.specs.NamesLaws.{Ordered}
-use Rattle.leaves.specs.NamesList.{names-length, names-at}
+use Rattle.leaves_days.specs.Days.{dayOf, startOf, dayAnswerOf, momentAnswerOf}
+use Rattle.leaves_days.specs.declared.days.Day.{Day}
+use Rattle.leaves_days.specs.declared.days.Day.the-variants as day
+use Rattle.leaves_days.specs.DaysLaws.{day-limit, start-good}
+use Rattle.leaves_names.specs.Names.{nameOf, namesOf, endOf}
+use Rattle.leaves_names.specs.Names.{startOf as nameStart}
+use Rattle.leaves_names.specs.NamesLaws.{Ordered}
+use Rattle.leaves_names.specs.NamesList.{names-length, names-at}
 use Rattle.build_rules.specs.Reading.{Read, fault, value, andThen, readOf, textOf, numberIn, dayIn, dayLength, momentIn, isEmpty, symbolUnder, symbolIn, momentRead}
 use Rattle.build_rules.specs.declared.reading.Symbol.the-variants.{Unknown, Empty, Filled}
 

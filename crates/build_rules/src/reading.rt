@@ -1,15 +1,15 @@
 // What both builds read of a metadata (01, The map over time): the direction, what stands under a name's number, an instrument's
 // number, a date; and the table emptied.
-use leaves::days::Day;
-use leaves::days::Moment;
+use leaves_days::days::Day;
+use leaves_days::days::Moment;
 use leaves::number_text::Reading;
 use leaves::refusal::Refusal;
 ghost use mathlib.Core.Path.{_≡_};
 ghost use Prim.Native.Nat.{_≤_, _<_};
 ghost use mathlib.Core.List.{[]};
 ghost use lib.ListN.{length, replicate, getD};
-ghost use Rattle.leaves.specs.Names.{namesOf};
-ghost use Rattle.leaves.specs.NamesLaws.{Ordered};
+ghost use Rattle.leaves_names.specs.Names.{namesOf};
+ghost use Rattle.leaves_names.specs.NamesLaws.{Ordered};
 ghost use Rattle.build_rules.specs.Reading.{directionBy, numberIn, momentIn, symbolIn, headingRead, instrumentRead, momentRead};
 
 // Where the instrument's number stands: in the interval's symbol, or in the mapping's name.
@@ -61,8 +61,8 @@ pub fn look(bytes: &[u8], ends: &[u32], names: usize, number: u32) -> Symbol
     if names <= n {
         return Symbol::Unknown;
     }
-    let start = leaves::names::name_start(ends, n);
-    let end = leaves::names::name_end(ends, n);
+    let start = leaves_names::names::name_start(ends, n);
+    let end = leaves_names::names::name_end(ends, n);
     if start == end {
         return Symbol::Empty;
     }
@@ -76,8 +76,8 @@ pub fn number_named(bytes: &[u8], ends: &[u32], names: usize, number: u32) -> In
     ensures { λ r. ⌜ instrumentRead r ≡ numberIn (getD (namesOf (now (bytes .entry)) (now (ends .entry)) names) number []) ⌝ }
 {
     let n = number as usize;
-    let start = leaves::names::name_start(ends, n);
-    let end = leaves::names::name_end(ends, n);
+    let start = leaves_names::names::name_start(ends, n);
+    let end = leaves_names::names::name_end(ends, n);
     let read = leaves::number_text::number_within(bytes, start, end);
     match read {
         Reading::Value(value) => Instrument::Number(value),
@@ -89,9 +89,9 @@ pub fn number_named(bytes: &[u8], ends: &[u32], names: usize, number: u32) -> In
 pub fn moment_of(date: u32) -> Moment
     ensures { λ r. ⌜ momentRead r ≡ momentIn date ⌝ }
 {
-    let read = leaves::days::day_of(date);
+    let read = leaves_days::days::day_of(date);
     match read {
-        Day::Number(day) => leaves::days::day_start(day),
+        Day::Number(day) => leaves_days::days::day_start(day),
         Day::Refused(why) => Moment::Refused(why),
     }
 }

@@ -6,7 +6,7 @@ use mathlib.Core.List.{List, [], _∷_}
 use lib.ListN.{length, replicate}
 use Rattle.theory.specs.Answer.{Answer, answer}
 use Rattle.leaves.specs.Refusal.{numberOf, refused}
-use Rattle.leaves.specs.Names.{namesOf, memoryOk, wellFormed}
+use Rattle.leaves_names.specs.Names.{namesOf, memoryOk, wellFormed}
 use Rattle.map_time.specs.Interval.{rowOf}
 use Rattle.metadata_rules.specs.declared.Interval.{Interval}
 use Rattle.map_rules.specs.Table.{Row}

@@ -23,13 +23,13 @@ use Rattle.map_rules.specs.Outcomes.{Lent, table-lent}
 use Rattle.map_rules.specs.Tests.{formed-parts}
 use Rattle.map_rules.specs.Pieces.{symbols}
 use Rattle.map_rules.specs.History.{Accepted, entered-ok}
-use Rattle.leaves.specs.Names.{namesOf, memoryOk}
-use Rattle.leaves.specs.Names.{wellFormed as wellFormedNames}
-use Rattle.leaves.specs.NamesLaws.{holds, fails, memory}
-use Rattle.leaves.specs.NamesLaws.{Ordered as Ordered-names, ordered as ordered-names, formed as formed-names}
-use Rattle.leaves.specs.NamesList.{names-length}
-use Rattle.leaves.specs.declared.days.Moment.{Moment}
-use Rattle.leaves.specs.declared.days.Moment.the-variants as moment
+use Rattle.leaves_names.specs.Names.{namesOf, memoryOk}
+use Rattle.leaves_names.specs.Names.{wellFormed as wellFormedNames}
+use Rattle.leaves_names.specs.NamesLaws.{holds, fails, memory}
+use Rattle.leaves_names.specs.NamesLaws.{Ordered as Ordered-names, ordered as ordered-names, formed as formed-names}
+use Rattle.leaves_names.specs.NamesList.{names-length}
+use Rattle.leaves_days.specs.declared.days.Moment.{Moment}
+use Rattle.leaves_days.specs.declared.days.Moment.the-variants as moment
 use Rattle.leaves.specs.FrameLaws.{refused-not-done}
 use Rattle.metadata_rules.specs.declared.Interval.{Interval as Span}
 use Rattle.metadata_rules.specs.Metadata.{Mapping, mapping}

@@ -8,8 +8,8 @@ use Rattle.leaves.specs.Refusal.{refused}
 use Rattle.leaves.specs.declared.refusal.Refusal.{Refusal}
 use Rattle.leaves.specs.declared.refusal.Refusal.the-variants as refusal
 use Rattle.leaves.proofs.refusal.Refusal.{the-type}
-use Rattle.door_map.specs.Answers.{damageIn}
-use Rattle.door_map.specs.Merger.{fieldIn}
+use Rattle.door_answers.specs.Answers.{damageIn}
+use Rattle.door_metadata.specs.Merger.{fieldIn}
 
 -- the tags of every refusal but damage
 abbrev others : List ℕ

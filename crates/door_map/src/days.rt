@@ -1,12 +1,12 @@
 // Dates and days at the C door (01, Names, numbers, days).
-use crate::DONE;
-use leaves::days::Date;
-use leaves::days::Day;
-use leaves::days::Moment;
+use door_answers::DONE;
+use leaves_days::days::Date;
+use leaves_days::days::Day;
+use leaves_days::days::Moment;
 use leaves::refusal::number;
 ghost use mathlib.Core.Path.{_≡_};
-ghost use Rattle.leaves.specs.Days.{dayOf, dateOf, startOf};
-ghost use Rattle.door_map.specs.Answers.{numberIn, valueIn};
+ghost use Rattle.leaves_days.specs.Days.{dayOf, dateOf, startOf};
+ghost use Rattle.door_answers.specs.Answers.{numberIn, valueIn};
 
 // The day of a date, YYYYMMDD, since 1970-01-01: 0 or 11.
 #[no_mangle]
@@ -14,7 +14,7 @@ pub extern "C" fn desk_day_of(date: u32, day: &mut u32) -> u32
     ensures { λ r. ⌜ r ≡ numberIn (dayOf date) ⌝ }
     ensures { λ _. ⌜ now (day .exit) ≡ valueIn (now (day .entry)) 0 (dayOf date) ⌝ }
 {
-    let answer = leaves::days::day_of(date);
+    let answer = leaves_days::days::day_of(date);
     match answer {
         Day::Number(n) => {
             *day = n;
@@ -30,7 +30,7 @@ pub extern "C" fn desk_date_of(day: u32, date: &mut u32) -> u32
     ensures { λ r. ⌜ r ≡ numberIn (dateOf day) ⌝ }
     ensures { λ _. ⌜ now (date .exit) ≡ valueIn (now (date .entry)) 0 (dateOf day) ⌝ }
 {
-    let answer = leaves::days::date_of(day);
+    let answer = leaves_days::days::date_of(day);
     match answer {
         Date::Written(n) => {
             *date = n;
@@ -46,7 +46,7 @@ pub extern "C" fn desk_day_start(day: u32, moment: &mut u64) -> u32
     ensures { λ r. ⌜ r ≡ numberIn (startOf day) ⌝ }
     ensures { λ _. ⌜ now (moment .exit) ≡ valueIn (now (moment .entry)) 0 (startOf day) ⌝ }
 {
-    let answer = leaves::days::day_start(day);
+    let answer = leaves_days::days::day_start(day);
     match answer {
         Moment::Nanoseconds(n) => {
             *moment = n;

@@ -1,12 +1,7 @@
 // The door: what a C program calls. Each function answers document 01's number, 0 where it is done, and hands further results back
 // through lent numbers, which a refusal leaves as they were but where `include/desk.h` says otherwise.
-pub mod build;
-pub mod damage;
 pub mod days;
-pub mod header;
 pub mod map;
-pub mod merge;
-pub mod merger;
 pub mod names;
 pub mod points;
 pub mod text;

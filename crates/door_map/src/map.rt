@@ -1,11 +1,11 @@
 // The table over time at the C door (01, The map over time): bytes, 24 an interval.
-use crate::DONE;
-use crate::damage::reason_in;
+use door_answers::DONE;
+use door_answers::damage::reason_in;
 use leaves::refusal::number;
 use map_record::mapping::Recorded;
 use map_time::insert::Inserted;
 use map_time::interval::Interval;
-use map_time::lookup::Found;
+use map_look::lookup::Found;
 use map_time::table::Checked;
 ghost use mathlib.Core.Path.{_≡_};
 ghost use mathlib.Core.Bool.{false, _||_};
@@ -16,7 +16,7 @@ ghost use Rattle.map_rules.specs.Memory.{sameValue, rows, badTable, checkAnswer
 ghost use Rattle.map_rules.specs.Looks.{lookupAnswer};
 ghost use Rattle.leaves.specs.Frame.{nameIn};
 ghost use Rattle.map_record.specs.Mapping.{timeJudged, timeJoins, timeTable, timeAnswer, bytesThen, endsThen};
-ghost use Rattle.door_map.specs.Answers.{numberIn, valueIn, givenIn, damageIn, row};
+ghost use Rattle.door_answers.specs.Answers.{numberIn, valueIn, givenIn, damageIn, row};
 
 // Whether the table is well-formed: 0, 14 or 15.
 #[no_mangle]
@@ -79,7 +79,7 @@ pub extern "C" fn desk_get_for_ts(
         × (now (symbol .exit) ≡ valueIn (now (symbol .entry)) 1 (lookupAnswer (now (table .entry)) used instrument moment (now (hint .entry))))) ⌝ }
     ensures accepted { λ r. ⌜ (badTable (length (now (table .entry))) used ≡ false → r ≡ 0) ⌝ }
 {
-    let looked = map_time::lookup::get_for_ts(table, used, instrument, moment, *hint);
+    let looked = map_look::lookup::get_for_ts(table, used, instrument, moment, *hint);
     let answer = looked.found;
     match answer {
         Found::Symbol(number) => {

@@ -1,19 +1,19 @@
 // The name list at the C door (01, Names, numbers, days): the names' bytes one after another, where each ends, and two numbers in use.
-use crate::DONE;
-use leaves::names::Checked;
-use leaves::names::Named;
-use leaves::names::Placed;
+use door_answers::DONE;
+use leaves_names::names::Checked;
+use leaves_names::names::Named;
+use leaves_names::names::Placed;
 use leaves::refusal::number;
 ghost use mathlib.Core.Path.{_≡_};
-ghost use Rattle.leaves.specs.Names.{checkNames, naming, namingAnswer, bytesAfter, endsAfter, placeOfName};
-ghost use Rattle.door_map.specs.Answers.{numberIn, valueIn};
+ghost use Rattle.leaves_names.specs.Names.{checkNames, naming, namingAnswer, bytesAfter, endsAfter, placeOfName};
+ghost use Rattle.door_answers.specs.Answers.{numberIn, valueIn};
 
 // Whether the name list is well-formed: 0, 14 or 15.
 #[no_mangle]
 pub extern "C" fn desk_check_names(bytes: &[u8], ends: &[u32], names: usize, size: usize) -> u32
     ensures { λ r. ⌜ r ≡ numberIn (checkNames (now (bytes .entry)) (now (ends .entry)) names size) ⌝ }
 {
-    let checked = leaves::names::check_names(bytes, ends, names, size);
+    let checked = leaves_names::names::check_names(bytes, ends, names, size);
     match checked {
         Checked::Done => DONE,
         Checked::Refused(refusal) => number(refusal),
@@ -37,7 +37,7 @@ pub extern "C" fn desk_number_of(
     ensures { λ _. ⌜ now (bytes .exit) ≡ bytesAfter (now (bytes .entry)) (now (size .entry)) (now (name .entry)) (naming (now (bytes .entry)) (now (ends .entry)) (now (names .entry)) (now (size .entry)) (now (name .entry))) ⌝ }
     ensures { λ _. ⌜ now (ends .exit) ≡ endsAfter (now (ends .entry)) (now (names .entry)) (now (size .entry)) (now (name .entry)) (naming (now (bytes .entry)) (now (ends .entry)) (now (names .entry)) (now (size .entry)) (now (name .entry))) ⌝ }
 {
-    let named = leaves::names::number_of(bytes, ends, *names, *size, name);
+    let named = leaves_names::names::number_of(bytes, ends, *names, *size, name);
     match named {
         Named::Number {
             number: n,
@@ -68,7 +68,7 @@ pub extern "C" fn desk_place_of_name(
     ensures { λ _. ⌜ now (first .exit) ≡ valueIn (now (first .entry)) 0 (placeOfName (now (bytes .entry)) (now (ends .entry)) names size symbol) ⌝ }
     ensures { λ _. ⌜ now (end .exit) ≡ valueIn (now (end .entry)) 1 (placeOfName (now (bytes .entry)) (now (ends .entry)) names size symbol) ⌝ }
 {
-    let placed = leaves::names::place_of_name(bytes, ends, names, size, symbol);
+    let placed = leaves_names::names::place_of_name(bytes, ends, names, size, symbol);
     match placed {
         Placed::At {
             first: from,

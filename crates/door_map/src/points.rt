@@ -1,26 +1,26 @@
 // The point-in-time table at the C door (01, The map over time): bytes, 8 an entry, little-endian: instrument 4, symbol 4.
-use crate::DONE;
-use crate::damage::reason_in;
+use door_answers::DONE;
+use door_answers::damage::reason_in;
 use leaves::refusal::number;
 use map_record::mapping::Recorded;
-use map_time::lookup::Found;
+use map_look::lookup::Found;
 use map_time::table::Checked;
 ghost use mathlib.Core.Path.{_≡_};
 ghost use mathlib.Core.Bool.{true, not, _||_};
 ghost use lib.ListN.{length};
 ghost use lib.Dec.{T};
 ghost use Rattle.leaves.specs.Frame.{nameIn};
-ghost use Rattle.map_time.specs.Entries.{entries};
-ghost use Rattle.map_time.specs.Points.{rising, pointsFit, pointsChecked, pointFound};
+ghost use Rattle.map_point.specs.Entries.{entries};
+ghost use Rattle.map_point.specs.Points.{rising, pointsFit, pointsChecked, pointFound};
 ghost use Rattle.map_record.specs.Mapping.{pointJudged, pointJoins, pointTable, pointAnswer, bytesThen, endsThen};
-ghost use Rattle.door_map.specs.Answers.{numberIn, valueIn, givenIn, damageIn};
+ghost use Rattle.door_answers.specs.Answers.{numberIn, valueIn, givenIn, damageIn};
 
 // Whether a point-in-time table is well-formed: 0, 14 or 15.
 #[no_mangle]
 pub extern "C" fn desk_check_points(table: &[u8], used: usize, names: usize) -> u32
     ensures { λ r. ⌜ r ≡ numberIn (pointsChecked (now (table .entry)) used names) ⌝ }
 {
-    let checked = map_time::points::check_points(table, used, names);
+    let checked = map_point::points::check_points(table, used, names);
     match checked {
         Checked::WellFormed => DONE,
         Checked::Refused(refusal) => number(refusal),
@@ -42,7 +42,7 @@ pub extern "C" fn desk_get_point(
         × (now (symbol .exit) ≡ valueIn (now (symbol .entry)) 0 (pointFound (now (table .entry)) used instrument))) ⌝ }
     ensures accepted { λ r. ⌜ (pointsFit (length (now (table .entry))) used ≡ true → r ≡ 0) ⌝ }
 {
-    let answer = map_time::points::get(table, used, instrument);
+    let answer = map_point::points::get(table, used, instrument);
     match answer {
         Found::Symbol(n) => {
             *found = 1;

@@ -1,10 +1,10 @@
 // Number text and UTF-8 at the C door (01, Names, numbers, days).
-use crate::DONE;
+use door_answers::DONE;
 use leaves::number_text::Reading;
 ghost use mathlib.Core.Path.{_≡_};
 ghost use Rattle.leaves.specs.NumberText.{numberText};
-ghost use Rattle.leaves.specs.Utf8.{isUtf8};
-ghost use Rattle.door_map.specs.Answers.{numberIn, valueIn, utf8Answer};
+ghost use Rattle.leaves_names.specs.Utf8.{isUtf8};
+ghost use Rattle.door_answers.specs.Answers.{numberIn, valueIn, utf8Answer};
 
 // The refusals 8, "text is not a `u32`", and 4, "not UTF-8".
 const NOT_NUMBER: u32 = 8;
@@ -32,7 +32,7 @@ pub extern "C" fn desk_number_text(text: &[u8], value: &mut u32) -> u32
 pub extern "C" fn desk_utf8(text: &[u8]) -> u32
     ensures { λ r. ⌜ r ≡ numberIn (utf8Answer (isUtf8 (now (text .entry)))) ⌝ }
 {
-    if leaves::utf8::is_utf8(text) {
+    if leaves_names::utf8::is_utf8(text) {
         return DONE;
     }
     NOT_UTF8

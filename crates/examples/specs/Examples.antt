@@ -10,8 +10,8 @@ use Rattle.theory.specs.Answer.{Answer, answer}
 use Rattle.theory.specs.Runs.{Mem}
 use Rattle.theory.specs.Fields.{field}
 use Rattle.leaves.specs.NumberText.{isDigit, digits, someDigits, numberText}
-use Rattle.leaves.specs.Calendar.{isLeap, monthDays, daysOfYears, daysBefore, isDate, dayNumber}
-use Rattle.leaves.specs.Days.{dayOf}
+use Rattle.leaves_days.specs.Calendar.{isLeap, monthDays, daysOfYears, daysBefore, isDate, dayNumber}
+use Rattle.leaves_days.specs.Days.{dayOf}
 use Rattle.leaves.specs.Frame.{frameAt}
 use Rattle.map_rules.specs.Table.{Row, Outcome, inserted}
 use Rattle.map_rules.specs.Memory.{width, rowAt, rowsFrom, rows, bytesOf, rowBytes, rowsBytes, badTable, insertOutcome, written, memoryAfter, outcomeAnswer, usedAfter}
@@ -19,7 +19,7 @@ use Rattle.map_rules.specs.Lookup.{lookupRows}
 use Rattle.map_rules.specs.Looks.{saidAnswer, lookupAnswer}
 use Rattle.metadata_rules.specs.Metadata as merging
 use Rattle.metadata_rules.specs.Words.{before, mappingsFrom, mappingWords, intervalWords}
-use Rattle.judge.specs.Judge.{knownDate}
+use Rattle.metadata_gather.specs.Judge.{knownDate}
 use Rattle.metadata_form.specs.declared.header.Header.{Header}
 use Rattle.metadata_form.specs.Header.{Lists, lists, metadataOf, sizedOf}
 use Rattle.metadata_form.specs.Over.{over}

@@ -1,17 +1,6 @@
 pub mod Frame
 pub mod FrameLaws
 pub mod Refusal
-pub mod Calendar
-pub mod Days
-pub mod CalendarLaws
-pub mod CalendarDates
-pub mod DaysLaws
-pub mod Utf8
-pub mod Utf8Laws
-pub mod Utf8Grammar
 pub mod NumberText
 pub mod NumberTextLaws
 pub mod NumberTextMeaning
-pub mod Names
-pub mod NamesLaws
-pub mod NamesList

@@ -9,15 +9,15 @@ use Rattle.theory.specs.Answer.{Answer, answer}
 use Rattle.leaves.specs.Refusal.{refused}
 use Rattle.leaves.specs.declared.refusal.Refusal.the-variants.{Reversed, NoRoom, BadName, IllFormed, BadMemory, Damaged}
 use Rattle.leaves.specs.Frame.{Mapped, other, symbol, notOne, mappedIn, nameIn}
-use Rattle.leaves.specs.Names.{isName, memoryOk, namesOf, least, numbering, written}
-use Rattle.leaves.specs.Names.{wellFormed as wellFormedNames}
-use Rattle.leaves.specs.declared.names.Naming.{Naming}
-use Rattle.leaves.specs.declared.names.Naming.the-variants.{Old, New, Refused as NotNamed}
+use Rattle.leaves_names.specs.Names.{isName, memoryOk, namesOf, least, numbering, written}
+use Rattle.leaves_names.specs.Names.{wellFormed as wellFormedNames}
+use Rattle.leaves_names.specs.declared.names.Naming.{Naming}
+use Rattle.leaves_names.specs.declared.names.Naming.the-variants.{Old, New, Refused as NotNamed}
 use Rattle.map_rules.specs.Table.{Row, Outcome, refusedBy, stored, nowStored, ifRoom, insertRows, wellFormed as wellFormedRows}
 use Rattle.map_rules.specs.Memory.{sameValue, knownValue, rows, roomOf, badTable, memoryAfter, usedAfter}
-use Rattle.map_time.specs.Entries.{entries}
-use Rattle.map_time.specs.Points.{wellFormed, setEntry, pointsFit, hasRoom, storedBytes, usedThen, entriesThen}
-use Rattle.map_time.specs.declared.entries.Entry.{Entry}
+use Rattle.map_point.specs.Entries.{entries}
+use Rattle.map_point.specs.Points.{wellFormed, setEntry, pointsFit, hasRoom, storedBytes, usedThen, entriesThen}
+use Rattle.map_point.specs.declared.entries.Entry.{Entry}
 use Rattle.map_record.specs.declared.mapping.Plan.{Plan}
 use Rattle.map_record.specs.declared.mapping.Plan.the-variants.{Nothing, Store, Refuse}
 use Rattle.map_record.specs.declared.mapping.Recorded.{Recorded}

@@ -7,12 +7,12 @@ use lib.ListN.{length, replicate}
 use Rattle.theory.specs.Answer.{answer}
 use Rattle.theory.specs.Fields.{field, putField}
 use Rattle.leaves.specs.Frame.{mappedIn}
-use Rattle.leaves.specs.Names.{startOf, nameOf, namesFrom, namesOf, isName, standFrom, wellFormed as wellFormedNames, memoryOk, same, least, hasRoom as hasNameRoom, numbering}
-use Rattle.leaves.specs.Utf8.{isUtf8, from-2, within, utf8-2}
+use Rattle.leaves_names.specs.Names.{startOf, nameOf, namesFrom, namesOf, isName, standFrom, wellFormed as wellFormedNames, memoryOk, same, least, hasRoom as hasNameRoom, numbering}
+use Rattle.leaves_names.specs.Utf8.{isUtf8, from-2, within, utf8-2}
 use Rattle.map_rules.specs.Table.{badRoom, wellFormed as wellFormedRows, ordered, allKnown as allKnownRows}
 use Rattle.map_rules.specs.Memory.{rowsFrom, badTable}
-use Rattle.map_time.specs.Entries.{entryAt, entriesFrom, putEntry, putEntries}
-use Rattle.map_time.specs.Points.{pointsFit, rising, allKnown, wellFormed, hasRoom, storedBytes, setEntry}
+use Rattle.map_point.specs.Entries.{entryAt, entriesFrom, putEntry, putEntries}
+use Rattle.map_point.specs.Points.{pointsFit, rising, allKnown, wellFormed, hasRoom, storedBytes, setEntry}
 use Rattle.map_record.specs.Mapping.{nothing, refuses, stores, pointJudged, timeJudged, pointOutcome, pointAnswer, pointJoins, pointTable}
 
 -- a symbol mapping of instrument 7, with a name of less than 200 bytes and times below 256 or missing

@@ -15,21 +15,21 @@ use Rattle.theory.specs.RunsTools.{T-and, T-fst, T-snd}
 use Rattle.leaves.specs.Refusal.{refused}
 use Rattle.leaves.specs.declared.refusal.Refusal.the-variants.{Reversed, BadName, NoNameRoom, IllFormed, BadMemory}
 use Rattle.leaves.specs.Frame.{Mapped, other, symbol, notOne, mappedIn, nameIn}
-use Rattle.leaves.specs.Names.{memoryOk, wellFormed as wellFormedNames, isName, numbering, naming, hasRoom}
-use Rattle.leaves.specs.NamesLaws.{Memory, memory}
-use Rattle.leaves.specs.declared.names.Naming.{Naming}
-use Rattle.leaves.specs.declared.names.Naming.the-variants.{Old, New, Refused as NotNamed}
+use Rattle.leaves_names.specs.Names.{memoryOk, wellFormed as wellFormedNames, isName, numbering, naming, hasRoom}
+use Rattle.leaves_names.specs.NamesLaws.{Memory, memory}
+use Rattle.leaves_names.specs.declared.names.Naming.{Naming}
+use Rattle.leaves_names.specs.declared.names.Naming.the-variants.{Old, New, Refused as NotNamed}
 use Rattle.map_rules.specs.Table.{Row, Ordered, Outcome, nowStored, ifRoom, badRoom, badNames, wellFormed, ordered, allKnown, insertRows, entered, inserted}
 use Rattle.map_rules.specs.History.{Event, insertion, after}
 use Rattle.map_rules.specs.Memory.{sameValue, knownValue, rows, roomOf, badTable, usedAfter}
 use Rattle.map_rules.specs.MemoryLaws.{length-rows}
 use Rattle.map_rules.specs.Outcomes.{Lent, table-lent}
 use Rattle.map_rules.specs.Calls.{Holds}
-use Rattle.map_time.specs.declared.entries.Entry.{Entry}
-use Rattle.map_time.specs.Entries.{entries}
-use Rattle.map_time.specs.Points as points
-use Rattle.map_time.specs.Points.{rising, setEntry, pointsFit}
-use Rattle.map_time.specs.PointsLaws.{set-rising, set-known}
+use Rattle.map_point.specs.declared.entries.Entry.{Entry}
+use Rattle.map_point.specs.Entries.{entries}
+use Rattle.map_point.specs.Points as points
+use Rattle.map_point.specs.Points.{rising, setEntry, pointsFit}
+use Rattle.map_point.specs.PointsLaws.{set-rising, set-known}
 use Rattle.map_record.specs.Mapping.{pointWanted, pointJudged, pointOutcome, Wanted, nothing, refuses, stores, numberingIn, numbered, timeWanted, timeJudged, mappingRow, timeOutcome, timeTable, timeUsed, timeRows, namesThen}
 use Rattle.map_record.specs.MappingLaws.{two, and-fst, and-snd, room}
 

@@ -17,10 +17,10 @@ use Rattle.leaves.specs.Frame.{Mapped, other, symbol, notOne, mappedIn, mappedO
 use Rattle.leaves.specs.FrameLaws.{mapped-other, mapped-refused, refused-not-done}
 use Rattle.leaves.specs.declared.frame.Mapping.{Mapping}
 use Rattle.leaves.specs.declared.frame.Mapping.the-variants.{Other, Symbol, Refused as NotRead}
-use Rattle.leaves.specs.Names.{memoryOk, wellFormed as wellFormedNames, isName}
-use Rattle.leaves.specs.NamesLaws.{holds, fails}
-use Rattle.leaves.specs.declared.names.Naming.{Naming}
-use Rattle.leaves.specs.declared.names.Naming.the-variants.{Old, New, Refused as NotNamed}
+use Rattle.leaves_names.specs.Names.{memoryOk, wellFormed as wellFormedNames, isName}
+use Rattle.leaves_names.specs.NamesLaws.{holds, fails}
+use Rattle.leaves_names.specs.declared.names.Naming.{Naming}
+use Rattle.leaves_names.specs.declared.names.Naming.the-variants.{Old, New, Refused as NotNamed}
 use Rattle.map_rules.specs.Table.{Row, Outcome, refusedBy, stored, Ordered, wellFormed, ifRoom, insertRows}
 use Rattle.map_rules.specs.Memory.{sameValue, knownValue, width, rows, roomOf, badTable, memoryAfter, outcomeAnswer, Gives}
 use Rattle.map_rules.specs.Outcomes.{Lent, table-lent, checked-ordered}

@@ -18,13 +18,13 @@ use Rattle.leaves.specs.Frame.{Read, whole, ended, damaged, Mapped, other, symb
 use Rattle.leaves.specs.FrameLaws.{mapped-other, mapped-symbol, mapped-refused, refused-not-done}
 use Rattle.leaves.specs.declared.frame.Mapping.{Mapping}
 use Rattle.leaves.specs.declared.frame.Mapping.the-variants.{Other, Symbol, Refused as NotRead}
-use Rattle.leaves.specs.Names.{memoryOk, wellFormed as wellFormedNames, namesOf, least, isName, written, hasRoom as hasNameRoom}
-use Rattle.leaves.specs.declared.names.Naming.the-variants.{New, Refused as NotNamed}
-use Rattle.leaves.specs.NamesLaws.{holds, fails, Memory, memory, Ordered as OrderedNames, formed, ordered, numbered-old, numbered-fresh}
-use Rattle.map_time.specs.Entries.{entries}
-use Rattle.map_time.specs.declared.entries.Entry.{Entry}
-use Rattle.map_time.specs.Points.{rising, allKnown, wellFormed, setEntry, pointsFit, hasRoom, storedAnswer, storedBytes}
-use Rattle.map_time.specs.PointsSteps.{fit-bytes, Stores}
+use Rattle.leaves_names.specs.Names.{memoryOk, wellFormed as wellFormedNames, namesOf, least, isName, written, hasRoom as hasNameRoom}
+use Rattle.leaves_names.specs.declared.names.Naming.the-variants.{New, Refused as NotNamed}
+use Rattle.leaves_names.specs.NamesLaws.{holds, fails, Memory, memory, Ordered as OrderedNames, formed, ordered, numbered-old, numbered-fresh}
+use Rattle.map_point.specs.Entries.{entries}
+use Rattle.map_point.specs.declared.entries.Entry.{Entry}
+use Rattle.map_point.specs.Points.{rising, allKnown, wellFormed, setEntry, pointsFit, hasRoom, storedAnswer, storedBytes}
+use Rattle.map_point.specs.PointsSteps.{fit-bytes, Stores}
 use Rattle.map_record.specs.Mapping.{Wanted, nothing, refuses, stores, numberingIn, numbered, pointWanted, pointJudged, pointOutcome, pointJoins, pointTable, pointUsed, pointEntries, pointAnswer, namesThen, sizeThen, bytesThen, endsThen, planOf}
 use Rattle.map_rules.specs.Table.{Ordered}
 use Rattle.map_rules.specs.Memory.{width, rows, roomOf}

@@ -1,3 +1,3 @@
+pub mod Words
 pub mod Header
 pub mod Over
-pub mod Sets

@@ -1,4 +1,4 @@
 // The form of a metadata in lent memory: a header by value and five lists of words; what its tests, fields and sets come to.
 pub mod header;
 pub mod over;
-pub mod sets;
+pub mod words;

@@ -1,3 +1,5 @@
 pub mod Arrivals
 pub mod Picks
 pub mod Sides
+pub mod Judge
+pub mod Sets

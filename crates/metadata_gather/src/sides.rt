@@ -2,18 +2,18 @@
 // interval in `gv`, as in lent memory.
 use crate::picks::picks;
 use metadata_lists::link::offsets;
-use walk::words::copy_intervals;
-use walk::words::count_at;
-use walk::words::name_at;
-use walk::words::put_mapping;
+use metadata_form::words::copy_intervals;
+use metadata_form::words::count_at;
+use metadata_form::words::name_at;
+use metadata_form::words::put_mapping;
 ghost use mathlib.Core.Path.{_≡_};
 ghost use Prim.Native.Nat.{ℕ, _+_, _-_, _*_, _<_, _≤_};
 ghost use mathlib.Core.List.{[], _++_};
 ghost use lib.ListN.{length, getD};
 ghost use Rattle.metadata_rules.specs.Metadata.{enterAll};
 ghost use Rattle.metadata_rules.specs.Words.{nameAt, countAt, mappingsFrom, before};
-ghost use Rattle.walk.specs.Words.{putMapping};
-ghost use Rattle.walk.specs.Words.{lay as layFrom};
+ghost use Rattle.metadata_form.specs.Words.{putMapping};
+ghost use Rattle.metadata_form.specs.Words.{lay as layFrom};
 ghost use Rattle.metadata_lists.specs.Flat.{listAt};
 ghost use Rattle.metadata_lists.specs.Names.{placed, layAll};
 ghost use Rattle.metadata_gather.specs.Sides.{Within, Layable, pickedTo, Sound};

@@ -1,3 +1,4 @@
+pub mod Heads
 pub mod Flat
 pub mod Link
 pub mod NameHeld

@@ -7,10 +7,10 @@ use mathlib.Core.List.{List, [], _∷_}
 use lib.ListN.{length, getD}
 use Rattle.metadata_rules.specs.declared.Interval.{Interval}
 use Rattle.metadata_rules.specs.Walk.{Walked, conflict, laid, walk, walkAll}
-use Rattle.walk.specs.declared.heads.Walked.the-variants.{Conflict, Laid}
+use Rattle.metadata_lists.specs.declared.heads.Walked.the-variants.{Conflict, Laid}
 use Rattle.metadata_rules.specs.Words.{stretch}
-use Rattle.walk.specs.Words.{rest, rest-length, lay, laid-length}
-use Rattle.walk.specs.Heads.{finish, endOf, held, clashed}
+use Rattle.metadata_form.specs.Words.{rest, rest-length, lay, laid-length}
+use Rattle.metadata_lists.specs.Heads.{finish, endOf, held, clashed}
 use Rattle.metadata_rules.specs.Words.{nameAt, countAt}
 use Rattle.metadata_lists.specs.Flat.{listAt, listsFrom, First, Linked, sumLen, lists-here, lists-first, lists-end}
 use Rattle.metadata_lists.specs.NameHeld.{Gathered, first-list, more-clash, more-laid, gathered-end}

@@ -12,11 +12,11 @@ use Rattle.metadata_rules.specs.declared.IntervalOrdering.{IntervalOrdering}
 use Rattle.metadata_rules.specs.declared.IntervalOrdering.the-variants.{Equal, Less, Greater, Overlap}
 use Rattle.metadata_rules.specs.Walk.{Walked, conflict, laid, walk, walkAll, thenAll, out, agreed, heads, ordering, against, joined}
 use Rattle.metadata_rules.specs.Cases.{eqb-case}
-use Rattle.walk.specs.declared.heads.Walked.{Walked as Answer}
-use Rattle.walk.specs.declared.heads.Walked.the-variants.{Conflict, Laid}
+use Rattle.metadata_lists.specs.declared.heads.Walked.{Walked as Answer}
+use Rattle.metadata_lists.specs.declared.heads.Walked.the-variants.{Conflict, Laid}
 use Rattle.metadata_rules.specs.Words.{intervalAt, stretch}
-use Rattle.walk.specs.Words.{putAt, rest, lay, length-put, lay-length}
-use Rattle.walk.specs.Heads.{Ended, clashed, held, finish, endOf}
+use Rattle.metadata_form.specs.Words.{putAt, rest, lay, length-put, lay-length}
+use Rattle.metadata_lists.specs.Heads.{Ended, clashed, held, finish, endOf}
 use Rattle.metadata_lists.specs.Flat.{sumLen}
 
 -- ---- a walk's length: at least the longer list's, at most both together

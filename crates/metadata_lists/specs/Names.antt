@@ -10,9 +10,9 @@ use Rattle.metadata_rules.specs.declared.Interval.{Interval}
 use Rattle.metadata_rules.specs.Walk.{Walked, conflict, laid, walk, walkAll, thenAll}
 use Rattle.metadata_rules.specs.Metadata.{Mapping, mapping, Merged, clash, merged, under, inFront}
 use Rattle.metadata_rules.specs.Cases.{cond-eq, cond-ne}
-use Rattle.walk.specs.declared.heads.Walked.the-variants.{Conflict, Laid}
-use Rattle.walk.specs.Words.{putMapping, lay, lay-length}
-use Rattle.walk.specs.Heads.{finish, endOf, held, clashed}
+use Rattle.metadata_lists.specs.declared.heads.Walked.the-variants.{Conflict, Laid}
+use Rattle.metadata_form.specs.Words.{putMapping, lay, lay-length}
+use Rattle.metadata_lists.specs.Heads.{finish, endOf, held, clashed}
 use Rattle.metadata_rules.specs.Words.{nameAt}
 use Rattle.metadata_lists.specs.Flat.{listsFrom, sumLen}
 use Rattle.metadata_lists.specs.NameHeld.{walk-length, held-finish, clash-finish}

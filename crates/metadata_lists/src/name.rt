@@ -1,12 +1,12 @@
 // One name's outcome: the walk over its lists in the order of their arrival.
-use walk::heads::Walked;
-use walk::heads::merge_intervals;
-use walk::words::copy_intervals;
-use walk::words::count_at;
+use crate::heads::Walked;
+use crate::heads::merge_intervals;
+use metadata_form::words::copy_intervals;
+use metadata_form::words::count_at;
 ghost use mathlib.Core.Path.{_≡_};
 ghost use Prim.Native.Nat.{_+_, _-_, _*_, _<_, _≤_};
 ghost use lib.ListN.{length, getD};
-ghost use Rattle.walk.specs.Heads.{finish, endOf};
+ghost use Rattle.metadata_lists.specs.Heads.{finish, endOf};
 ghost use Rattle.metadata_lists.specs.Name.{outcomeAt, Ready};
 
 // The outcome of the name that the i-th mapping is the first of, laid in `out` from the place k on: its list, walked with

@@ -1,9 +1,9 @@
 // Every name's outcome, one after the other, in the order of first arrival.
 use crate::name::lay_name;
-use walk::heads::Walked;
-use walk::words::name_at;
-use walk::words::put_mapping;
-use walk::words::wide;
+use crate::heads::Walked;
+use metadata_form::words::name_at;
+use metadata_form::words::put_mapping;
+use metadata_form::words::wide;
 ghost use mathlib.Core.Path.{_≡_};
 ghost use Prim.Native.Nat.{_+_, _-_, _*_, _<_, _≤_};
 ghost use lib.ListN.{length, getD};

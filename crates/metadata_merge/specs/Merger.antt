@@ -26,7 +26,7 @@ use Rattle.metadata_form.specs.declared.header.Lengths.{Lengths}
 use Rattle.metadata_form.specs.declared.header.Counts.{Counts}
 use Rattle.metadata_form.specs.Header.{Lists, lists, lengthsOf, headerFields, metadataOf, sizedOf, mergedHeader, countedHeader, Sized, sized-facts, countsFit}
 use Rattle.metadata_form.specs.Over.{over}
-use Rattle.metadata_form.specs.Sets.{AllUnited}
+use Rattle.metadata_gather.specs.Sets.{AllUnited}
 use Rattle.metadata_merge.specs.Outcome.{given, Outcomes, Deciding, Decided, Fitted, Plannable, Commit, Fits1, committed, lists-same, countsOf, front}
 use Rattle.metadata_merge.specs.Room.{names-length}
 use Rattle.metadata_merge.specs.declared.outcome.Verdict.{Verdict}

@@ -19,16 +19,16 @@ use Rattle.metadata_rules.specs.Metadata.{refused as stopped}
 use Rattle.metadata_rules.specs.Words.{mappingsFrom, mappingWords, intervalWords, before, every-append, mapping-length, interval-length}
 use Rattle.metadata_lists.specs.Names.{Final, placed, layAll}
 use Rattle.metadata_lists.specs.NamesWords.{Stands, stands}
-use Rattle.judge.specs.Judge.{knownDate, below}
-use Rattle.plan.specs.Plan.{Planable, both-count, both-size, Shown, fault, shown, endPlan, shownMerged, planOn, planOf, faultOf, bothSides}
-use Rattle.plan.specs.declared.Planned.{Planned}
-use Rattle.plan.specs.declared.Planned.the-variants.{Fault, Laid}
+use Rattle.metadata_gather.specs.Judge.{knownDate, below}
+use Rattle.metadata_merge.specs.Plan.{Planable, both-count, both-size, Shown, fault, shown, endPlan, shownMerged, planOn, planOf, faultOf, bothSides}
+use Rattle.metadata_merge.specs.declared.plan.Planned.{Planned}
+use Rattle.metadata_merge.specs.declared.plan.Planned.the-variants.{Fault, Laid}
 use Rattle.metadata_form.specs.declared.header.Header.{Header}
 use Rattle.metadata_form.specs.declared.header.Lengths.{Lengths}
 use Rattle.metadata_form.specs.declared.header.Counts.{Counts}
 use Rattle.metadata_form.specs.Header.{Sized, Fitting, Lists, lists, lengthsOf, headerFields, metadataOf, countsFit}
 use Rattle.metadata_form.specs.Over.{over}
-use Rattle.metadata_form.specs.Sets.{AllUnited, IsUnited}
+use Rattle.metadata_gather.specs.Sets.{AllUnited, IsUnited}
 use Rattle.metadata_merge.specs.Room.{merged-few, merged-short}
 use Rattle.metadata_merge.specs.declared.outcome.Verdict.{Verdict}
 use Rattle.metadata_merge.specs.declared.outcome.Verdict.the-variants.{Refused, Fits}

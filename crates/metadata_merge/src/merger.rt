@@ -13,7 +13,7 @@ use metadata_form::header::differs;
 use metadata_form::header::merged;
 use metadata_form::header::sized;
 use metadata_form::header::total;
-use metadata_form::sets::alone;
+use metadata_gather::sets::alone;
 use metadata_gather::sides::lose_repeats;
 ghost use mathlib.Core.Path.{_≡_};
 ghost use mathlib.Core.Bool.{_&&_};

@@ -7,24 +7,24 @@ use mathlib.Core.List.{List, [], _∷_}
 use Rattle.theory.specs.Answer.{answer}
 use Rattle.leaves.specs.Refusal.{numberOf, refused}
 use Rattle.leaves.specs.FrameLaws.{refused-not-done, refused-one}
-use Rattle.leaves.specs.Days.{dayAnswerOf, dateAnswerOf, momentAnswerOf}
+use Rattle.leaves_days.specs.Days.{dayAnswerOf, dateAnswerOf, momentAnswerOf}
 use Rattle.leaves.specs.NumberText.{readingOf}
-use Rattle.leaves.specs.Names.{checkedOf, namedOf, placedOf}
+use Rattle.leaves_names.specs.Names.{checkedOf, namedOf, placedOf}
 use Rattle.leaves.specs.declared.refusal.Refusal.{Refusal}
-use Rattle.leaves.specs.declared.days.Day.{Day}
-use Rattle.leaves.specs.declared.days.Day.the-variants as day
-use Rattle.leaves.specs.declared.days.Date.{Date}
-use Rattle.leaves.specs.declared.days.Date.the-variants as date
-use Rattle.leaves.specs.declared.days.Moment.{Moment}
-use Rattle.leaves.specs.declared.days.Moment.the-variants as moment
+use Rattle.leaves_days.specs.declared.days.Day.{Day}
+use Rattle.leaves_days.specs.declared.days.Day.the-variants as day
+use Rattle.leaves_days.specs.declared.days.Date.{Date}
+use Rattle.leaves_days.specs.declared.days.Date.the-variants as date
+use Rattle.leaves_days.specs.declared.days.Moment.{Moment}
+use Rattle.leaves_days.specs.declared.days.Moment.the-variants as moment
 use Rattle.leaves.specs.declared.number_text.Reading.{Reading}
 use Rattle.leaves.specs.declared.number_text.Reading.the-variants.{Value, Stuck}
-use Rattle.leaves.specs.declared.names.Checked.{Checked}
-use Rattle.leaves.specs.declared.names.Checked.the-variants as checked
-use Rattle.leaves.specs.declared.names.Named.{Named}
-use Rattle.leaves.specs.declared.names.Named.the-variants as named
-use Rattle.leaves.specs.declared.names.Placed.{Placed}
-use Rattle.leaves.specs.declared.names.Placed.the-variants as placed
+use Rattle.leaves_names.specs.declared.names.Checked.{Checked}
+use Rattle.leaves_names.specs.declared.names.Checked.the-variants as checked
+use Rattle.leaves_names.specs.declared.names.Named.{Named}
+use Rattle.leaves_names.specs.declared.names.Named.the-variants as named
+use Rattle.leaves_names.specs.declared.names.Placed.{Placed}
+use Rattle.leaves_names.specs.declared.names.Placed.the-variants as placed
 
 -- no refusal is done
 pub done-or-refused : {vs : List ℕ} (r : Refusal) → answer 0 vs ≡ refused r → ⊥

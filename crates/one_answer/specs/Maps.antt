@@ -5,16 +5,16 @@ use native.Mathlib.Omega.{arith}
 use Rattle.leaves.specs.FrameLaws.{refused-one}
 use Rattle.map_time.specs.Table.{checkedOf}
 use Rattle.map_time.specs.Insert.{insertedOf}
-use Rattle.map_time.specs.Lookup.{foundOf, lookedOf}
-use Rattle.map_time.specs.Points as points
+use Rattle.map_look.specs.Lookup.{foundOf, lookedOf}
+use Rattle.map_point.specs.Points as points
 use Rattle.map_record.specs.Mapping.{recordedOf}
 use Rattle.map_time.specs.declared.table.Checked.{Checked}
 use Rattle.map_time.specs.declared.table.Checked.the-variants as checked
 use Rattle.map_time.specs.declared.insert.Inserted.{Inserted}
 use Rattle.map_time.specs.declared.insert.Inserted.the-variants as inserted
-use Rattle.map_time.specs.declared.lookup.Found.{Found}
-use Rattle.map_time.specs.declared.lookup.Found.the-variants.{Symbol, Nothing, Refused}
-use Rattle.map_time.specs.declared.lookup.Looked.{Looked}
+use Rattle.map_look.specs.declared.lookup.Found.{Found}
+use Rattle.map_look.specs.declared.lookup.Found.the-variants.{Symbol, Nothing, Refused}
+use Rattle.map_look.specs.declared.lookup.Looked.{Looked}
 use Rattle.map_record.specs.declared.mapping.Recorded.{Recorded}
 use Rattle.map_record.specs.declared.mapping.Recorded.the-variants as recorded
 use Rattle.one_answer.specs.Leaves.{done-or-refused}

@@ -5,7 +5,7 @@ use mathlib.Core.List.{List, [], _∷_, _++_}
 use Rattle.theory.specs.Fields.{field}
 use Rattle.leaves.specs.Frame.{frameAt}
 use Rattle.records_rules.specs.Literal.{told}
-use Rattle.replay_text.specs.Lines.{badLine, endLine}
+use Rattle.lines.specs.Lines.{badLine, endLine}
 use Rattle.replay_text.specs.Replay.{replayText}
 
 -- a record of 16 bytes: kind 1, instrument 7, the time t below 256

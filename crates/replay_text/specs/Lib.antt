@@ -1,7 +1,3 @@
-pub mod Sections
-pub mod SectionsLaws
-pub mod Lines
-pub mod LinesLaws
 pub mod Replay
 pub mod ReplayLaws
 pub mod Telling

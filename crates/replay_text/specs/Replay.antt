@@ -13,8 +13,8 @@ use Rattle.records_rules.specs.Bytes.{bytesOf}
 use Rattle.records_rules.specs.Literal.{told}
 use Rattle.replay_text.specs.declared.replay.Replayed.{Replayed}
 use Rattle.replay_text.specs.declared.replay.Replayed.the-variants.{Text, Refused}
-use Rattle.replay_text.specs.Sections.{streamsIn}
-use Rattle.replay_text.specs.Lines.{recordLine, damageLine, endLine, badLine, laid}
+use Rattle.lines.specs.Sections.{streamsIn}
+use Rattle.lines.specs.Lines.{recordLine, damageLine, endLine, badLine, laid}
 
 -- the streams of a list, stream p at index p
 unfoldable pub among : List (List ℕ) → ℕ → Stream

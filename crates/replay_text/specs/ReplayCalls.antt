@@ -13,9 +13,9 @@ use Rattle.theory.specs.Answer as theory
 use Rattle.records_rules.specs.Machine.{answer, start}
 use Rattle.records_rules.specs.Bytes.{streamsOf}
 use Rattle.records_rules.specs.State.{riseTo, rightStreams}
-use Rattle.replay_text.specs.Sections.{streamsIn, Apart}
-use Rattle.replay_text.specs.Lines.{badLine, laid, Lays}
-use Rattle.replay_text.specs.LinesLaws.{lays-same}
+use Rattle.lines.specs.Sections.{streamsIn, Apart}
+use Rattle.lines.specs.Lines.{badLine, laid, Lays}
+use Rattle.lines.specs.LinesLaws.{lays-same}
 use Rattle.replay_text.specs.Replay.{textOf, replayText, replayAnswer, replayLaid}
 use Rattle.replay_text.specs.ReplayLaws.{linesLeft, cs-cuts, apart-text, apart-room}
 use Rattle.leaves.specs.Refusal.{numberOf}

@@ -19,10 +19,10 @@ use Rattle.records_rules.specs.Literal.{told, told-run}
 use Rattle.records_rules.specs.Least.{cond-case}
 use Rattle.records_rules.specs.Kept.{size, leftOf, sumBy, total, TurnOk, next-ok}
 use Rattle.records_rules.specs.Whole.{bytes, run, own-short}
-use Rattle.replay_text.specs.Sections.{streamAt, cutOut, Cuts, Apart}
-use Rattle.replay_text.specs.SectionsLaws.{cutOut-same, length-cutOut, getD-cutOut}
-use Rattle.replay_text.specs.Lines.{endLine, laid, Lays}
-use Rattle.replay_text.specs.LinesLaws.{lays-then, lays-same}
+use Rattle.lines.specs.Sections.{streamAt, cutOut, Cuts, Apart}
+use Rattle.lines.specs.SectionsLaws.{cutOut-same, length-cutOut, getD-cutOut}
+use Rattle.lines.specs.Lines.{endLine, laid, Lays}
+use Rattle.lines.specs.LinesLaws.{lays-then, lays-same}
 use Rattle.replay_text.specs.Replay.{among, lineOf, linesOf, textOf, replayText}
 
 -- ---- how many answers streams of so many bytes can give: a record takes 16 bytes at least, and damage is said once

@@ -13,7 +13,7 @@ use Rattle.records_rules.specs.Bytes.{streamsOf}
 use Rattle.records_rules.specs.Kept.{total}
 use Rattle.records_rules.specs.View.{tab, statusesOf}
 use Rattle.records_rules.specs.State.{answerOf, rightMemory, rightStreams, padded, opening, StateOk, Opened}
-use Rattle.replay_text.specs.Lines.{recordLine, damageLine, endLine, Lays}
+use Rattle.lines.specs.Lines.{recordLine, damageLine, endLine, Lays}
 use Rattle.replay_text.specs.Replay.{lineOf}
 use Rattle.replay_text.specs.ReplayLaws.{linesLeft, left-says, Writing, writing-start, writing-says, writing-end}
 

@@ -1,13 +1,13 @@
 // The whole text of a bundle's replay (document 01, "Merging records"), laid in lent bytes.
-use crate::lines::word;
-use crate::sections::Parted;
-use crate::sections::part;
+use lines::lines::word;
+use lines::sections::Parted;
+use lines::sections::part;
 use crate::telling::told;
 use leaves::refusal::Refusal;
 ghost use mathlib.Core.Path.{_≡_};
 ghost use Prim.Native.Nat.{_≤_};
 ghost use lib.ListN.{length, getD};
-ghost use Rattle.replay_text.specs.Lines.{Lays};
+ghost use Rattle.lines.specs.Lines.{Lays};
 ghost use Rattle.replay_text.specs.Replay.{replayText, replayedOf, replayAnswer, replayLaid};
 
 // The most lines a replay has: a record takes 16 of 60,000 bytes at least, each of 256 streams is reported damaged once at most, and

@@ -1,8 +1,8 @@
 // The merge of a buffer's streams told in lines (document 01, "Merging records"): it is opened with no hints and called to its end,
 // and each answer's line is laid behind the one before.
-use crate::lines::damage_line;
-use crate::lines::record_line;
-use crate::lines::word;
+use lines::lines::damage_line;
+use lines::lines::record_line;
+use lines::lines::word;
 use leaves::refusal::Refusal;
 use records::merge::Opening;
 use records::merge::Turn;
@@ -18,7 +18,7 @@ ghost use Rattle.records_rules.specs.Bytes.{streamsOf};
 ghost use Rattle.records_rules.specs.View.{statusesOf};
 ghost use Rattle.records_rules.specs.State.{answerOf, StateOk};
 ghost use Rattle.records.specs.Merge.{turnOf};
-ghost use Rattle.replay_text.specs.Lines.{Lays};
+ghost use Rattle.lines.specs.Lines.{Lays};
 ghost use Rattle.replay_text.specs.ReplayLaws.{linesLeft};
 ghost use Rattle.replay_text.specs.Telling.{Line, Places, Told, Ready, Cut, Mergeable};
 

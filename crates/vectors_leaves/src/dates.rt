@@ -1,7 +1,7 @@
 // Cases of dates: a month's first and last date with their days, and single dates.
-use leaves::days::Date;
-use leaves::days::Day;
-use leaves::days::Moment;
+use leaves_days::days::Date;
+use leaves_days::days::Day;
+use leaves_days::days::Moment;
 ghost use Prim.Native.Nat.{_<_};
 
 // Above every day and date: a refusal's number is added to it.
@@ -27,7 +27,7 @@ fn narrow(n: u64) -> u32 {
 
 // The day of a date, or the refusal's number above REFUSED.
 fn day_of(date: u64) -> u64 {
-    match leaves::days::day_of(narrow(date)) {
+    match leaves_days::days::day_of(narrow(date)) {
         Day::Number(n) => wide(n),
         Day::Refused(r) => REFUSED + wide(leaves::refusal::number(r)),
     }
@@ -35,7 +35,7 @@ fn day_of(date: u64) -> u64 {
 
 // The date of a day, in the same form.
 fn date_of(day: u64) -> u64 {
-    match leaves::days::date_of(narrow(day)) {
+    match leaves_days::days::date_of(narrow(day)) {
         Date::Written(n) => wide(n),
         Date::Refused(r) => REFUSED + wide(leaves::refusal::number(r)),
     }
@@ -49,7 +49,7 @@ fn are_one(date: u64, day: u64) -> bool {
     if date_of(day) != date {
         return false;
     }
-    match leaves::days::day_start(narrow(day)) {
+    match leaves_days::days::day_start(narrow(day)) {
         Moment::Nanoseconds(n) => n / DAY_NANOSECONDS == day && n % DAY_NANOSECONDS == 0,
         Moment::Refused(_) => false,
     }

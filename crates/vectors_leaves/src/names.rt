@@ -1,7 +1,7 @@
 // Cases of names, each a call: full lists, bad names, bad lists, memory over its limits.
-use leaves::names::Checked;
-use leaves::names::Named;
-use leaves::names::Placed;
+use leaves_names::names::Checked;
+use leaves_names::names::Named;
+use leaves_names::names::Placed;
 use vectors_text::Tally;
 use vectors_text::tried;
 ghost use mathlib.Core.Path.{_≡_};
@@ -33,7 +33,7 @@ fn is_number(named: Named, expected: u32, in_use: usize, bytes: usize) -> bool {
 
 // The number that a check of a list answers.
 fn checked(bytes: &[u8], ends: &[u32], names: usize, used: usize) -> u32 {
-    match leaves::names::check_names(bytes, ends, names, used) {
+    match leaves_names::names::check_names(bytes, ends, names, used) {
         Checked::Done => 0,
         Checked::Refused(r) => leaves::refusal::number(r),
     }
@@ -49,7 +49,7 @@ fn lies(
     first: usize,
     end: usize,
 ) -> bool {
-    match leaves::names::place_of_name(bytes, ends, names, used, n) {
+    match leaves_names::names::place_of_name(bytes, ends, names, used, n) {
         Placed::At {
             first: from,
             end: to,
@@ -63,11 +63,11 @@ fn places_full(tally: Tally) -> Tally {
     let mut bytes = [b'A', b'B', 9, 9];
     let mut ends = [1u32, 2];
     let long = [b'A'; 256];
-    let old = leaves::names::number_of(&mut bytes, &mut ends, 2, 2, b"B");
+    let old = leaves_names::names::number_of(&mut bytes, &mut ends, 2, 2, b"B");
     let mut t = tried(tally, b"old name in a full list", is_number(old, 1, 2, 2));
-    let none = leaves::names::number_of(&mut bytes, &mut ends, 2, 2, b"");
+    let none = leaves_names::names::number_of(&mut bytes, &mut ends, 2, 2, b"");
     t = tried(t, b"empty new name, places full", is_refused(none, 5));
-    let over = leaves::names::number_of(&mut bytes, &mut ends, 2, 2, &long);
+    let over = leaves_names::names::number_of(&mut bytes, &mut ends, 2, 2, &long);
     t = tried(t, b"256 bytes, places full", is_refused(over, 4));
     t = tried(
         t,
@@ -82,13 +82,13 @@ fn places_full(tally: Tally) -> Tally {
 fn bytes_full(tally: Tally) -> Tally {
     let mut bytes = [b'A'];
     let mut ends = [1u32, 7];
-    let full = leaves::names::number_of(&mut bytes, &mut ends, 1, 1, b"B");
+    let full = leaves_names::names::number_of(&mut bytes, &mut ends, 1, 1, b"B");
     let mut t = tried(
         tally,
         b"new name, bytes full",
         is_refused(full, 5) && ends[1] == 7,
     );
-    let empty = leaves::names::number_of(&mut bytes, &mut ends, 1, 1, b"");
+    let empty = leaves_names::names::number_of(&mut bytes, &mut ends, 1, 1, b"");
     t = tried(t, b"empty new name, bytes full", is_number(empty, 1, 2, 1));
     tried(t, b"its end", ends[1] == 1 && bytes[0] == b'A')
 }
@@ -97,9 +97,9 @@ fn bytes_full(tally: Tally) -> Tally {
 fn new_names(tally: Tally) -> Tally {
     let mut bytes = [9u8; 5];
     let mut ends = [9u32; 3];
-    let first = leaves::names::number_of(&mut bytes, &mut ends, 0, 0, b"AB");
+    let first = leaves_names::names::number_of(&mut bytes, &mut ends, 0, 0, b"AB");
     let mut t = tried(tally, b"first name", is_number(first, 0, 1, 2));
-    let second = leaves::names::number_of(&mut bytes, &mut ends, 1, 2, b"A");
+    let second = leaves_names::names::number_of(&mut bytes, &mut ends, 1, 2, b"A");
     t = tried(t, b"second name", is_number(second, 1, 2, 3));
     t = tried(
         t,
@@ -115,7 +115,7 @@ fn new_names(tally: Tally) -> Tally {
     let ones = [1u32, 2];
     let mut twice_bytes = twice;
     let mut twice_ends = ones;
-    let least = leaves::names::number_of(&mut twice_bytes, &mut twice_ends, 2, 2, b"A");
+    let least = leaves_names::names::number_of(&mut twice_bytes, &mut twice_ends, 2, 2, b"A");
     tried(
         t,
         b"the least of two equal names",
@@ -128,7 +128,7 @@ fn joins(text: &[u8], size: usize) -> bool {
     let mut bytes = [0u8; 8];
     let mut ends = [0u32; 1];
     is_number(
-        leaves::names::number_of(&mut bytes, &mut ends, 0, 0, text),
+        leaves_names::names::number_of(&mut bytes, &mut ends, 0, 0, text),
         0,
         1,
         size,
@@ -139,7 +139,7 @@ fn is_bad(text: &[u8]) -> bool {
     let mut bytes = [0u8; 8];
     let mut ends = [0u32; 1];
     is_refused(
-        leaves::names::number_of(&mut bytes, &mut ends, 0, 0, text),
+        leaves_names::names::number_of(&mut bytes, &mut ends, 0, 0, text),
         4,
     )
 }

@@ -1,7 +1,7 @@
 // Cases of the point-in-time table: check and lookup.
 use crate::tables::narrow;
 use crate::tables::room;
-use map_time::lookup::Found;
+use map_look::lookup::Found;
 use map_time::table::Checked;
 
 // A line `TABLE USED NAMES = NUMBER`.
@@ -12,7 +12,7 @@ pub fn check(text: &[u8], at: usize) -> bool {
     let used = vectors_text::number_at(text, given.next);
     let names = vectors_text::number_at(text, used.next);
     let number = vectors_text::number_at(text, vectors_text::past_equals(text, names.next));
-    match map_time::points::check_points(&table[..n], used.value as usize, names.value as usize) {
+    match map_point::points::check_points(&table[..n], used.value as usize, names.value as usize) {
         Checked::WellFormed => number.value == 0,
         Checked::Refused(r) => number.value == leaves::refusal::number(r) as u64,
     }
@@ -28,7 +28,7 @@ pub fn get(text: &[u8], at: usize) -> bool {
     let number = vectors_text::number_at(text, vectors_text::past_equals(text, instrument.next));
     let found = vectors_text::number_at(text, number.next);
     let symbol = vectors_text::number_at(text, found.next);
-    match map_time::points::get(&table[..n], used.value as usize, narrow(instrument.value)) {
+    match map_point::points::get(&table[..n], used.value as usize, narrow(instrument.value)) {
         Found::Symbol(s) => number.value == 0 && found.value == 1 && symbol.value == s as u64,
         Found::Nothing => number.value == 0 && found.value == 0,
         Found::Refused(r) => number.value == leaves::refusal::number(r) as u64,

@@ -1,8 +1,8 @@
 // Cases of the table over time: check, insert, get_for_ts.
 use map_time::insert::Inserted;
 use map_time::interval::Interval;
-use map_time::lookup::Found;
-use map_time::lookup::Looked;
+use map_look::lookup::Found;
+use map_look::lookup::Looked;
 use map_time::table::Checked;
 ghost use mathlib.Core.Path.{_≡_};
 ghost use lib.ListN.{length};
@@ -148,14 +148,14 @@ fn is_expected(looked: Looked, asked: Lookup) -> bool {
 
 // Whether the lookup answers as expected, and so a cursor with the same hint.
 fn looks(table: &[u8], asked: Lookup) -> bool {
-    let looked = map_time::lookup::get_for_ts(
+    let looked = map_look::lookup::get_for_ts(
         table,
         asked.used,
         asked.instrument,
         asked.moment,
         asked.hint,
     );
-    let followed = map_time::cursor::follow_once(
+    let followed = map_look::cursor::follow_once(
         table,
         asked.used,
         asked.instrument,

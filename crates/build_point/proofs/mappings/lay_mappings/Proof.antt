@@ -3,7 +3,7 @@ use Prim.Native.Nat.{_-_}
 use native.Mathlib.Omega.{arith}
 use borrow.Author.Needs.{needs}
 use lib.ListN.{length}
-use Rattle.leaves.specs.Names.{namesOf}
+use Rattle.leaves_names.specs.Names.{namesOf}
 use Rattle.build_point.specs.Mappings.{Going, clean-own, going-start, going-room, going-refused, going-on, going-end}
 use Rattle.build_point.proofs.mappings.lay_mappings.Statement.{statement}
 use Rattle.build_point.proofs.mappings.lay_mappings.Tie as tie

@@ -1,6 +1,6 @@
 -- 9, or the mappings; a build that stopped is cleared. Assumes nothing.
 use mathlib.Core.Path.{sym, _∙_}
-use Rattle.leaves.specs.Names.{namesOf}
+use Rattle.leaves_names.specs.Names.{namesOf}
 use Rattle.metadata_rules.specs.Words.{mappingsFrom}
 use Rattle.build_time.specs.OverTimeLaws.{build-undirected, build-done, build-cleared}
 use borrow.Author.Needs.{needs}

@@ -1,5 +1,5 @@
 -- Each way through the step is one law; an insert is what `enter` promises. Assumes nothing.
-use Rattle.leaves.specs.Names.{namesOf}
+use Rattle.leaves_names.specs.Names.{namesOf}
 use Rattle.build_time.specs.OverTimeLaws.{holds-ordered, took-refuse, took-skip, took-insert, took-full}
 use borrow.Author.Needs.{needs}
 use Rattle.build_time.proofs.over_time.lay_interval.Statement.{statement}

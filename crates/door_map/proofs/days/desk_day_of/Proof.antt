@@ -1,6 +1,6 @@
 -- Each arm of the match is what its case says. Assumes nothing.
-use Rattle.leaves.specs.Days.{dayAnswerOf}
-use Rattle.door_map.specs.AnswersLaws.{told, done-number, done-value, not-number, not-value}
+use Rattle.leaves_days.specs.Days.{dayAnswerOf}
+use Rattle.door_answers.specs.AnswersLaws.{told, done-number, done-value, not-number, not-value}
 use borrow.Author.Needs.{needs}
 use Rattle.door_map.proofs.days.desk_day_of.Statement.{statement}
 use Rattle.door_map.proofs.days.desk_day_of.Tie as tie

@@ -1,6 +1,6 @@
 -- Each arm of the match is what its case says. Assumes nothing.
 use Rattle.map_time.specs.Table.{checkedOf}
-use Rattle.door_map.specs.AnswersLaws.{told, done-number, not-number}
+use Rattle.door_answers.specs.AnswersLaws.{told, done-number, not-number}
 use borrow.Author.Needs.{needs}
 use Rattle.door_map.proofs.map.desk_check.Statement.{statement}
 use Rattle.door_map.proofs.map.desk_check.Tie as tie

@@ -1,6 +1,6 @@
 -- Each arm of the match is what its case says. Assumes nothing.
 use Rattle.map_time.specs.Insert.{insertedOf}
-use Rattle.door_map.specs.AnswersLaws.{told, done-number, done-value, not-number, not-value}
+use Rattle.door_answers.specs.AnswersLaws.{told, done-number, done-value, not-number, not-value}
 use borrow.Author.Needs.{needs}
 use Rattle.door_map.proofs.map.desk_insert.Statement.{statement}
 use Rattle.door_map.proofs.map.desk_insert.Tie as tie

@@ -1,6 +1,6 @@
 -- Each arm of the match is what its case says. Assumes nothing.
 use Rattle.map_record.specs.Mapping.{recordedOf}
-use Rattle.door_map.specs.AnswersLaws.{told, done-number, done-value, done-damage, not-number, not-value, not-damage}
+use Rattle.door_answers.specs.AnswersLaws.{told, done-number, done-value, done-damage, not-number, not-value, not-damage}
 use borrow.Author.Needs.{needs}
 use Rattle.door_map.proofs.map.desk_on_record.Statement.{statement}
 use Rattle.door_map.proofs.map.desk_on_record.Tie as tie

@@ -1,6 +1,6 @@
 -- Each arm of the match is what its case says. Assumes nothing.
-use Rattle.leaves.specs.Names.{checkedOf}
-use Rattle.door_map.specs.AnswersLaws.{told, done-number, not-number}
+use Rattle.leaves_names.specs.Names.{checkedOf}
+use Rattle.door_answers.specs.AnswersLaws.{told, done-number, not-number}
 use borrow.Author.Needs.{needs}
 use Rattle.door_map.proofs.names.desk_check_names.Statement.{statement}
 use Rattle.door_map.proofs.names.desk_check_names.Tie as tie

@@ -1,6 +1,6 @@
 -- Each arm of the match is what its case says. Assumes nothing.
-use Rattle.leaves.specs.Names.{namedOf}
-use Rattle.door_map.specs.AnswersLaws.{told, done-number, done-value, not-number, not-value}
+use Rattle.leaves_names.specs.Names.{namedOf}
+use Rattle.door_answers.specs.AnswersLaws.{told, done-number, done-value, not-number, not-value}
 use borrow.Author.Needs.{needs}
 use Rattle.door_map.proofs.names.desk_number_of.Statement.{statement}
 use Rattle.door_map.proofs.names.desk_number_of.Tie as tie

@@ -1,9 +1,9 @@
 -- Each arm of the match is what its case says. Assumes nothing.
 use mathlib.Core.Path.{refl, sym, ap, _∙_}
 use Rattle.map_rules.specs.Looks.{numberIn as looked-number}
-use Rattle.map_time.specs.declared.lookup.Found.{Found}
-use Rattle.map_time.specs.Points.{foundOf}
-use Rattle.door_map.specs.AnswersLaws.{told, done-number, done-value, done-given, not-number, not-value, not-given}
+use Rattle.map_look.specs.declared.lookup.Found.{Found}
+use Rattle.map_point.specs.Points.{foundOf}
+use Rattle.door_answers.specs.AnswersLaws.{told, done-number, done-value, done-given, not-number, not-value, not-given}
 use borrow.Author.Needs.{needs}
 use Rattle.door_map.proofs.points.desk_get_point.Statement.{statement}
 use Rattle.door_map.proofs.points.desk_get_point.Tie as tie

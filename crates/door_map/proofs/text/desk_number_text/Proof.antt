@@ -1,8 +1,8 @@
 -- Each arm of the match is what its case says. Assumes nothing.
 use mathlib.Core.Path.{ap}
 use Rattle.leaves.specs.NumberText.{readingOf}
-use Rattle.door_map.specs.Answers.{numberIn, valueIn}
-use Rattle.door_map.specs.AnswersLaws.{told, done-number, done-value}
+use Rattle.door_answers.specs.Answers.{numberIn, valueIn}
+use Rattle.door_answers.specs.AnswersLaws.{told, done-number, done-value}
 use borrow.Author.Needs.{needs}
 use Rattle.door_map.proofs.text.desk_number_text.Statement.{statement}
 use Rattle.door_map.proofs.text.desk_number_text.Tie as tie

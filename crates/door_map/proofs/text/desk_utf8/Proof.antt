@@ -1,7 +1,7 @@
 -- Either way is what the test says. Assumes nothing.
 use mathlib.Core.Path.{sym, ap, _∙_}
 use mathlib.Core.Bool.{Bool}
-use Rattle.door_map.specs.Answers.{numberIn, utf8Answer}
+use Rattle.door_answers.specs.Answers.{numberIn, utf8Answer}
 use borrow.Author.Needs.{needs}
 use Rattle.door_map.proofs.text.desk_utf8.Statement.{statement}
 use Rattle.door_map.proofs.text.desk_utf8.Tie as tie

@@ -1,6 +1,6 @@
 -- The tests in document 01's order, then the record. Assumes nothing.
 use mathlib.Core.Path.{sym, _∙_}
-use Rattle.leaves.specs.NamesLaws.{holds, fails, memory}
+use Rattle.leaves_names.specs.NamesLaws.{holds, fails, memory}
 use Rattle.map_record.specs.MappingInterval.{table-bytes, ready-interval, timed-table, timed-list, timed-ill-table, timed-ill-list, timed-on}
 use borrow.Author.Needs.{needs}
 use Rattle.map_record.proofs.mapping.judge_interval.Statement.{statement}

@@ -1,6 +1,6 @@
 -- The plan's cases: nothing, a refusal, or an entry to store, which fits the room or not. Assumes nothing.
 use mathlib.Core.Path.{sym, ap, _∙_}
-use Rattle.map_time.specs.Points.{storedOf}
+use Rattle.map_point.specs.Points.{storedOf}
 use Rattle.map_record.specs.Mapping.{planOf}
 use Rattle.map_record.specs.MappingLaws.{ready-store, leaves-nothing, leaves-refused, leaves-full, leaves-stored}
 use borrow.Author.Needs.{needs}

@@ -5,9 +5,9 @@ use Prim.Native.Nat.{ℕ, _≤_, _<_, _+_, _-_, _*_}
 use native.Mathlib.Omega.{arith}
 use borrow.Author.Needs.{needs}
 use lib.ListN.{length, getD}
-use Rattle.walk.specs.declared.heads.Walked.{Walked}
-use Rattle.walk.specs.Words.{laid-length}
-use Rattle.walk.specs.Heads.{endOf}
+use Rattle.metadata_lists.specs.declared.heads.Walked.{Walked}
+use Rattle.metadata_form.specs.Words.{laid-length}
+use Rattle.metadata_lists.specs.Heads.{endOf}
 use Rattle.metadata_lists.specs.Name.{Going, Ready, start-going, turn-needs, turn-clashed, turn-going, turn-further, going-end}
 use Rattle.metadata_lists.proofs.name.lay_name.Statement.{statement}
 use Rattle.metadata_lists.proofs.name.lay_name.Tie as tie

@@ -3,8 +3,8 @@ use mathlib.Core.Path.{_≡_, refl, sym, ap, _∙_}
 use Prim.Native.Nat.{ℕ, _≤_, _<_, _+_, _-_, _*_}
 use native.Mathlib.Omega.{arith}
 use lib.ListN.{length, getD}
-use Rattle.walk.specs.declared.heads.Walked.{Walked}
-use Rattle.walk.specs.Heads.{endOf}
+use Rattle.metadata_lists.specs.declared.heads.Walked.{Walked}
+use Rattle.metadata_lists.specs.Heads.{endOf}
 use Rattle.metadata_lists.specs.Names.{endNames, place-skip, place-clash, place-laid, laid-bound}
 use borrow.Author.Needs.{needs}
 use Rattle.metadata_lists.proofs.names.lay_place.Statement.{statement}

@@ -1,7 +1,7 @@
 -- What was taken apart is what the definition has; its cuts are right and its text has room. Assumes nothing.
 use native.Mathlib.Omega.{arith}
 use denote.Ref.{now}
-use Rattle.replay_text.specs.Lines.{badLine}
+use Rattle.lines.specs.Lines.{badLine}
 use Rattle.replay_text.specs.ReplayCalls.{Taken, taken-bytes, taken-cuts, taken-cut, taken-lays, bad-lays}
 use borrow.Author.Needs.{needs}
 use Rattle.replay_text.proofs.replay.written.Statement.{statement}

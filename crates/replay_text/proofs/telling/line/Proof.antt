@@ -14,7 +14,7 @@ use Rattle.leaves.proofs.refusal.Refusal.{the-type}
 use Rattle.records_rules.specs.Machine.{Answer, says, end, record-at, damage-at}
 use Rattle.records_rules.specs.State.{answerOf}
 use Rattle.records.specs.Merge.{turnOf}
-use Rattle.replay_text.specs.Lines.{endLine}
+use Rattle.lines.specs.Lines.{endLine}
 use Rattle.replay_text.specs.Telling.{line-record, line-end, line-damage}
 use Rattle.replay_text.proofs.telling.line.Statement.{statement}
 use Rattle.replay_text.proofs.telling.line.Tie as tie

@@ -1,0 +1,99 @@
+-- What a match on an answer gives at the door, one law a case. Assumes nothing.
+use Prim.Native.Nat.{ℕ}
+use mathlib.Core.Path.{_≡_, refl, sym, ap, _∙_}
+use mathlib.Core.Bool.{cond}
+use mathlib.Core.List.{List}
+use lib.Dec.{ltb}
+use lib.ListN.{length, getD}
+use Rattle.theory.specs.Answer.{Answer, answer}
+use Rattle.leaves.specs.Refusal.{numberOf, valuesOf, refused}
+use Rattle.leaves.specs.declared.refusal.Refusal.{Refusal}
+use Rattle.leaves.specs.declared.refusal.Refusal.the-variants.{Reversed, NoRoom, UnknownSymbol, BadName, NoNameRoom, Differ, Conflict, NotNumber, NoInstrumentId, OutsideQuery, NoDate, BadStreams, Damaged, IllFormed, BadMemory}
+use Rattle.door_answers.specs.Answers.{numberIn, valueIn, givenIn, damageIn, eitherIn}
+
+-- ---- a refusal
+
+-- every refusal has a number of its own, so what was held stays
+pub refused-value : (r : Refusal) (held k : ℕ) → valueIn held k (refused r) ≡ held
+unfolding valueIn
+refused-value Reversed held k = refl
+refused-value NoRoom held k = refl
+refused-value UnknownSymbol held k = refl
+refused-value BadName held k = refl
+refused-value NoNameRoom held k = refl
+refused-value (Differ field) held k = refl
+refused-value Conflict held k = refl
+refused-value NotNumber held k = refl
+refused-value NoInstrumentId held k = refl
+refused-value OutsideQuery held k = refl
+refused-value NoDate held k = refl
+refused-value BadStreams held k = refl
+refused-value (Damaged stream place reason) held k = refl
+refused-value IllFormed held k = refl
+refused-value BadMemory held k = refl
+
+refused-given : (r : Refusal) (held k : ℕ) → givenIn held k (refused r) ≡ held
+unfolding givenIn
+refused-given Reversed held k = refl
+refused-given NoRoom held k = refl
+refused-given UnknownSymbol held k = refl
+refused-given BadName held k = refl
+refused-given NoNameRoom held k = refl
+refused-given (Differ field) held k = refl
+refused-given Conflict held k = refl
+refused-given NotNumber held k = refl
+refused-given NoInstrumentId held k = refl
+refused-given OutsideQuery held k = refl
+refused-given NoDate held k = refl
+refused-given BadStreams held k = refl
+refused-given (Damaged stream place reason) held k = refl
+refused-given IllFormed held k = refl
+refused-given BadMemory held k = refl
+
+-- ---- a match
+
+-- an answer that is known to be a case is what the case says
+pub told : {X : Type 0} (f : X → Answer) {x y : X} {a : Answer} → f x ≡ a → x ≡ y → f y ≡ a
+told f e w = sym (ap f w) ∙ e
+
+module _ {a : Answer} where
+  -- a done call returns 0, and hands its values over
+  pub done-number : {values : List ℕ} → answer 0 values ≡ a → 0 ≡ numberIn a
+  unfolding numberIn
+  done-number e = ap numberIn e
+
+  pub done-value : {values : List ℕ} (held k : ℕ) → answer 0 values ≡ a → getD values k 0 ≡ valueIn held k a
+  unfolding valueIn
+  done-value held k e = ap (valueIn held k) e
+
+  pub done-given : {values : List ℕ} (held k : ℕ) → answer 0 values ≡ a → cond (ltb k (length values)) 1 0 ≡ givenIn held k a
+  unfolding givenIn
+  done-given held k e = ap (givenIn held k) e
+
+  -- a refused call returns the refusal's number, and leaves what was held
+  pub not-number : (r : Refusal) {n : ℕ} → n ≡ numberOf r → refused r ≡ a → n ≡ numberIn a
+  unfolding numberIn
+  not-number r f e = f ∙ ap numberIn e
+
+  pub not-value : (r : Refusal) (held k : ℕ) → refused r ≡ a → held ≡ valueIn held k a
+  not-value r held k e = sym (refused-value r held k) ∙ ap (valueIn held k) e
+
+  pub not-given : (r : Refusal) (held k : ℕ) → refused r ≡ a → held ≡ givenIn held k a
+  not-given r held k e = sym (refused-given r held k) ∙ ap (givenIn held k) e
+
+  -- damage: a done call leaves what was held; a refused one hands over what comes with the refusal
+  pub done-damage : {values : List ℕ} (held k : ℕ) → answer 0 values ≡ a → held ≡ damageIn held k a
+  unfolding damageIn
+  done-damage held k e = ap (damageIn held k) e
+
+  pub done-either : {values : List ℕ} (held k : ℕ) → answer 0 values ≡ a → getD values k 0 ≡ eitherIn held k a
+  unfolding valueIn damageIn eitherIn
+  done-either held k e = ap (eitherIn held k) e
+
+  pub not-damage : (r : Refusal) (held k : ℕ) {n : ℕ} → n ≡ damageIn held k (refused r) → refused r ≡ a → n ≡ damageIn held k a
+  not-damage r held k f e = f ∙ ap (damageIn held k) e
+
+  pub not-either : (r : Refusal) (held k : ℕ) {n : ℕ} → n ≡ damageIn held k (refused r) → refused r ≡ a → n ≡ eitherIn held k a
+  unfolding eitherIn
+  not-either r held k f e =
+      f ∙ ap (λ (h : ℕ). damageIn h k (refused r)) (sym (refused-value r held k)) ∙ ap (eitherIn held k) e

@@ -1,0 +1,108 @@
+// Both builds from metadata at the C door (01, The map over time). A metadata is fourteen words, its header, and five lists of words,
+// as in the metadata merge. A build discards what the table held; a refused one leaves it empty, 0 in every place.
+use door_map::BAD_MEMORY;
+use door_map::DONE;
+use door_answers::header::header_of;
+use door_answers::header::is_header;
+use build_rules::reading::clear;
+use leaves::refusal::number;
+ghost use mathlib.Core.Path.{_≡_};
+ghost use lib.ListN.{length};
+ghost use Rattle.metadata_form.specs.Header.{lists};
+ghost use Rattle.build_time.specs.OverTime.{overTimeAnswer, overTimeMemory};
+ghost use Rattle.build_point.specs.Build.{pointInTimeAnswer, pointInTimeMemory};
+ghost use Rattle.door_builds.specs.Build.{Building};
+
+// Builds a table over time: 0, 15, 14, 9, 3, 8, 11, 1 or 2; `used` becomes the intervals in use, 0 on a refusal.
+#[no_mangle]
+pub extern "C" fn desk_build(
+    table: &mut [u8],
+    used: &mut usize,
+    header: &[u64],
+    symbols: &[u32],
+    partial: &[u32],
+    not_found: &[u32],
+    mappings: &[u32],
+    intervals: &[u32],
+    bytes: &[u8],
+    ends: &[u32],
+    names: usize,
+    size: usize,
+) -> u32
+    ensures { λ r. ⌜ Building (length (now (table .entry))) (now (header .entry)) (λ h. overTimeAnswer (now (table .entry)) h (lists (now (symbols .entry)) (now (partial .entry)) (now («not_found» .entry)) (now (mappings .entry)) (now (intervals .entry))) (now (bytes .entry)) (now (ends .entry)) names size) (λ h. overTimeMemory (now (table .entry)) h (lists (now (symbols .entry)) (now (partial .entry)) (now («not_found» .entry)) (now (mappings .entry)) (now (intervals .entry))) (now (bytes .entry)) (now (ends .entry)) names size) r (now (used .exit)) (now (table .exit)) ⌝ }
+{
+    *used = 0;
+    if !is_header(header) {
+        clear(table);
+        return BAD_MEMORY;
+    }
+    let h = header_of(header);
+    let built = build_time::over_time::over_time(
+        table,
+        h,
+        symbols,
+        partial,
+        not_found,
+        mappings,
+        intervals,
+        bytes,
+        ends,
+        names,
+        size,
+    );
+    match built {
+        build_time::over_time::Built::Done(n) => {
+            *used = n;
+            DONE
+        }
+        build_time::over_time::Built::Refused(refusal) => number(refusal),
+    }
+}
+
+// Builds a point-in-time table for a date: 0, 15, 14, 11, 9, 10, 3, 8 or 2; `used` becomes the entries in use, 0 on a refusal.
+#[no_mangle]
+pub extern "C" fn desk_build_points(
+    table: &mut [u8],
+    used: &mut usize,
+    header: &[u64],
+    symbols: &[u32],
+    partial: &[u32],
+    not_found: &[u32],
+    mappings: &[u32],
+    intervals: &[u32],
+    bytes: &[u8],
+    ends: &[u32],
+    names: usize,
+    size: usize,
+    date: u32,
+) -> u32
+    ensures { λ r. ⌜ Building (length (now (table .entry))) (now (header .entry)) (λ h. pointInTimeAnswer (length (now (table .entry))) h (lists (now (symbols .entry)) (now (partial .entry)) (now («not_found» .entry)) (now (mappings .entry)) (now (intervals .entry))) (now (bytes .entry)) (now (ends .entry)) names size date) (λ h. pointInTimeMemory (length (now (table .entry))) h (lists (now (symbols .entry)) (now (partial .entry)) (now («not_found» .entry)) (now (mappings .entry)) (now (intervals .entry))) (now (bytes .entry)) (now (ends .entry)) names size date) r (now (used .exit)) (now (table .exit)) ⌝ }
+{
+    *used = 0;
+    if !is_header(header) {
+        clear(table);
+        return BAD_MEMORY;
+    }
+    let h = header_of(header);
+    let built = build_point::build::point_in_time(
+        table,
+        h,
+        symbols,
+        partial,
+        not_found,
+        mappings,
+        intervals,
+        bytes,
+        ends,
+        names,
+        size,
+        date,
+    );
+    match built {
+        build_point::build::Built::Done(n) => {
+            *used = n;
+            DONE
+        }
+        build_point::build::Built::Refused(refusal) => number(refusal),
+    }
+}

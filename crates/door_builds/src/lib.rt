@@ -1,0 +1,2 @@
+// Both builds exported to C.
+pub mod build;

@@ -1,0 +1,2 @@
+pub mod Merger
+pub mod MergerLaws

@@ -1,0 +1,2 @@
+// The metadata merge exported to C.
+pub mod merger;

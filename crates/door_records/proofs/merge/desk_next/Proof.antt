@@ -1,0 +1,141 @@
+-- Each arm of the match is what its case says. Assumes nothing.
+use mathlib.Core.Path.{refl}
+use Rattle.records.specs.Merge.{turnOf}
+use Rattle.door_answers.specs.AnswersLaws.{told}
+use Rattle.door_records.specs.MergeLaws.{handed-record, handed-end, handed-not}
+use borrow.Author.Needs.{needs}
+use Rattle.door_records.proofs.merge.desk_next.Statement.{statement}
+use Rattle.door_records.proofs.merge.desk_next.Tie as tie
+
+next-requires : tie.Need-next-requires
+next-requires c κs = search needs
+
+enum-known-answer : tie.Need-enum-known-answer
+enum-known-answer c = search needs
+
+enum-told : tie.Need-enum-told
+enum-told c = search needs
+
+enum-known-answer-2 : tie.Need-enum-known-answer-2
+enum-known-answer-2 c = search needs
+
+stream-in-requires : tie.Need-stream-in-requires
+stream-in-requires c κs = search needs
+
+place-in-requires : tie.Need-place-in-requires
+place-in-requires c κs = search needs
+
+reason-in-requires : tie.Need-reason-in-requires
+reason-in-requires c κs = search needs
+
+number-requires : tie.Need-number-requires
+number-requires c κs = search needs
+
+same-length : tie.Need-same-length
+same-length c = search needs
+
+same-length-2 : tie.Need-same-length-2
+same-length-2 c = search needs
+
+same-length-3 : tie.Need-same-length-3
+same-length-3 c = search needs
+
+same-length-4 : tie.Need-same-length-4
+same-length-4 c = search needs
+
+same-length-5 : tie.Need-same-length-5
+same-length-5 c = search needs
+
+returns : tie.Need-returns
+returns c =
+    let a = c .before .before .before .before .before .before .before .before .before .before .before .before .before .before .before .before .before .before .before .before .before .before .before .before .before .before .before .args in (
+      λ w.
+          let x = c .before .before .before .before .before .before .before .before .before .before .before .before .before .next .ensures .1 .0 w in
+          (handed-record (a .found .now) (a .stream .now) (a .place .now) (a .long .now) (a .kind .now) (a .instrument .now) (a .time .now) (a .reason .now) (told turnOf (x .0) (c .before .answer .given .1)), x .1, x .2),
+      λ w n h s.
+          let x = c .before .before .before .before .before .before .before .before .before .before .before .before .before .next .ensures .1 .1 w n h s in
+          (handed-record (a .found .now) (a .stream .now) (a .place .now) (a .long .now) (a .kind .now) (a .instrument .now) (a .time .now) (a .reason .now) (told turnOf (x .heard) (c .before .answer .given .1)), record { heard = refl; leaves = x .leaves; sound = x .sound }),
+    )
+
+same-length-6 : tie.Need-same-length-6
+same-length-6 c = search needs
+
+same-length-7 : tie.Need-same-length-7
+same-length-7 c = search needs
+
+same-length-8 : tie.Need-same-length-8
+same-length-8 c = search needs
+
+same-length-9 : tie.Need-same-length-9
+same-length-9 c = search needs
+
+same-length-10 : tie.Need-same-length-10
+same-length-10 c = search needs
+
+returns-2 : tie.Need-returns-2
+returns-2 c =
+    let a = c .before .before .before .before .before .before .before .before .before .before .before .before .before .before .before .before .before .before .before .before .before .before .before .before .before .before .args in (
+      λ w.
+          let x = c .before .before .before .before .before .before .before .before .before .before .before .before .next .ensures .1 .0 w in
+          (handed-end (a .found .now) (a .stream .now) (a .place .now) (a .long .now) (a .kind .now) (a .instrument .now) (a .time .now) (a .reason .now) (told turnOf (x .0) (c .enum-told .given .1)), x .1, x .2),
+      λ w n h s.
+          let x = c .before .before .before .before .before .before .before .before .before .before .before .before .next .ensures .1 .1 w n h s in
+          (handed-end (a .found .now) (a .stream .now) (a .place .now) (a .long .now) (a .kind .now) (a .instrument .now) (a .time .now) (a .reason .now) (told turnOf (x .heard) (c .enum-told .given .1)), record { heard = refl; leaves = x .leaves; sound = x .sound }),
+    )
+
+same-length-11 : tie.Need-same-length-11
+same-length-11 c = search needs
+
+same-length-12 : tie.Need-same-length-12
+same-length-12 c = search needs
+
+same-length-13 : tie.Need-same-length-13
+same-length-13 c = search needs
+
+same-length-14 : tie.Need-same-length-14
+same-length-14 c = search needs
+
+same-length-15 : tie.Need-same-length-15
+same-length-15 c = search needs
+
+returns-3 : tie.Need-returns-3
+returns-3 c =
+    let a = c .before .before .before .before .before .before .before .before .before .before .before .before .before .before .before .before .before .before .before .before .before .before .before .before .before .before .before .before .before .before .before .before .before .before .args in (
+      λ w.
+          let x = c .before .before .before .before .before .before .before .before .before .before .before .before .before .before .before .before .before .before .before .before .next .ensures .1 .0 w in
+          (handed-not (a .found .now) (a .stream .now) (a .place .now) (a .long .now) (a .kind .now) (a .instrument .now) (a .time .now) (a .reason .now) (c .before .before .before .before .before .before .before .before .answer2 .given .0 .0) (c .number .ensures) (c .before .before .before .before .before .stream-in .ensures) (c .before .before .before .place-in .ensures) (c .before .reason-in .ensures) (told turnOf (x .0) (c .before .before .before .before .before .before .before .before .answer2 .given .1)), x .1, x .2),
+      λ w n h s.
+          let x = c .before .before .before .before .before .before .before .before .before .before .before .before .before .before .before .before .before .before .before .before .next .ensures .1 .1 w n h s in
+          (handed-not (a .found .now) (a .stream .now) (a .place .now) (a .long .now) (a .kind .now) (a .instrument .now) (a .time .now) (a .reason .now) (c .before .before .before .before .before .before .before .before .answer2 .given .0 .0) (c .number .ensures) (c .before .before .before .before .before .stream-in .ensures) (c .before .before .before .place-in .ensures) (c .before .reason-in .ensures) (told turnOf (x .heard) (c .before .before .before .before .before .before .before .before .answer2 .given .1)), record { heard = refl; leaves = x .leaves; sound = x .sound }),
+    )
+
+pub desk-next-spec : {M : Type 1} → statement M
+desk-next-spec =
+    tie.close
+    (tie.spec
+    next-requires
+    enum-known-answer
+    enum-told
+    enum-known-answer-2
+    stream-in-requires
+    place-in-requires
+    reason-in-requires
+    number-requires
+    same-length
+    same-length-2
+    same-length-3
+    same-length-4
+    same-length-5
+    returns
+    same-length-6
+    same-length-7
+    same-length-8
+    same-length-9
+    same-length-10
+    returns-2
+    same-length-11
+    same-length-12
+    same-length-13
+    same-length-14
+    same-length-15
+    returns-3)

@@ -1,0 +1,2 @@
+// The record merge exported to C.
+pub mod merge;

@@ -1,0 +1,136 @@
+// The record merge at the C door (01, Merging records). Its state stands in five arrays of 256 places that the caller lends, and in
+// the number of streams that the heap holds.
+use door_map::DONE;
+use door_answers::damage::place_in;
+use door_answers::damage::reason_in;
+use door_answers::damage::stream_in;
+use leaves::refusal::number;
+use records::merge::Opening;
+use records::merge::Turn;
+ghost use mathlib.Core.Path.{_≡_};
+ghost use mathlib.Core.Bool.{true, false, _&&_};
+ghost use mathlib.Core.List.{[]};
+ghost use Prim.Native.Nat.{ℕ, _-_, _≤_};
+ghost use lib.ListN.{length};
+ghost use Rattle.theory.specs.Answer.{answer};
+ghost use Rattle.records_rules.specs.Bytes.{streamsOf};
+ghost use Rattle.records_rules.specs.State.{rightMemory, rightStreams, opening, Untouched, Opened, StateOk, Says};
+ghost use Rattle.door_answers.specs.Answers.{numberIn, valueIn};
+ghost use Rattle.door_records.specs.Merge.{turnAnswer, Handed};
+
+// Opens the streams of a buffer between its cuts, each at its hint: 0, 15 or 12; `streams` and `held` become the streams, and those
+// that the heap holds.
+#[no_mangle]
+pub extern "C" fn desk_open(
+    buffer: &[u8],
+    cuts: &[u64],
+    hints: &[u64],
+    marks: &mut [u8],
+    times: &mut [u64],
+    places: &mut [u64],
+    heads: &mut [u64],
+    heap: &mut [u8],
+    streams: &mut usize,
+    held: &mut usize,
+) -> u32
+    ensures { λ r. ⌜ r ≡ numberIn (opening (rightMemory 0 (length (now (marks .entry))) (length (now (times .entry))) (length (now (places .entry))) (length (now (heads .entry))) (length (now (heap .entry))))
+        (rightStreams (length (now (buffer .entry))) (now (cuts .entry)) (length (now (hints .entry)))) (length (now (cuts .entry)) - 1)) ⌝ }
+    ensures { λ _. ⌜ now (streams .exit) ≡ valueIn (now (streams .entry)) 0 (opening (rightMemory 0 (length (now (marks .entry))) (length (now (times .entry))) (length (now (places .entry))) (length (now (heads .entry))) (length (now (heap .entry))))
+        (rightStreams (length (now (buffer .entry))) (now (cuts .entry)) (length (now (hints .entry)))) (length (now (cuts .entry)) - 1)) ⌝ }
+    ensures { λ _. ⌜ now (held .exit) ≡ valueIn (now (held .entry)) 1 (opening (rightMemory 0 (length (now (marks .entry))) (length (now (times .entry))) (length (now (places .entry))) (length (now (heads .entry))) (length (now (heap .entry))))
+        (rightStreams (length (now (buffer .entry))) (now (cuts .entry)) (length (now (hints .entry)))) (length (now (cuts .entry)) - 1)) ⌝ }
+    ensures { λ r. ⌜ ((rightMemory 0 (length (now (marks .entry))) (length (now (times .entry))) (length (now (places .entry))) (length (now (heads .entry))) (length (now (heap .entry)))
+        && rightStreams (length (now (buffer .entry))) (now (cuts .entry)) (length (now (hints .entry)))) ≡ false
+        → Untouched (now (marks .entry)) (now (times .entry)) (now (places .entry)) (now (heads .entry)) (now (heap .entry)) (now (marks .exit)) (now (times .exit)) (now (places .exit)) (now (heads .exit)) (now (heap .exit))) ⌝ }
+    ensures { λ r. ⌜ ((rightMemory 0 (length (now (marks .entry))) (length (now (times .entry))) (length (now (places .entry))) (length (now (heads .entry))) (length (now (heap .entry)))
+        && rightStreams (length (now (buffer .entry))) (now (cuts .entry)) (length (now (hints .entry)))) ≡ true
+        → Opened (length (now (cuts .entry)) - 1) (now (hints .entry)) (now (marks .exit)) (now (times .exit)) (now (places .exit)) (now (heads .exit)) (now (heap .exit))) ⌝ }
+{
+    let opened = records::merge::open(buffer, cuts, hints, marks, times, places, heads, heap);
+    match opened {
+        Opening::Opened {
+            streams: count,
+            held: in_heap,
+        } => {
+            *streams = count;
+            *held = in_heap;
+            DONE
+        }
+        Opening::Refused(refusal) => number(refusal),
+    }
+}
+
+// The next record, the damage of a stream, or the end, on the buffer and the cuts of the opening: 0, 13 or 15. A record has `found`
+// 1, the end 0 and every number 0; 13 sets stream, place and reason alone.
+#[no_mangle]
+pub extern "C" fn desk_next(
+    buffer: &[u8],
+    cuts: &[u64],
+    marks: &mut [u8],
+    times: &mut [u64],
+    places: &mut [u64],
+    heads: &mut [u64],
+    heap: &mut [u8],
+    held: &mut usize,
+    found: &mut u32,
+    stream: &mut u64,
+    place: &mut u64,
+    long: &mut u16,
+    kind: &mut u16,
+    instrument: &mut u32,
+    time: &mut u64,
+    reason: &mut u64,
+) -> u32
+    ensures { λ r. ⌜ (rightMemory (now (held .entry)) (length (now (marks .entry))) (length (now (times .entry))) (length (now (places .entry))) (length (now (heads .entry))) (length (now (heap .entry))) ≡ false
+        → Handed (answer 15 []) r (now (found .entry)) (now (stream .entry)) (now (place .entry)) (now (long .entry)) (now (kind .entry)) (now (instrument .entry)) (now (time .entry)) (now (reason .entry))
+        (now (found .exit)) (now (stream .exit)) (now (place .exit)) (now (long .exit)) (now (kind .exit)) (now (instrument .exit)) (now (time .exit)) (now (reason .exit))
+        × (now (held .exit) ≡ now (held .entry))
+        × Untouched (now (marks .entry)) (now (times .entry)) (now (places .entry)) (now (heads .entry)) (now (heap .entry)) (now (marks .exit)) (now (times .exit)) (now (places .exit)) (now (heads .exit)) (now (heap .exit))) ⌝ }
+    ensures { λ r. ⌜ (rightMemory (now (held .entry)) (length (now (marks .entry))) (length (now (times .entry))) (length (now (places .entry))) (length (now (heads .entry))) (length (now (heap .entry))) ≡ true
+        → (n : ℕ) → n ≤ 256 → StateOk n (now (held .entry)) (now (marks .entry)) (now (times .entry)) (now (places .entry)) (now (heads .entry)) (now (heap .entry))
+        → Handed (turnAnswer (streamsOf (now (buffer .entry)) (now (cuts .entry))) n (now (marks .entry)) (now (times .entry)) (now (places .entry)) (now (heads .entry)))
+        r (now (found .entry)) (now (stream .entry)) (now (place .entry)) (now (long .entry)) (now (kind .entry)) (now (instrument .entry)) (now (time .entry)) (now (reason .entry))
+        (now (found .exit)) (now (stream .exit)) (now (place .exit)) (now (long .exit)) (now (kind .exit)) (now (instrument .exit)) (now (time .exit)) (now (reason .exit))
+        × Says (streamsOf (now (buffer .entry)) (now (cuts .entry))) n (now (marks .entry)) (now (times .entry)) (now (places .entry)) (now (heads .entry))
+        (turnAnswer (streamsOf (now (buffer .entry)) (now (cuts .entry))) n (now (marks .entry)) (now (times .entry)) (now (places .entry)) (now (heads .entry)))
+        (now (held .exit)) (now (marks .exit)) (now (times .exit)) (now (places .exit)) (now (heads .exit)) (now (heap .exit))) ⌝ }
+{
+    let turned = records::merge::next(buffer, cuts, *held, marks, times, places, heads, heap);
+    *held = turned.held;
+    let answer = turned.answer;
+    match answer {
+        Turn::Record {
+            stream: s,
+            place: p,
+            length: l,
+            kind: k,
+            instrument: i,
+            time: t,
+        } => {
+            *found = 1;
+            *stream = s;
+            *place = p;
+            *long = l;
+            *kind = k;
+            *instrument = i;
+            *time = t;
+            DONE
+        }
+        Turn::End => {
+            *found = 0;
+            *stream = 0;
+            *place = 0;
+            *long = 0;
+            *kind = 0;
+            *instrument = 0;
+            *time = 0;
+            DONE
+        }
+        Turn::Refused(refusal) => {
+            *stream = stream_in(refusal, *stream);
+            *place = place_in(refusal, *place);
+            *reason = reason_in(refusal, *reason);
+            number(refusal)
+        }
+    }
+}

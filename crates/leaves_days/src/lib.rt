@@ -1,0 +1,2 @@
+// Days and dates (01, Names, numbers, days).
+pub mod days;

@@ -1,0 +1,324 @@
+// Names: document 01, "Names, numbers, days". A name list is lent memory: the names' bytes, one name after another, and where each
+// name ends; how many names and how many bytes are in use goes by value. Name n lies from the end of the one before it to its own end.
+ghost use mathlib.Core.Path.{_≡_};
+ghost use mathlib.Core.Bool.{true};
+ghost use Prim.Native.Nat.{_+_, _-_, _<_, _≤_};
+ghost use lib.ListN.{length, set};
+ghost use lib.Seq.{slice};
+ghost use Rattle.leaves_names.specs.Names.{startOf, endOf, namesOf, isName, wellFormed, memoryOk, same, least, hasRoom, written, checkedOf, checkNames, naming, namedOf, namingAnswer, bytesAfter, endsAfter, placedOf, placeOfName};
+ghost use Rattle.leaves_names.specs.NamesLaws.{standing, Ordered};
+use leaves::refusal::Refusal;
+use crate::utf8::is_utf8_within;
+
+// The most names.
+pub const NAMES: usize = 4096;
+// The most bytes of all names together.
+pub const NAME_BYTES: usize = 65536;
+// The most bytes of one name.
+pub const NAME_SIZE: usize = 255;
+
+// What a check of a name list answers.
+pub enum Checked {
+    Done,
+    Refused(Refusal),
+}
+
+// What becomes of a name: it has this number, it is new and gets this number, or it is refused.
+pub enum Naming {
+    Old(u32),
+    New(u32),
+    Refused(Refusal),
+}
+
+// What naming answers: the name's number, then the names and the bytes in use.
+pub enum Named {
+    Number {
+        number: u32,
+        names: usize,
+        used: usize,
+    },
+    Refused(Refusal),
+}
+
+// Where a name lies: its first byte, and the first past its end.
+pub enum Placed {
+    At { first: usize, end: usize },
+    Refused(Refusal),
+}
+
+// An end as a place.
+fn place(x: u32) -> usize
+    ensures { λ r. ⌜ (r ≡ x) × (r < 4294967296) ⌝ }
+{
+    x as usize
+}
+
+// Whether lent memory of so many bytes and places is within the limits, and the numbers in use within the memory.
+pub fn is_memory(bytes: usize, places: usize, names: usize, used: usize) -> bool
+    ensures { λ r. ⌜ r ≡ memoryOk bytes places names used ⌝ }
+{
+    if NAMES < places {
+        return false;
+    }
+    if NAME_BYTES < bytes {
+        return false;
+    }
+    if places < names {
+        return false;
+    }
+    used <= bytes
+}
+
+// Whether the bytes from `from` to before `to` are a name: at most 255 bytes of UTF-8.
+pub fn is_name(text: &[u8], from: usize, to: usize) -> bool
+    requires { ⌜ (from ≤ to) × (to ≤ length (now text)) ⌝ }
+    ensures { λ r. ⌜ r ≡ isName (slice from to (now (text .entry))) ⌝ }
+{
+    if NAME_SIZE < to - from {
+        return false;
+    }
+    is_utf8_within(text, from, to)
+}
+
+// Whether a name lies from `start` to `end`, within the bytes in use.
+fn stands(bytes: &[u8], used: usize, start: usize, end: usize) -> bool
+    requires { ⌜ used ≤ length (now bytes) ⌝ }
+    ensures { λ r. ⌜ r ≡ standing (now (bytes .entry)) used start end ⌝ }
+{
+    if end < start {
+        return false;
+    }
+    if used < end {
+        return false;
+    }
+    is_name(bytes, start, end)
+}
+
+// Whether valid names stand one after another, up to the end of the bytes in use.
+pub fn is_list(bytes: &[u8], ends: &[u32], names: usize, used: usize) -> bool
+    requires { ⌜ (names ≤ length (now ends)) × (used ≤ length (now bytes)) ⌝ }
+    ensures { λ r. ⌜ r ≡ wellFormed (now (bytes .entry)) (now (ends .entry)) names used ⌝ }
+{
+    let mut start = 0;
+    let mut n = 0;
+    while n < names {
+        let end = place(ends[n]);
+        if stands(bytes, used, start, end) {
+            start = end;
+            n += 1;
+        } else {
+            return false;
+        }
+    }
+    start == used
+}
+
+// Whether the name list is well-formed: done, 15 or 14.
+pub fn check_names(bytes: &[u8], ends: &[u32], names: usize, used: usize) -> Checked
+    ensures { λ r. ⌜ checkedOf r ≡ checkNames (now (bytes .entry)) (now (ends .entry)) names used ⌝ }
+{
+    if !is_memory(bytes.len(), ends.len(), names, used) {
+        return Checked::Refused(Refusal::BadMemory);
+    }
+    if is_list(bytes, ends, names, used) {
+        Checked::Done
+    } else {
+        Checked::Refused(Refusal::IllFormed)
+    }
+}
+
+// Whether the bytes from `start` to before `end` are the text's bytes from `from` to before `to`.
+fn is_same(bytes: &[u8], start: usize, end: usize, text: &[u8], from: usize, to: usize) -> bool
+    requires { ⌜ (start ≤ end) × (end ≤ length (now bytes)) × (from ≤ to) × (to ≤ length (now text)) ⌝ }
+    ensures { λ r. ⌜ r ≡ same (slice from to (now (text .entry))) (slice start end (now (bytes .entry))) ⌝ }
+{
+    let size = to - from;
+    if end - start != size {
+        return false;
+    }
+    let mut i = 0;
+    while i < size {
+        if bytes[start + i] == text[from + i] {
+            i += 1;
+        } else {
+            return false;
+        }
+    }
+    true
+}
+
+// The least number of a name equal to the text's bytes from `from` to before `to`; as many as there are names where none is.
+pub fn find_name(
+    bytes: &[u8],
+    ends: &[u32],
+    names: usize,
+    text: &[u8],
+    from: usize,
+    to: usize,
+) -> usize
+    requires { ⌜ Ordered (now bytes) (now ends) names ⌝ }
+    requires { ⌜ (from ≤ to) × (to ≤ length (now text)) ⌝ }
+    ensures { λ r. ⌜ r ≡ least (slice from to (now (text .entry))) (namesOf (now (bytes .entry)) (now (ends .entry)) names) ⌝ }
+{
+    let mut start = 0;
+    let mut n = 0;
+    while n < names {
+        let end = place(ends[n]);
+        if is_same(bytes, start, end, text, from, to) {
+            return n;
+        }
+        start = end;
+        n += 1;
+    }
+    names
+}
+
+// Whether one name more, of so many bytes, passes neither a limit nor the room lent.
+pub fn has_room(bytes: usize, places: usize, names: usize, used: usize, size: usize) -> bool
+    requires { ⌜ memoryOk bytes places names used ≡ true ⌝ }
+    ensures { λ r. ⌜ r ≡ hasRoom bytes places names used size ⌝ }
+{
+    if places <= names {
+        return false;
+    }
+    size <= bytes - used
+}
+
+// Writes the text's bytes from `from` to before `to` at place `at`.
+fn copy(bytes: &mut [u8], at: usize, text: &[u8], from: usize, to: usize)
+    requires { ⌜ (from ≤ to) × (to ≤ length (now text)) × (at + (to - from) ≤ length (now bytes)) ⌝ }
+    ensures { λ _. ⌜ now (bytes .exit) ≡ written (now (bytes .entry)) at (slice from to (now (text .entry))) ⌝ }
+{
+    let size = to - from;
+    let mut i = 0;
+    while i < size {
+        bytes[at + i] = text[from + i];
+        i += 1;
+    }
+}
+
+// Adds the text's bytes from `from` to before `to` as a new name, and answers the bytes then in use.
+pub fn add_name(
+    bytes: &mut [u8],
+    ends: &mut [u32],
+    names: usize,
+    used: usize,
+    text: &[u8],
+    from: usize,
+    to: usize,
+) -> usize
+    requires { ⌜ (from ≤ to) × (to ≤ length (now text)) ⌝ }
+    requires { ⌜ (names < length (now ends)) × (used + (to - from) ≤ length (now bytes)) × (used + (to - from) < 4294967296) ⌝ }
+    ensures { λ r. ⌜ r ≡ used + (to - from) ⌝ }
+    ensures { λ _. ⌜ now (bytes .exit) ≡ written (now (bytes .entry)) used (slice from to (now (text .entry))) ⌝ }
+    ensures { λ _. ⌜ now (ends .exit) ≡ set (now (ends .entry)) names (used + (to - from)) ⌝ }
+{
+    let end = used + (to - from);
+    copy(bytes, used, text, from, to);
+    ends[names] = end as u32;
+    end
+}
+
+// What becomes of the name that the text's bytes from `from` to before `to` are: its number, a new one, or 15, 14, 4, 5.
+pub fn judge_name(
+    bytes: &[u8],
+    ends: &[u32],
+    names: usize,
+    used: usize,
+    text: &[u8],
+    from: usize,
+    to: usize,
+) -> Naming
+    requires { ⌜ (from ≤ to) × (to ≤ length (now text)) ⌝ }
+    ensures { λ r. ⌜ r ≡ naming (now (bytes .entry)) (now (ends .entry)) names used (slice from to (now (text .entry))) ⌝ }
+{
+    if !is_memory(bytes.len(), ends.len(), names, used) {
+        return Naming::Refused(Refusal::BadMemory);
+    }
+    if !is_list(bytes, ends, names, used) {
+        return Naming::Refused(Refusal::IllFormed);
+    }
+    if !is_name(text, from, to) {
+        return Naming::Refused(Refusal::BadName);
+    }
+    let number = find_name(bytes, ends, names, text, from, to);
+    if number < names {
+        return Naming::Old(number as u32);
+    }
+    if has_room(bytes.len(), ends.len(), names, used, to - from) {
+        Naming::New(names as u32)
+    } else {
+        Naming::Refused(Refusal::NoNameRoom)
+    }
+}
+
+// The number of a name: the least with equal bytes, else the next new one, which joins the list; or 15, 14, 4, 5.
+pub fn number_of(
+    bytes: &mut [u8],
+    ends: &mut [u32],
+    names: usize,
+    used: usize,
+    text: &[u8],
+) -> Named
+    ensures { λ r. ⌜ namedOf r ≡ namingAnswer names used (now (text .entry)) (naming (now (bytes .entry)) (now (ends .entry)) names used (now (text .entry))) ⌝ }
+    ensures { λ _. ⌜ now (bytes .exit) ≡ bytesAfter (now (bytes .entry)) used (now (text .entry)) (naming (now (bytes .entry)) (now (ends .entry)) names used (now (text .entry))) ⌝ }
+    ensures { λ _. ⌜ now (ends .exit) ≡ endsAfter (now (ends .entry)) names used (now (text .entry)) (naming (now (bytes .entry)) (now (ends .entry)) names used (now (text .entry))) ⌝ }
+{
+    let size = text.len();
+    let judged = judge_name(bytes, ends, names, used, text, 0, size);
+    match judged {
+        Naming::Old(number) => Named::Number {
+            number,
+            names,
+            used,
+        },
+        Naming::New(number) => {
+            let end = add_name(bytes, ends, names, used, text, 0, size);
+            Named::Number {
+                number,
+                names: names + 1,
+                used: end,
+            }
+        }
+        Naming::Refused(refusal) => Named::Refused(refusal),
+    }
+}
+
+// Where a name begins: at 0, or where the one before it ends.
+pub fn name_start(ends: &[u32], number: usize) -> usize
+    requires { ⌜ number ≤ length (now ends) ⌝ }
+    ensures { λ r. ⌜ r ≡ startOf (now (ends .entry)) number ⌝ }
+{
+    if number == 0 {
+        0
+    } else {
+        place(ends[number - 1])
+    }
+}
+
+// Where a name ends.
+pub fn name_end(ends: &[u32], number: usize) -> usize
+    requires { ⌜ number < length (now ends) ⌝ }
+    ensures { λ r. ⌜ r ≡ endOf (now (ends .entry)) number ⌝ }
+{
+    place(ends[number])
+}
+
+// Where a name lies, its first byte and its end; or 15, 14, 3.
+pub fn place_of_name(bytes: &[u8], ends: &[u32], names: usize, used: usize, number: u32) -> Placed
+    ensures { λ r. ⌜ placedOf r ≡ placeOfName (now (bytes .entry)) (now (ends .entry)) names used number ⌝ }
+{
+    if !is_memory(bytes.len(), ends.len(), names, used) {
+        return Placed::Refused(Refusal::BadMemory);
+    }
+    if !is_list(bytes, ends, names, used) {
+        return Placed::Refused(Refusal::IllFormed);
+    }
+    let n = place(number);
+    if names <= n {
+        return Placed::Refused(Refusal::UnknownSymbol);
+    }
+    let first = name_start(ends, n);
+    let end = name_end(ends, n);
+    Placed::At { first, end }
+}

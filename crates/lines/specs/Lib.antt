@@ -1,0 +1,4 @@
+pub mod Sections
+pub mod SectionsLaws
+pub mod Lines
+pub mod LinesLaws

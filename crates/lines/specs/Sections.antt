@@ -1,0 +1,93 @@
+-- A bundle (document 01, "Merging records"): "sections of whole length (4 bytes), kind (2, always 1), then one stream".
+-- All little-endian; a section's whole length counts its own 6 bytes before the stream.
+use mathlib.Core.Path.{_≡_}
+use Prim.Native.Nat.{ℕ, zero, suc, _+_, _≤_, _<_}
+use mathlib.Core.Bool.{Bool, _&&_, cond}
+use mathlib.Core.Option.{Option, none, some}
+use mathlib.Core.List.{List, [], _∷_, _++_}
+use lib.ListN.{length, getD, drop}
+use lib.Seq.{slice}
+use lib.Dec.{leb, eqb}
+use Rattle.theory.specs.Fields.{field}
+use Rattle.lines.specs.declared.sections.Parted.{Parted}
+use Rattle.lines.specs.declared.sections.Parted.the-variants.{Streams, Bad}
+
+-- the whole length that the section at the front of s says
+abbrev pub sizeOf : List ℕ → ℕ
+sizeOf s = field 4 s 0
+
+-- the kind that it says
+abbrev pub kindOf : List ℕ → ℕ
+kindOf s = field 2 s 4
+
+-- a section stands at the front of s: its 6 bytes are there, its length is no less and does not pass the end, its kind is 1
+unfoldable pub whole : List ℕ → Bool
+whole s = leb 6 (length s) && leb 6 (sizeOf s) && leb (sizeOf s) (length s) && eqb (kindOf s) 1
+
+-- its stream: what follows those 6 bytes
+unfoldable pub streamOf : List ℕ → List ℕ
+streamOf s = slice 6 (sizeOf s) s
+
+-- its whole length, 0 where no section stands there
+unfoldable pub sectionSize : List ℕ → ℕ
+unfolding whole
+sectionSize s = cond (whole s) (sizeOf s) 0
+
+-- these streams, and then those
+unfoldable pub ahead : List (List ℕ) → Option (List (List ℕ)) → Option (List (List ℕ))
+ahead xs none = none
+ahead xs (some ys) = some (xs ++ ys)
+
+-- the streams of the sections that s is made of; none where s can't be taken apart. Each section takes 6 bytes at least,
+-- so that a count of the bytes is enough
+unfoldable pub sectionsF : ℕ → List ℕ → Option (List (List ℕ))
+unfolding whole streamOf ahead
+sectionsF zero s = none
+sectionsF (suc f) s =
+    cond (eqb (length s) 0) (some [])
+    (cond (whole s) (ahead (streamOf s ∷ []) (sectionsF f (drop (sizeOf s) s))) none)
+
+unfoldable pub sections : List ℕ → Option (List (List ℕ))
+unfolding sectionsF
+sections s = sectionsF (suc (length s)) s
+
+-- "0 or over 256 sections" are bad
+unfoldable pub few : Option (List (List ℕ)) → Option (List (List ℕ))
+few none = none
+few (some ss) = cond (leb 1 (length ss) && leb (length ss) 256) (some ss) none
+
+-- the streams of a bundle; none: bad ("a bundle it can't take apart, over 60,000 bytes, or with 0 or over 256 sections")
+unfoldable pub streamsIn : List ℕ → Option (List (List ℕ))
+unfolding sections few
+streamsIn b = cond (leb (length b) 60000) (few (sections b)) none
+
+-- ---- what the code makes of it
+
+-- stream p of a buffer that is cut: from cut p up to the next
+unfoldable pub streamAt : List ℕ → List ℕ → ℕ → List ℕ
+streamAt buffer cuts p = slice (getD cuts p 0) (getD cuts (p + 1) 0) buffer
+
+-- the first n streams
+unfoldable pub cutOut : List ℕ → List ℕ → ℕ → List (List ℕ)
+unfolding streamAt
+cutOut buffer cuts zero = []
+cutOut buffer cuts (suc n) = cutOut buffer cuts n ++ (streamAt buffer cuts n ∷ [])
+
+-- the cuts of n streams, of so many bytes: they start at 0, never fall, and end at the count of bytes
+pub record Cuts (cuts : List ℕ) (n bytes : ℕ) : Type 0 where
+  pub first : getD cuts 0 0 ≡ 0
+  pub last : getD cuts n 0 ≡ bytes
+  pub rises : (p : ℕ) → p < n → getD cuts p 0 ≤ getD cuts (p + 1) 0
+
+-- the bundle's streams are those that the cuts mark in the buffer
+pub record Apart (bundle buffer cuts : List ℕ) (n bytes : ℕ) : Type 0 where
+  pub streams : streamsIn bundle ≡ some (cutOut buffer cuts n)
+  pub cut : Cuts cuts n bytes
+  pub some : 0 < n
+  pub few : n ≤ 256
+  pub fits : bytes ≤ 60000
+
+-- what an answer says of the bundle
+abbrev pub PartedOk : List ℕ → List ℕ → List ℕ → Parted → Type 0
+PartedOk bundle buffer cuts (Streams n bytes) = Apart bundle buffer cuts n bytes
+PartedOk bundle buffer cuts Bad = streamsIn bundle ≡ none

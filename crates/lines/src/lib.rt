@@ -1,0 +1,4 @@
+// Lines of text and sections of input, which the programs share.
+pub mod copy;
+pub mod lines;
+pub mod sections;

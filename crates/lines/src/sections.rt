@@ -1,0 +1,76 @@
+// A bundle taken apart into one buffer and cuts (document 01, "Merging records": "sections of whole length (4 bytes),
+// kind (2, always 1), then one stream").
+ghost use mathlib.Core.Path.{_≡_};
+ghost use Prim.Native.Nat.{_+_, _≤_};
+ghost use lib.ListN.{length, getD, drop};
+ghost use Rattle.lines.specs.Sections.{sectionSize, PartedOk};
+
+// A bundle over this many bytes is bad.
+pub const MOST_BYTES: usize = 60000;
+// A bundle with no section, or with more than these, is bad.
+pub const MOST_SECTIONS: usize = 256;
+// A section's head: its whole length (4 bytes) and its kind (2).
+const HEAD: usize = 6;
+// Where in the head the kind stands.
+const KIND_AT: usize = 4;
+// The kind of a section that holds a stream.
+const STREAM: u16 = 1;
+
+// A bundle taken apart: this many streams, of this many bytes in all; or bad.
+pub enum Parted {
+    Streams { count: usize, bytes: usize },
+    Bad,
+}
+
+// The whole length of the section that stands at `at`, or 0 where none stands there.
+fn section_size(bundle: &[u8], at: usize) -> usize
+    requires { ⌜ at ≤ length (now bundle) ⌝ }
+    ensures { λ r. ⌜ r ≡ sectionSize (drop at (now (bundle .entry))) ⌝ }
+{
+    let left = bundle.len() - at;
+    if left < HEAD {
+        return 0;
+    }
+    let size = leaves::fields::u32_at(bundle, at) as usize;
+    if size < HEAD {
+        return 0;
+    }
+    if left < size {
+        return 0;
+    }
+    if leaves::fields::u16_at(bundle, at + KIND_AT) != STREAM {
+        return 0;
+    }
+    size
+}
+
+// Takes a bundle apart: the streams' bytes one after another in the buffer, and where each begins and ends in the cuts.
+pub fn part(bundle: &[u8], buffer: &mut [u8], cuts: &mut [u64]) -> Parted
+    requires { ⌜ (60000 ≤ length (now buffer)) × (257 ≤ length (now cuts)) × (getD (now cuts) 0 0 ≡ 0) ⌝ }
+    ensures { λ r. ⌜ PartedOk (now (bundle .entry)) (now (buffer .exit)) (now (cuts .exit)) r ⌝ }
+{
+    if MOST_BYTES < bundle.len() {
+        return Parted::Bad;
+    }
+    let mut at = 0;
+    let mut bytes = 0;
+    let mut count = 0;
+    while at < bundle.len() {
+        if count == MOST_SECTIONS {
+            return Parted::Bad;
+        }
+        let size = section_size(bundle, at);
+        if size == 0 {
+            return Parted::Bad;
+        }
+        crate::copy::copy(buffer, bytes, bundle, at + HEAD, size - HEAD);
+        bytes += size - HEAD;
+        at += size;
+        count += 1;
+        cuts[count] = bytes as u64;
+    }
+    if count == 0 {
+        return Parted::Bad;
+    }
+    Parted::Streams { count, bytes }
+}

@@ -1,0 +1,5 @@
+// Lookups in the map over time: an instrument's intervals found, the three looks, and the cursor.
+pub mod begin;
+pub mod cursor;
+pub mod lookup;
+pub mod reach;

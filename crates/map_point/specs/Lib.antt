@@ -1,0 +1,5 @@
+pub mod Entries
+pub mod EntriesLaws
+pub mod Points
+pub mod PointsLaws
+pub mod PointsSteps

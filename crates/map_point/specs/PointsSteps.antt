@@ -1,0 +1,487 @@
+-- What the steps of the code on point-in-time tables show: tests, the search, and the stores of an entry. Assumes nothing.
+use mathlib.Core.Path.{_≡_, refl, sym, ap, _∙_}
+use mathlib.Core.Logic.{_≢_}
+use Prim.Native.Nat.{ℕ, zero, suc, _+_, _-_, _*_, _/_, _%_, _≤_, _<_}
+use native.Mathlib.Nat.{zero-add, sub-zero}
+use native.Mathlib.Numerals.{add-one}
+use native.Mathlib.Omega.{arith}
+use mathlib.Core.Bool.{Bool, true, false, not, _&&_, _||_, cond}
+use mathlib.Core.Option.{Option, none, some}
+use mathlib.Core.List.{List, [], _∷_, _++_}
+use lib.ListN.{length, getD, set, take, drop, length-set, length-append}
+use lib.Seq.{set-split}
+use lib.Dec.{T, ltb, leb, eqb, lt→ltb}
+use native.Mathlib.Decide.{decLe}
+use borrow.Author.Tests.{ltb-false, lt-ltb, le-ltb, le-leb, lt-leb, leb-true, ltb-true, eq-eqb, ne-eqb, eqb-true, not-true, not-false}
+use Rattle.theory.specs.Answer.{Answer, answer}
+use Rattle.theory.specs.Fields.{Bytes}
+use Rattle.theory.specs.RunsTools.{cond-case}
+use Rattle.leaves.specs.Refusal.{refused}
+use Rattle.leaves.specs.declared.refusal.Refusal.the-variants.{NoRoom, IllFormed, BadMemory}
+use Rattle.map_rules.specs.Table.{badRoom, badNames}
+use Rattle.map_point.specs.declared.entries.Entry.{Entry}
+use Rattle.map_point.specs.Entries.{entryAt, entriesFrom, entries, putEntry, putEntries}
+use Rattle.map_point.specs.EntriesLaws.{length-entries, getD-entries, entries-cons, take-entries, drop-entries, putEntries-append, putEntries-back, putEntries-comm, entries-put, Small, AllSmall, entries-small}
+use Rattle.map_point.specs.Points.{ahead, rising, allKnown, wellFormed, symbolFor, setEntry, pointsFit, pointsChecked, symbolAnswer, pointFound, hasRoom, storedAnswer, storedBytes, usedThen, entriesThen}
+use Rattle.map_point.specs.PointsLaws.{placeOf, place-is, symbol-at, symbol-none, set-at, set-new}
+
+-- ---- the memory
+
+and-false : (a b : Bool) → b ≡ false → (a && b) ≡ false
+and-false true b e = e
+and-false false b e = refl
+
+pub fit-odd : (bytes used : ℕ) → bytes % 8 ≢ 0 → pointsFit bytes used ≡ false
+unfolding pointsFit
+fit-odd bytes used h = rw (ne-eqb (bytes % 8) 0 h) refl
+
+pub fit-large : (bytes used : ℕ) → 65536 < bytes / 8 → pointsFit bytes used ≡ false
+unfolding pointsFit badRoom
+fit-large bytes used h = and-false (eqb (bytes % 8) 0) (not (badRoom (bytes / 8) used)) (rw (lt-ltb 65536 (bytes / 8) h) refl)
+
+leb-not : (a b : ℕ) → leb a b ≡ not (ltb b a)
+leb-not a b = go (decLe a b)
+  where
+    go : Dec (a ≤ b) → leb a b ≡ not (ltb b a)
+    go (yes h) = rw (le-leb a b h, le-ltb b a h) refl
+    go (no h) =
+        let l : b < a = omega arith in
+        rw (lt-leb a b l, lt-ltb b a l) refl
+
+pub fit-used : (bytes used : ℕ) → bytes % 8 ≡ 0 → bytes / 8 ≤ 65536 → leb used (bytes / 8) ≡ pointsFit bytes used
+unfolding pointsFit badRoom
+fit-used bytes used e h = rw (eq-eqb (bytes % 8) 0 e, le-ltb 65536 (bytes / 8) h) (leb-not used (bytes / 8))
+
+and-fst : (a b : Bool) → (a && b) ≡ true → a ≡ true
+and-fst true b e = refl
+and-fst false b e = e
+
+and-snd : (a b : Bool) → (a && b) ≡ true → b ≡ true
+and-snd true b e = e
+and-snd false b e = let z : _≡_ {A = ℕ} 0 1 = cc in absurd (omega arith)
+
+or-snd : (a b : Bool) → (a || b) ≡ false → b ≡ false
+or-snd true b e = let z : _≡_ {A = ℕ} 0 1 = cc in absurd (omega arith)
+or-snd false b e = e
+
+-- a table that fits has its entries in use within its bytes
+pub fit-bytes : (bytes used : ℕ) → pointsFit bytes used ≡ true → used * 8 ≤ bytes
+unfolding pointsFit badRoom
+fit-bytes bytes used e =
+    let good : badRoom (bytes / 8) used ≡ false = not-true _ (and-snd (eqb (bytes % 8) 0) (not (badRoom (bytes / 8) used)) e) in
+    omega (arith, ltb-false (bytes / 8) used (or-snd (ltb 65536 (bytes / 8)) (ltb (bytes / 8) used) good))
+
+-- ---- the check
+
+-- the entry at a place has a known symbol and may stand before those that follow
+unfoldable pub standsAt : List ℕ → ℕ → ℕ → ℕ → Bool
+unfolding ahead
+standsAt t used names place = ltb (entryAt t place .symbol) names && ahead (entryAt t place) (entriesFrom t (place + 1) (used - (place + 1)))
+
+pub stands-unknown : (t : List ℕ) (used names place : ℕ) {x : Entry} → x ≡ entryAt t place → names ≤ x .symbol → false ≡ standsAt t used names place
+unfolding standsAt
+stands-unknown t used names place e h =
+    let l : ltb (entryAt t place .symbol) names ≡ false = rw (← e) (le-ltb _ names h) in
+    rw l refl
+
+pub stands-last : (t : List ℕ) (used names place : ℕ) {x : Entry} → x ≡ entryAt t place → x .symbol < names → place + 1 ≡ used → true ≡ standsAt t used names place
+unfolding standsAt ahead entriesFrom
+stands-last t used names place e h l =
+    let known : ltb (entryAt t place .symbol) names ≡ true = rw (← e) (lt-ltb _ names h) in
+    let none-left : used - (place + 1) ≡ 0 = omega arith in
+    rw (known, none-left) refl
+
+pub stands-next : (t : List ℕ) (used names place : ℕ) {x y : Entry} → place < used → x ≡ entryAt t place → x .symbol < names → place + 1 ≢ used → y ≡ entryAt t (place + 1)
+    → ltb (x .instrument) (y .instrument) ≡ standsAt t used names place
+unfolding standsAt ahead
+stands-next t used names place {x} {y} u e h l f =
+    let known : ltb (entryAt t place .symbol) names ≡ true = rw (← e) (lt-ltb _ names h) in
+    rw (known, entries-cons t (place + 1) used (omega arith), ← e, ← f) refl
+
+-- the check from here on is the whole check
+pub record Left (t : List ℕ) (used names place : ℕ) : Type 0 where
+  pub within : place ≤ used
+  pub same : wellFormed names (entries t used) ≡ wellFormed names (entriesFrom t place (used - place))
+
+four : (a b c d : Bool) → ((a && b) && (c && d)) ≡ ((c && a) && (b && d))
+four true b true d = refl
+four true true false d = refl
+four true false false d = refl
+four false b true d = refl
+four false b false d = refl
+
+formed-cons : (names : ℕ) (t : List ℕ) (used place : ℕ) → place < used
+    → wellFormed names (entriesFrom t place (used - place)) ≡ (standsAt t used names place && wellFormed names (entriesFrom t (place + 1) (used - (place + 1))))
+unfolding wellFormed standsAt rising allKnown
+formed-cons names t used place h =
+    let x = entryAt t place in
+    let xs = entriesFrom t (place + 1) (used - (place + 1)) in
+    ap (wellFormed names) (entries-cons t place used h) ∙ four (ahead x xs) (rising xs) (ltb (x .symbol) names) (allKnown names xs)
+
+pub left-start : (t : List ℕ) (used names : ℕ) → Left t used names 0
+left-start t used names = record { within = omega arith; same = ap (λ (n : ℕ). wellFormed names (entriesFrom t 0 n)) (sym (sub-zero used)) }
+
+pub left-on : {t : List ℕ} {used names place : ℕ} {b : Bool} → place < used → b ≡ standsAt t used names place → not b ≡ false → Left t used names place → Left t used names (place + 1)
+left-on {t} {used} {names} {place} {b} h r f l = record {
+  within = omega arith;
+  same =
+      l .same
+      ∙ formed-cons names t used place h
+      ∙ ap (λ (a : Bool). a && wellFormed names (entriesFrom t (place + 1) (used - (place + 1)))) (sym r ∙ not-false b f);
+}
+
+pub left-fault : {t : List ℕ} {used names place : ℕ} {b : Bool} → place < used → b ≡ standsAt t used names place → not b ≡ true → Left t used names place
+    → false ≡ wellFormed names (entries t used)
+left-fault {t} {used} {names} {place} {b} h r f l =
+    sym (l .same
+    ∙ formed-cons names t used place h
+    ∙ ap (λ (a : Bool). a && wellFormed names (entriesFrom t (place + 1) (used - (place + 1)))) (sym r ∙ not-true b f))
+
+pub left-end : {t : List ℕ} {used names place : ℕ} → used ≤ place → Left t used names place → true ≡ wellFormed names (entries t used)
+unfolding wellFormed rising allKnown entriesFrom
+left-end {t} {used} {names} {place} h l =
+    let e : used - place ≡ 0 = omega arith in
+    sym (l .same ∙ ap (λ (n : ℕ). wellFormed names (entriesFrom t place n)) e)
+
+-- ---- the search
+
+-- what the search answers: a place within those in use, and in a sorted table the instrument's
+pub record Placed (t : List ℕ) (used instrument place : ℕ) : Type 0 where
+  pub within : place ≤ used
+  pub exact : T (rising (entries t used)) → placeOf instrument (entries t used) ≡ place
+
+-- the two ends of the search: the entry before the lower one is below the instrument, the one at the upper end is not
+pub record Between (t : List ℕ) (used instrument low high : ℕ) : Type 0 where
+  pub apart : low ≤ high
+  pub within : high ≤ used
+  pub below : (k : ℕ) → k + 1 ≡ low → entryAt t k .instrument < instrument
+  pub above : high < used → instrument ≤ entryAt t high .instrument
+
+pub between-all : (t : List ℕ) (used instrument : ℕ) → Between t used instrument 0 used
+between-all t used instrument = record {
+  apart = omega arith;
+  within = omega arith;
+  below = λ k e. absurd (omega arith);
+  above = λ h. absurd (omega arith);
+}
+
+pub between-up : {t : List ℕ} {used instrument low high : ℕ} {x : Entry} → low < high → Between t used instrument low high
+    → x ≡ entryAt t (low + (high - low) / 2) → x .instrument < instrument → Between t used instrument (low + (high - low) / 2 + 1) high
+between-up {t} {used} {instrument} {low} {high} {x} h b e l = record {
+  apart = omega arith;
+  within = b .within;
+  below = λ k q.
+      let m : k ≡ low + (high - low) / 2 = omega arith in
+      rw (m, ← e) l;
+  above = b .above;
+}
+
+pub between-down : {t : List ℕ} {used instrument low high : ℕ} {x : Entry} → low < high → Between t used instrument low high
+    → x ≡ entryAt t (low + (high - low) / 2) → instrument ≤ x .instrument → Between t used instrument low (low + (high - low) / 2)
+between-down {t} {used} {instrument} {low} {high} {x} h b e l = record {
+  apart = omega arith;
+  within = omega (arith, b .within);
+  below = b .below;
+  above = λ u. rw (← e) l;
+}
+
+pub between-met : {t : List ℕ} {used instrument low high : ℕ} → high ≤ low → Between t used instrument low high → Placed t used instrument low
+between-met {t} {used} {instrument} {low} {high} h b =
+    let met : low ≡ high = omega (arith, b .apart) in
+    let d = entryAt t 0 in
+    record {
+      within = omega (arith, b .within);
+      exact = λ s.
+          place-is instrument d (entries t used) s low
+          (omega (arith, length-entries t 0 used, b .within))
+          (λ k e.
+          let g : getD (entries t used) k d ≡ entryAt t k = getD-entries t 0 used k d (omega (arith, b .within)) ∙ ap (entryAt t) (zero-add k) in
+          rw g (b .below k e))
+          (λ u.
+          let l : low < used = omega (arith, length-entries t 0 used) in
+          let g : getD (entries t used) low d ≡ entryAt t low = getD-entries t 0 used low d l ∙ ap (entryAt t) (zero-add low) in
+          rw (g, met) (b .above (omega arith)));
+    }
+
+-- ---- the lookup
+
+-- a place is in use and its entry is of the instrument
+unfoldable pub holdsAt : List ℕ → ℕ → ℕ → ℕ → Bool
+holdsAt t used place instrument = ltb place used && eqb (entryAt t place .instrument) instrument
+
+pub holds-past : (t : List ℕ) (used place instrument : ℕ) → used ≤ place → false ≡ holdsAt t used place instrument
+unfolding holdsAt
+holds-past t used place instrument h = rw (le-ltb place used h) refl
+
+pub holds-own : (t : List ℕ) (used place instrument : ℕ) {x : Entry} → place < used → x ≡ entryAt t place → eqb (x .instrument) instrument ≡ holdsAt t used place instrument
+unfolding holdsAt
+holds-own t used place instrument h e = rw (lt-ltb place used h, ← e) refl
+
+pub record Held (t : List ℕ) (used place instrument : ℕ) : Type 0 where
+  pub within : place < used
+  pub own : entryAt t place .instrument ≡ instrument
+
+pub held : (t : List ℕ) (used place instrument : ℕ) → holdsAt t used place instrument ≡ true → Held t used place instrument
+unfolding holdsAt
+held t used place instrument e = record {
+  within = ltb-true place used (and-fst (ltb place used) (eqb (entryAt t place .instrument) instrument) e);
+  own = eqb-true (entryAt t place .instrument) instrument (and-snd (ltb place used) (eqb (entryAt t place .instrument) instrument) e);
+}
+
+pub not-held : (t : List ℕ) (used place instrument : ℕ) → holdsAt t used place instrument ≡ false → place < used → entryAt t place .instrument ≢ instrument
+unfolding holdsAt
+not-held t used place instrument e h o =
+    let y : holdsAt t used place instrument ≡ true = rw (lt-ltb place used h, eq-eqb (entryAt t place .instrument) instrument o) refl in
+    let z : _≡_ {A = ℕ} 0 1 = cc in
+    omega arith
+
+module _ (t : List ℕ) (used instrument place : ℕ) (p : Placed t used instrument place) (s : T (rising (entries t used))) where
+  abbrev xs : List Entry
+  xs = entries t used
+
+  abbrev d : Entry
+  d = entryAt t 0
+
+  at-place : place < used → getD xs (placeOf instrument xs) d ≡ entryAt t place
+  at-place h = rw (p .exact s) (getD-entries t 0 used place d h ∙ ap (entryAt t) (zero-add place))
+
+  pub symbol-held : Held t used place instrument → symbolFor instrument xs ≡ some (entryAt t place .symbol)
+  symbol-held h =
+      let g : getD xs (placeOf instrument xs) d ≡ entryAt t place = at-place (h .within) in
+      symbol-at instrument d xs (rw (p .exact s, length-entries t 0 used) (h .within)) (rw g (h .own)) ∙ ap (λ (x : Entry). some (x .symbol)) g
+
+  pub symbol-not-held : (place < used → entryAt t place .instrument ≢ instrument) → symbolFor instrument xs ≡ none
+  symbol-not-held f =
+      symbol-none instrument d xs s
+      (λ h e.
+      let l : place < used = rw (p .exact s, length-entries t 0 used) at h in
+      f l (rw (at-place l) at e))
+
+-- ---- the answers of the check and of the lookup
+
+module _ (t : List ℕ) (used : ℕ) {b : Bool} (e : b ≡ pointsFit (length t) used) where
+  fits : not b ≡ false → pointsFit (length t) used ≡ true
+  fits f = sym e ∙ not-false b f
+
+  unfit : not b ≡ true → pointsFit (length t) used ≡ false
+  unfit f = sym e ∙ not-true b f
+
+  pub fit-in : not b ≡ false → used * 8 ≤ length t
+  fit-in f = fit-bytes (length t) used (fits f)
+
+  pub check-memory : (names : ℕ) → not b ≡ true → refused BadMemory ≡ pointsChecked t used names
+  unfolding pointsChecked
+  check-memory names f = rw (unfit f) refl
+
+  pub check-names : (names : ℕ) → not b ≡ false → 4096 < names → refused BadMemory ≡ pointsChecked t used names
+  unfolding pointsChecked badNames
+  check-names names f h = rw (fits f, lt-ltb 4096 names h) refl
+
+  pub check-no : (names : ℕ) {w : Bool} → not b ≡ false → names ≤ 4096 → w ≡ wellFormed names (entries t used) → not w ≡ true
+      → refused IllFormed ≡ pointsChecked t used names
+  unfolding pointsChecked badNames
+  check-no names {w} f h g n =
+      let i : wellFormed names (entries t used) ≡ false = sym g ∙ not-true w n in
+      rw (fits f, le-ltb 4096 names h, i) refl
+
+  pub check-yes : (names : ℕ) {w : Bool} → not b ≡ false → names ≤ 4096 → w ≡ wellFormed names (entries t used) → not w ≡ false
+      → answer 0 [] ≡ pointsChecked t used names
+  unfolding pointsChecked badNames
+  check-yes names {w} f h g n =
+      let i : wellFormed names (entries t used) ≡ true = sym g ∙ not-false w n in
+      rw (fits f, le-ltb 4096 names h, i) refl
+
+  pub get-memory : (i : ℕ) → not b ≡ true → refused BadMemory ≡ pointFound t used i
+  unfolding pointFound
+  get-memory i f = rw (unfit f) refl
+
+  -- 15 is given for no table that fits
+  pub get-unfit : {n : ℕ} → not b ≡ true → pointsFit (length t) used ≡ true → n ≡ 0
+  get-unfit f g = let z : _≡_ {A = ℕ} 0 1 = cc (unfit f) in absurd (omega arith)
+
+  sorted : not b ≡ false → T (not (pointsFit (length t) used) || rising (entries t used)) → T (rising (entries t used))
+  sorted f s = rw (fits f) at s
+
+  pub get-nothing : (i : ℕ) {place : ℕ} {h : Bool} → not b ≡ false → Placed t used i place → h ≡ holdsAt t used place i → not h ≡ true
+      → T (not (pointsFit (length t) used) || rising (entries t used)) → answer 0 [] ≡ pointFound t used i
+  unfolding pointFound
+  get-nothing i {place} {h} f p g n s =
+      let o : symbolFor i (entries t used) ≡ none = symbol-not-held t used i place p (sorted f s) (not-held t used place i (sym g ∙ not-true h n)) in
+      rw (fits f, o) refl
+
+  pub get-symbol : (i : ℕ) {place : ℕ} {h : Bool} {x : Entry} → not b ≡ false → Placed t used i place → h ≡ holdsAt t used place i → not h ≡ false → x ≡ entryAt t place
+      → T (not (pointsFit (length t) used) || rising (entries t used)) → answer 0 (x .symbol ∷ []) ≡ pointFound t used i
+  unfolding pointFound
+  get-symbol i {place} {h} {x} f p g n q s =
+      let o : symbolFor i (entries t used) ≡ some (entryAt t place .symbol) = symbol-held t used i place p (sorted f s) (held t used place i (sym g ∙ not-false h n)) in
+      rw (fits f, o, ← q) refl
+
+  pub get-within : (i place : ℕ) {h : Bool} → not b ≡ false → h ≡ holdsAt t used place i → not h ≡ false → place * 8 + 8 ≤ length t
+  get-within i place {h} f g n =
+      omega (arith, fit-in f, held t used place i (sym g ∙ not-false h n) .within)
+
+-- ---- the stores of an entry
+
+pub held-within : (t : List ℕ) (used place instrument : ℕ) {h : Bool} → used * 8 ≤ length t → h ≡ holdsAt t used place instrument → h ≡ true → place * 8 + 8 ≤ length t
+held-within t used place instrument fit e f = omega (arith, held t used place instrument (sym e ∙ f) .within)
+
+-- the first entries as they stand, then one, then others: the one is stored last
+put-front : (t : List ℕ) (n p : ℕ) (x : Entry) (ys : List Entry) → Bytes t → p ≤ n
+    → putEntries t 0 (take p (entries t n) ++ x ∷ ys) ≡ putEntry (putEntries t (p + 1) ys) p x
+unfolding putEntries
+put-front t n p x ys h l =
+    let first = take p (entries t n) in
+    let e : first ≡ entries t p = take-entries t 0 n p l in
+    let count : 0 + length first ≡ p = omega (arith, ap length e, length-entries t 0 p) in
+    let back : putEntries t 0 first ≡ t = ap (putEntries t 0) e ∙ putEntries-back t 0 p h in
+    putEntries-append t 0 first (x ∷ ys)
+    ∙ (λ q. putEntries (back q) (count q) (x ∷ ys))
+    ∙ ap (λ (k : ℕ). putEntries (putEntry t p x) k ys) (sym (add-one p))
+    ∙ sym (putEntries-comm t (p + 1) ys p x (omega arith))
+
+set-small : (x : Entry) (xs : List Entry) → Small x → AllSmall xs → AllSmall (setEntry x xs)
+unfolding setEntry
+set-small x [] h k = (h, tt)
+set-small x (y ∷ ys) h k =
+    cond-case AllSmall (ltb (y .instrument) (x .instrument)) _ _
+    (λ a. (k .0, set-small x ys h (k .1)))
+    (λ a. cond-case AllSmall (ltb (x .instrument) (y .instrument)) _ _ (λ b. (h, k)) (λ b. (h, k .1)))
+
+-- the answer, the bytes and the entries in use are those of the entry set
+abbrev pub Stores : List ℕ → ℕ → Entry → Answer → List ℕ → Type 0
+Stores t used x a t′ =
+    (a ≡ storedAnswer t (setEntry x (entries t used)))
+    × ((t′ ≡ storedBytes t (setEntry x (entries t used)))
+    × (entries t′ (usedThen t used (setEntry x (entries t used))) ≡ entriesThen t used (setEntry x (entries t used))))
+
+-- what is stored is what is read then
+stored-entries : (t : List ℕ) (used : ℕ) (x : Entry) {t′ : List ℕ} → Bytes t → Small x → t′ ≡ storedBytes t (setEntry x (entries t used))
+    → entries t′ (usedThen t used (setEntry x (entries t used))) ≡ entriesThen t used (setEntry x (entries t used))
+unfolding storedBytes usedThen entriesThen hasRoom
+stored-entries t used x b h e = rw e (go (leb (length out) (length t / 8)) refl)
+  where
+    out : List Entry
+    out = setEntry x (entries t used)
+
+    go : (r : Bool) → leb (length out) (length t / 8) ≡ r → entries (cond r (putEntries t 0 out) t) (cond r (length out) used) ≡ cond r out (entries t used)
+    go true f =
+        let l : length out ≤ length t / 8 = leb-true (length out) (length t / 8) f in
+        entries-put t 0 out (omega arith) (set-small x (entries t used) h (entries-small t 0 used b))
+    go false f = refl
+
+module _ (t : List ℕ) (used : ℕ) (x : Entry) (place : ℕ) (fit : used * 8 ≤ length t) (s : T (rising (entries t used)))
+    (p : Placed t used (x .instrument) place) where
+  abbrev old : List Entry
+  old = entries t used
+
+  abbrev out : List Entry
+  out = setEntry x old
+
+  -- the outcome where the instrument stands in the table
+  out-held : holdsAt t used place (x .instrument) ≡ true → out ≡ take place old ++ x ∷ entriesFrom t (place + 1) (used - (place + 1))
+  out-held e =
+      let h : Held t used place (x .instrument) = held t used place (x .instrument) e in
+      let at : placeOf (x .instrument) old ≡ place = p .exact s in
+      let count : length old ≡ used = length-entries t 0 used in
+      let g : getD old (placeOf (x .instrument) old) (entryAt t 0) ≡ entryAt t place = at-place t used (x .instrument) place p s (h .within) in
+      let a : out ≡ set old (placeOf (x .instrument) old) x = set-at x (entryAt t 0) old (omega (arith, h .within)) (rw g (h .own)) in
+      let b : drop (suc place) old ≡ entriesFrom t (place + 1) (used - (place + 1)) =
+      drop-entries t 0 used (suc place) ∙ (λ q. entriesFrom t (later q) (used - next q)) in
+      a ∙ ap (λ (k : ℕ). set old k x) at ∙ set-split old place x (omega (arith, h .within)) ∙ ap (λ (ys : List Entry). take place old ++ x ∷ ys) b
+    where
+      later : 0 + suc place ≡ place + 1
+      later = omega arith
+
+      next : suc place ≡ place + 1
+      next = omega arith
+
+  -- and where it does not
+  out-new : holdsAt t used place (x .instrument) ≡ false → out ≡ take place old ++ x ∷ entriesFrom t place (used - place)
+  out-new e =
+      let at : placeOf (x .instrument) old ≡ place = p .exact s in
+      let count : length old ≡ used = length-entries t 0 used in
+      let a : out ≡ take (placeOf (x .instrument) old) old ++ x ∷ drop (placeOf (x .instrument) old) old =
+      set-new x (entryAt t 0) old
+      (λ h o.
+      let l : place < used = omega arith in
+      not-held t used place (x .instrument) e l (rw (at-place t used (x .instrument) place p s l) at o)) in
+      a
+      ∙ ap (λ (k : ℕ). take k old ++ x ∷ drop k old) at
+      ∙ ap (λ (ys : List Entry). take place old ++ x ∷ ys) (drop-entries t 0 used place ∙ ap (λ (k : ℕ). entriesFrom t k (used - place)) (zero-add place))
+
+  length-out : (k n : ℕ) → length (take place old ++ x ∷ entriesFrom t k n) ≡ place + suc n
+  length-out k n =
+      length-append (take place old) (x ∷ entriesFrom t k n)
+      ∙ (λ q. (ap length (take-entries t 0 used place (p .within)) ∙ length-entries t 0 place) q + suc (length-entries t k n q))
+
+  held-length : holdsAt t used place (x .instrument) ≡ true → length out ≡ used
+  held-length e =
+      let h : Held t used place (x .instrument) = held t used place (x .instrument) e in
+      ap length (out-held e) ∙ length-out (place + 1) (used - (place + 1)) ∙ (let n : place + suc (used - (place + 1)) ≡ used = omega (arith, h .within) in n)
+
+  new-length : holdsAt t used place (x .instrument) ≡ false → length out ≡ used + 1
+  new-length e =
+      ap length (out-new e) ∙ length-out place (used - place) ∙ (let n : place + suc (used - place) ≡ used + 1 = omega (arith, p .within) in n)
+
+  module _ {h : Bool} (e : h ≡ holdsAt t used place (x .instrument)) where
+    has-held : h ≡ true → hasRoom t out ≡ true
+    unfolding hasRoom
+    has-held f = rw (held-length (sym e ∙ f)) (le-leb used (length t / 8) (omega arith))
+
+    has-new : h ≡ false → used < length t / 8 → hasRoom t out ≡ true
+    unfolding hasRoom
+    has-new f l = rw (new-length (sym e ∙ f)) (le-leb (used + 1) (length t / 8) (omega arith))
+
+    has-not : h ≡ false → length t / 8 ≤ used → hasRoom t out ≡ false
+    unfolding hasRoom
+    has-not f l = rw (new-length (sym e ∙ f)) (lt-leb (used + 1) (length t / 8) (omega arith))
+
+    set-held : h ≡ true → answer 0 (used ∷ []) ≡ storedAnswer t out
+    unfolding storedAnswer
+    set-held f = rw (has-held f, held-length (sym e ∙ f)) refl
+
+    set-held-bytes : {t′ : List ℕ} → Bytes t → h ≡ true → t′ ≡ putEntry t place x → t′ ≡ storedBytes t out
+    unfolding storedBytes
+    set-held-bytes b f w =
+        let l : place < used = held t used place (x .instrument) (sym e ∙ f) .within in
+        rw (has-held f)
+        (w
+        ∙ ap (λ (l : List ℕ). putEntry l place x) (sym (putEntries-back t (place + 1) (used - (place + 1)) b))
+        ∙ sym (put-front t used place x (entriesFrom t (place + 1) (used - (place + 1))) b (p .within))
+        ∙ sym (ap (putEntries t 0) (out-held (sym e ∙ f))))
+
+    set-full : h ≡ false → length t / 8 ≤ used → refused NoRoom ≡ storedAnswer t out
+    unfolding storedAnswer
+    set-full f l = rw (has-not f l) refl
+
+    set-full-bytes : h ≡ false → length t / 8 ≤ used → t ≡ storedBytes t out
+    unfolding storedBytes
+    set-full-bytes f l = rw (has-not f l) refl
+
+    set-more : h ≡ false → used < length t / 8 → answer 0 ((used + 1) ∷ []) ≡ storedAnswer t out
+    unfolding storedAnswer
+    set-more f l = rw (has-new f l, new-length (sym e ∙ f)) refl
+
+    set-more-bytes : {t₁ t′ : List ℕ} → Bytes t → h ≡ false → used < length t / 8 → t₁ ≡ putEntries t (place + 1) (entriesFrom t place (used - place))
+        → t′ ≡ putEntry t₁ place x → t′ ≡ storedBytes t out
+    unfolding storedBytes
+    set-more-bytes b f l v w =
+        rw (has-new f l)
+        (w
+        ∙ ap (λ (l : List ℕ). putEntry l place x) v
+        ∙ sym (put-front t used place x (entriesFrom t place (used - place)) b (p .within))
+        ∙ sym (ap (putEntries t 0) (out-new (sym e ∙ f))))
+
+    module _ (b : Bytes t) (small : Small x) where
+      all : {a : Answer} {t′ : List ℕ} → a ≡ storedAnswer t out → t′ ≡ storedBytes t out → Stores t used x a t′
+      all a w = (a, (w, stored-entries t used x b small w))
+
+      pub stores-held : {t′ : List ℕ} → h ≡ true → t′ ≡ putEntry t place x → Stores t used x (answer 0 (used ∷ [])) t′
+      stores-held f w = all (set-held f) (set-held-bytes b f w)
+
+      pub stores-full : h ≡ false → length t / 8 ≤ used → Stores t used x (refused NoRoom) t
+      stores-full f l = all (set-full f l) (set-full-bytes f l)
+
+      pub stores-more : {t₁ t′ : List ℕ} → h ≡ false → used < length t / 8 → t₁ ≡ putEntries t (place + 1) (entriesFrom t place (used - place)) → t′ ≡ putEntry t₁ place x
+          → Stores t used x (answer 0 ((used + 1) ∷ [])) t′
+      stores-more f l v w = all (set-more f l) (set-more-bytes b f l v w)

@@ -1,0 +1,56 @@
+-- `names_known` meets its contract. The invariant: what is left to test decides as the whole does. Assumes nothing.
+use mathlib.Core.Path.{_≡_, refl, sym, ap, _∙_, subst}
+use Prim.Native.Nat.{ℕ, _≤_, _<_, _+_, _-_, _*_}
+use borrow.Author.Tests.{not-true, not-false}
+use denote.Ref.{now}
+use Rattle.metadata_rules.specs.Metadata.{every}
+use Rattle.metadata_gather.specs.Judge.{below, namesTo, names-turn, names-stop, names-end}
+use borrow.Author.Needs.{needs}
+use native.Mathlib.Omega.{arith}
+use Rattle.metadata_gather.proofs.judge.names_known.Statement.{statement}
+use Rattle.metadata_gather.proofs.judge.names_known.Tie as tie
+
+abbrev Inv-loop : tie.InvT-loop
+Inv-loop m n names i₀ i = (i ≤ n) × (every (below names) (namesTo m i n) ≡ every (below names) (namesTo m 0 n))
+
+abbrev μ-loop : tie.MeasureT-loop
+μ-loop m n names i₀ i = n - i
+
+loop-holds : tie.Need-loop-holds Inv-loop μ-loop
+loop-holds c = (omega arith, refl)
+
+name-at-requires : tie.Need-name-at-requires Inv-loop μ-loop
+name-at-requires c κs = search needs
+
+is-known-requires : tie.Need-is-known-requires Inv-loop μ-loop
+is-known-requires c κs = search needs
+
+returns : tie.Need-returns Inv-loop μ-loop
+returns c = names-stop (below (c .before .before .before .before .before .before .args .names)) (now (c .before .before .before .before .before .before .args .m)) (c .before .before .before .before .loop .i) (c .before .before .before .before .before .before .args .n) (c .before .before .name-at .ensures) (c .before .is-known .ensures) (not-true _ (c .if1 .taken)) (c .before .before .before .loop-test .taken) ∙ c .before .before .before .before .loop .inv .1
+
+add-i : tie.Need-add-i Inv-loop μ-loop
+add-i c = search needs
+
+loop-less : tie.Need-loop-less Inv-loop μ-loop
+loop-less c = search needs
+
+loop-again : tie.Need-loop-again Inv-loop μ-loop
+loop-again c = (omega arith, names-turn (below (c .before .before .before .before .before .before .args .names)) (now (c .before .before .before .before .before .before .args .m)) (c .before .before .before .before .loop .i) (c .before .before .before .before .before .before .args .n) (c .before .before .name-at .ensures) (c .before .is-known .ensures) (not-false _ (c .if1 .left)) (c .before .before .before .loop-test .taken) ∙ c .before .before .before .before .loop .inv .1)
+
+returns-2 : tie.Need-returns-2 Inv-loop μ-loop
+returns-2 c = names-end (below (c .before .before .before .args .names)) (now (c .before .before .before .args .m)) (c .before .loop .i) (c .before .before .before .args .n) (omega arith) ∙ c .before .loop .inv .1
+
+pub names-known-spec : {M : Type 1} → statement M
+names-known-spec =
+    tie.close
+    (tie.spec
+    Inv-loop
+    μ-loop
+    loop-holds
+    name-at-requires
+    is-known-requires
+    returns
+    add-i
+    loop-less
+    loop-again
+    returns-2)

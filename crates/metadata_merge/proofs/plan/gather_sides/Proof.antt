@@ -1,0 +1,31 @@
+-- `gather_sides` meets its contract: what is laid behind what is laid are the words of both. Assumes nothing.
+use mathlib.Core.Path.{_≡_, refl, sym, ap, _∙_, subst}
+use denote.Ref.{now}
+use Rattle.metadata_merge.specs.Plan.{left-sound, right-sound, q-small, both-stand}
+use borrow.Author.Needs.{needs}
+use native.Mathlib.Omega.{arith}
+use Rattle.metadata_merge.proofs.plan.gather_sides.Statement.{statement}
+use Rattle.metadata_merge.proofs.plan.gather_sides.Tie as tie
+
+lose-repeats-requires : tie.Need-lose-repeats-requires
+lose-repeats-requires c κs = left-sound _ _ _ _ _ _ (now (c .before .before .before .before .before .before .before .before .args .gm)) (now (c .before .before .before .before .before .before .before .before .args .gv)) (c .before .before .before .before .before .before .before .before .pre)
+
+follow-requires : tie.Need-follow-requires
+follow-requires c κs = right-sound _ _ _ _ _ _ (now (c .before .before .before .before .before .before .before .before .before .before .before .before .before .before .before .args .gm)) (now (c .before .before .before .before .before .before .before .before .before .before .before .before .before .before .before .args .gv)) (c .before .before .before .before .before .before .before .before .before .before .before .before .before .before .before .pre) _ _ _ _ (c .before .before .before .before .before .before .lose-repeats .ensures) _ _ (c .before .before .before .before .before .before .lose-repeats .kept .1 .1 .1 .0) (c .before .before .before .before .before .before .lose-repeats .kept .1 .1 .1 .1 .0)
+
+add-t21 : tie.Need-add-t21
+add-t21 c = let a = q-small _ _ _ _ _ _ (now (c .before .before .before .before .before .before .before .before .before .before .before .before .before .before .before .before .before .before .before .before .args .gm)) (now (c .before .before .before .before .before .before .before .before .before .before .before .before .before .before .before .before .before .before .before .before .args .gv)) (c .before .before .before .before .before .before .before .before .before .before .before .before .before .before .before .before .before .before .before .before .pre) _ _ _ _ (c .before .before .before .before .before .before .before .before .before .before .before .lose-repeats .ensures) in omega arith
+
+same-length : tie.Need-same-length
+same-length c = search needs
+
+same-length-2 : tie.Need-same-length-2
+same-length-2 c = search needs
+
+returns : tie.Need-returns
+returns c = both-stand _ _ _ _ _ _ (now (c .before .before .before .before .before .before .before .before .before .before .before .before .before .before .before .before .before .before .before .before .args .gm)) (now (c .before .before .before .before .before .before .before .before .before .before .before .before .before .before .before .before .before .before .before .before .args .gv)) (c .before .before .before .before .before .before .before .before .before .before .before .before .before .before .before .before .before .before .before .before .pre) _ _ _ _ (c .before .before .before .before .before .before .before .before .before .before .before .lose-repeats .ensures) _ _ _ (c .before .before .before .before .follow .ensures)
+
+pub gather-sides-spec : {M : Type 1} → statement M
+gather-sides-spec =
+    tie.close
+    (tie.spec lose-repeats-requires follow-requires add-t21 same-length same-length-2 returns)

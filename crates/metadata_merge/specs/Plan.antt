@@ -1,0 +1,384 @@
+-- What the mappings of a merge come to: a refusal's number, or the words of the mappings merged by name. Assumes nothing.
+use mathlib.Core.Path.{_≡_, refl, sym, ap, _∙_, subst}
+use mathlib.Core.Logic.{_≢_}
+use Prim.Native.Nat.{ℕ, zero, suc, _+_, _-_, _*_, _≤_, _<_}
+use native.Mathlib.Omega.{arith}
+use mathlib.Core.Bool.{Bool, true, false, _&&_, cond}
+use mathlib.Core.List.{List, [], _∷_, _++_}
+use lib.ListN.{length, getD, replicate, length-replicate, getD-replicate, length-append}
+use lib.Dec.{T, ltb, leb}
+use borrow.Author.Tests.{ltb-true}
+use Rattle.metadata_rules.specs.declared.Interval.{Interval}
+use Rattle.metadata_rules.specs.Metadata.{Mapping, Merged, clash, merged, enter, enterAll, byName, every, everyInterval, datesKnown, mappingsKnown, countIntervals}
+use Rattle.metadata_rules.specs.Metadata.{forwards as forwardsOf}
+use Rattle.metadata_rules.specs.Cases.{eqb-case}
+use Rattle.metadata_rules.specs.Words.{nameAt, countAt, mappingsFrom, before, mappingWords, intervalWords, namesFrom, stretch, read-back, intervals-test, names-test, mapping-length, interval-length}
+use Rattle.metadata_form.specs.Words.{rest}
+use Rattle.metadata_lists.specs.Flat.{placedFrom, placedTo}
+use Rattle.metadata_lists.specs.Link.{Chained, chained-linked, chained-heads, before-up, before-next, flat-same}
+use Rattle.metadata_lists.specs.Names.{Final, failed, placed, layAll, finishNames, collectTo, sumsTo, endNames}
+use Rattle.metadata_lists.specs.NamesLaying.{AllReady}
+use Rattle.metadata_lists.specs.NamesWhole.{HeadOk, collect-by-name, sums-bound}
+use Rattle.metadata_lists.specs.NamesWords.{Stands, stands}
+use Rattle.metadata_lists.specs.declared.names.Names.{Names}
+use Rattle.metadata_lists.specs.declared.names.Names.the-variants.{Clash, Done}
+use Rattle.metadata_gather.specs.Sides.{Sound, Offs, count-all, lay-append, lost-count, within-of, placed-flat}
+use Rattle.metadata_gather.specs.Judge.{knownDate, dated, below, known, forward, namesTo, rest-all, names-all}
+use Rattle.metadata_merge.specs.declared.plan.Planned.{Planned}
+use Rattle.metadata_merge.specs.declared.plan.Planned.the-variants.{Fault, Laid}
+
+-- the mappings of both sides: the left one's without its repeats, then the right one's
+unfoldable pub bothSides : List ℕ → ℕ → List ℕ → List ℕ → ℕ → List ℕ → List Mapping
+bothSides lm n lv rm k rv = enterAll [] (mappingsFrom lm lv 0 0 n) ++ mappingsFrom rm rv 0 0 k
+
+-- 11, 3 or 1, over all mappings each before the next; 0 for none (01, Merging metadata)
+unfoldable pub faultOf : ℕ → Bool → List Mapping → ℕ
+faultOf names rest ms = cond (datesKnown knownDate ms) (cond (rest && mappingsKnown names ms) (cond (forwardsOf ms) 0 1) 3) 11
+
+-- the same over words: q mappings and e intervals
+unfoldable pub faultFlat : List ℕ → ℕ → List ℕ → ℕ → ℕ → Bool → ℕ
+faultFlat gm q gv e names known-rest =
+    cond (every dated (rest gv 0 e))
+    (cond (known-rest && (every (below names) (namesTo gm 0 q) && every (known names) (rest gv 0 e)))
+    (cond (every forward (rest gv 0 e)) 0 1) 3) 11
+
+-- what a plan comes to
+pub data Shown : Type 0 where
+  fault : ℕ → Shown
+  shown : Final → Shown
+
+unfoldable pub endPlan : Planned → List ℕ → List ℕ → Shown
+endPlan (Fault n) om out = fault n
+endPlan (Laid q k) om out = shown (placed om q out k)
+
+unfoldable pub shownMerged : List ℕ → List ℕ → Merged → Shown
+shownMerged om out clash = fault 7
+shownMerged om out (merged ms) = shown (layAll om 0 out 0 ms)
+
+unfoldable pub planOn : ℕ → List ℕ → List ℕ → List Mapping → Shown
+unfolding shownMerged
+planOn zero om out ms = shownMerged om out (byName ms)
+planOn (suc n) om out ms = fault (suc n)
+
+unfoldable pub planOf : ℕ → Bool → List Mapping → List ℕ → List ℕ → Shown
+unfolding faultOf planOn
+planOf names rest ms om out = planOn (faultOf names rest ms) om out ms
+
+-- ---- what the functions ask
+
+-- both sides stand in their words, few enough, and fit together
+pub record Gathered (lm : List ℕ) (n : ℕ) (lv rm : List ℕ) (k : ℕ) (rv : List ℕ) (sm sv : ℕ) : Type 0 where
+  pub left-words : 2 * n ≤ length lm
+  pub left-count : n ≤ 4096
+  pub left-spans : 3 * before lm n ≤ length lv
+  pub right-words : 2 * k ≤ length rm
+  pub right-count : k ≤ 4096
+  pub right-spans : 3 * before rm k ≤ length rv
+  pub maps : 2 * (n + k) ≤ sm
+  pub room : 3 * (before lm n + before rm k) ≤ sv
+  pub small : sv < 4294967296
+  pub few : sm < 4294967296
+
+-- both sides stand in their words, few enough, and the scratch holds them together: 8,192 mappings, 131,072 intervals
+pub record Planable (lm : List ℕ) (n : ℕ) (lv rm : List ℕ) (k : ℕ) (rv : List ℕ) (names sm so : ℕ) : Type 0 where
+  pub left-words : 2 * n ≤ length lm
+  pub left-count : n ≤ 4096
+  pub left-spans : 3 * before lm n ≤ length lv
+  pub right-words : 2 * k ≤ length rm
+  pub right-count : k ≤ 4096
+  pub right-spans : 3 * before rm k ≤ length rv
+  pub few-spans : before lm n + before rm k ≤ 131072
+  pub few-names : names ≤ 4096
+  pub maps : sm ≡ 16384
+  pub room : so ≡ 393216
+
+-- q mappings that can be linked by name, and scratch for their outcome
+pub record Linkable (gm : List ℕ) (q : ℕ) (gv : List ℕ) (st sm so : ℕ) : Type 0 where
+  pub words : 2 * q ≤ length gm
+  pub count : q ≤ 8192
+  pub spans : 3 * before gm q ≤ length gv
+  pub names : (t : ℕ) → t < q → nameAt gm t < 4096
+  pub maps : 2 * q ≤ sm
+  pub room : 3 * before gm q ≤ so
+  pub space : 3 * before gm q ≤ st
+  pub small : so < 4294967296
+
+zero-plus : (t : ℕ) → 0 + t ≡ t
+zero-plus t = omega arith
+
+and-left : (a b : Bool) → (a && b) ≡ true → a ≡ true
+and-left true b e = refl
+and-left false b e = e
+
+and-right : (a b : Bool) → (a && b) ≡ true → b ≡ true
+and-right true b e = e
+and-right false true e = refl
+and-right false false e = e
+
+-- each of the names passes
+names-each : (names : ℕ) (gm : List ℕ) (q t : ℕ) → every (below names) (namesFrom gm t q) ≡ true → (j : ℕ) → j < q → nameAt gm (t + j) < names
+unfolding every namesFrom below
+names-each names gm zero t e j h = absurd (omega arith)
+names-each names gm (suc q) t e zero h = let z : t + 0 ≡ t = omega arith in subst (λ (u : ℕ). nameAt gm u < names) (sym z) (ltb-true (nameAt gm t) names (and-left (ltb (nameAt gm t) names) _ e))
+names-each names gm (suc q) t e (suc j) h =
+    let z : (t + 1) + j ≡ t + suc j = omega arith in
+    subst (λ (u : ℕ). nameAt gm u < names) z (names-each names gm q (t + 1) (and-right (ltb (nameAt gm t) names) _ e) j (omega arith))
+
+-- ---- gathering
+
+enter-few : (ls : List Mapping) (m : Mapping) → length (enter ls m) ≤ length ls + 1
+unfolding enter
+enter-few [] m = omega arith
+enter-few (l ∷ ls) m =
+    eqb-case (λ (r : List Mapping). length r ≤ suc (length ls) + 1) (l .name) (m .name) _ _ (λ e. omega arith) (λ d. let r = enter-few ls m in omega arith)
+
+enterAll-few : (ms ls : List Mapping) → length (enterAll ls ms) ≤ length ls + length ms
+unfolding enterAll
+enterAll-few [] ls = omega arith
+enterAll-few (m ∷ ms) ls = let a = enterAll-few ms (enter ls m) in let b = enter-few ls m in omega arith
+
+flat-length : (m v : List ℕ) (j t o : ℕ) → length (mappingsFrom m v t o j) ≡ j
+unfolding mappingsFrom
+flat-length m v zero t o = refl
+flat-length m v (suc j) t o = ap suc (flat-length m v j (t + 1) (o + countAt m t))
+
+count-append : (xs ys : List Mapping) → countIntervals (xs ++ ys) ≡ countIntervals xs + countIntervals ys
+unfolding countIntervals
+count-append [] ys = omega arith
+count-append (x ∷ xs) ys = let r = count-append xs ys in omega arith
+
+module _ (lm : List ℕ) (n : ℕ) (lv rm : List ℕ) (k : ℕ) (rv : List ℕ) (gm gv : List ℕ) (g : Gathered lm n lv rm k rv (length gm) (length gv)) where
+  left-few : length (enterAll [] (mappingsFrom lm lv 0 0 n)) ≤ n
+  left-few = let a = enterAll-few (mappingsFrom lm lv 0 0 n) [] in let b = flat-length lm lv n 0 0 in omega arith
+
+  left-short : countIntervals (enterAll [] (mappingsFrom lm lv 0 0 n)) ≤ before lm n
+  left-short = let a = lost-count (mappingsFrom lm lv 0 0 n) in let b = count-all lm lv n in omega arith
+
+  pub left-sound : Sound lm n lv (length gm) 0 (length gv) 0
+  left-sound =
+      let x = g .maps in
+      let y = g .room in
+      record { words = g .left-words; count = g .left-count; spans = g .left-spans; maps = omega arith; room = omega arith; small = g .small; few = g .few }
+
+  module _ (a b : List ℕ) (q o : ℕ) (laid : placed a q b o ≡ layAll gm 0 gv 0 (enterAll [] (mappingsFrom lm lv 0 0 n))) where
+    left-stands : Stands (enterAll [] (mappingsFrom lm lv 0 0 n)) a q b o
+    left-stands =
+        let x = g .maps in let y = g .room in let f = left-few in let h = left-short in
+        stands (enterAll [] (mappingsFrom lm lv 0 0 n)) gm gv a b q o laid (omega arith) (omega arith)
+
+    pub right-sound : (sm sv : ℕ) → sm ≡ length gm → sv ≡ length gv → Sound rm k rv sm q sv o
+    right-sound sm sv d e =
+        let x = g .maps in let y = g .room in let f = left-few in let h = left-short in
+        let i = left-stands .how-many in let j = left-stands .how-long in
+        record { words = g .right-words; count = g .right-count; spans = g .right-spans; maps = omega arith; room = omega arith; small = omega (arith, g .small); few = omega (arith, g .few) }
+
+    pub q-small : q + k ≤ 8192
+    q-small = let f = left-few in let i = left-stands .how-many in omega (arith, g .left-count, g .right-count)
+
+    pub both-stand : (a' b' : List ℕ) (e : ℕ) → placed a' (q + k) b' e ≡ layAll a q b o (mappingsFrom rm rv 0 0 k) → Stands (bothSides lm n lv rm k rv) a' (q + k) b' e
+    unfolding bothSides
+    both-stand a' b' e h =
+        let x = g .maps in let y = g .room in let f = left-few in let i = left-short in
+        let c = length-append (enterAll [] (mappingsFrom lm lv 0 0 n)) (mappingsFrom rm rv 0 0 k) in
+        let d = flat-length rm rv k 0 0 in
+        let u = count-append (enterAll [] (mappingsFrom lm lv 0 0 n)) (mappingsFrom rm rv 0 0 k) in
+        let w = count-all rm rv k in
+        stands (enterAll [] (mappingsFrom lm lv 0 0 n) ++ mappingsFrom rm rv 0 0 k) gm gv a' b' (q + k) e
+        (h ∙ lay-append (enterAll [] (mappingsFrom lm lv 0 0 n)) (mappingsFrom rm rv 0 0 k) gm 0 gv 0 a q b o laid) (omega arith) (omega arith)
+
+-- what both sides have together
+pub both-size : (lm : List ℕ) (n : ℕ) (lv rm : List ℕ) (k : ℕ) (rv : List ℕ) → countIntervals (bothSides lm n lv rm k rv) ≤ before lm n + before rm k
+unfolding bothSides
+both-size lm n lv rm k rv =
+    let u = count-append (enterAll [] (mappingsFrom lm lv 0 0 n)) (mappingsFrom rm rv 0 0 k) in
+    let w = count-all rm rv k in
+    let a = lost-count (mappingsFrom lm lv 0 0 n) in
+    let b = count-all lm lv n in
+    omega arith
+
+pub both-count : (lm : List ℕ) (n : ℕ) (lv rm : List ℕ) (k : ℕ) (rv : List ℕ) → length (bothSides lm n lv rm k rv) ≤ n + k
+unfolding bothSides
+both-count lm n lv rm k rv =
+    let a = enterAll-few (mappingsFrom lm lv 0 0 n) [] in
+    let b = flat-length lm lv n 0 0 in
+    let c = length-append (enterAll [] (mappingsFrom lm lv 0 0 n)) (mappingsFrom rm rv 0 0 k) in
+    let d = flat-length rm rv k 0 0 in
+    omega arith
+
+-- ---- mappings that stand in words
+
+module _ (ms : List Mapping) (gm : List ℕ) (q : ℕ) (gv : List ℕ) (e : ℕ) (s : Stands ms gm q gv e) where
+  pub stands-read : mappingsFrom gm gv 0 0 q ≡ ms
+  stands-read = rw (s .maps, s .spans, s .how-many) (read-back ms (s .rest-m) (s .rest-v))
+
+  pub stands-before : before gm q ≡ countIntervals ms
+  stands-before = sym (count-all gm gv q) ∙ ap countIntervals stands-read
+
+  pub stands-words : 2 * q ≤ length gm
+  stands-words =
+      let a = ap length (s .maps) ∙ length-append (mappingWords ms) (s .rest-m) in
+      let b = mapping-length ms in
+      let c = s .how-many in
+      omega arith
+
+  pub stands-spans : 3 * e ≤ length gv
+  stands-spans =
+      let a = ap length (s .spans) ∙ length-append (intervalWords ms) (s .rest-v) in
+      let b = interval-length ms in
+      let c = s .how-long in
+      omega arith
+
+  spans-test : (p : Interval → Bool) → every p (rest gv 0 e) ≡ everyInterval p ms
+  spans-test p = ap (every p) (rest-all gv e) ∙ rw (s .spans, s .how-long) (sym (intervals-test p ms (s .rest-v)))
+
+  names-tested : (p : ℕ → Bool) → every p (namesTo gm 0 q) ≡ every (λ (m : Mapping). p (m .name)) ms
+  names-tested p = ap (every p) (names-all gm q) ∙ rw (s .maps, s .how-many) (sym (names-test p ms (s .rest-m)))
+
+  -- tested over words or over mappings: the same fault
+  pub fault-same : (names : ℕ) (known-rest : Bool) → faultFlat gm q gv e names known-rest ≡ faultOf names known-rest ms
+  unfolding faultFlat faultOf datesKnown mappingsKnown forwardsOf dated known forward below
+  fault-same names known-rest =
+      rw (spans-test dated, names-tested (below names), spans-test (known names), spans-test forward) refl
+
+  -- no fault: each name was handed out
+  pub names-below : (names : ℕ) (known-rest : Bool) → faultFlat gm q gv e names known-rest ≡ 0 → (t : ℕ) → t < q → nameAt gm t < names
+  unfolding faultFlat
+  names-below names known-rest z t h =
+      go (every dated (rest gv 0 e)) known-rest (every (below names) (namesTo gm 0 q)) refl (every (known names) (rest gv 0 e)) (every forward (rest gv 0 e)) z
+    where
+      go : (a b c : Bool) → every (below names) (namesTo gm 0 q) ≡ c → (d f : Bool) → _≡_ {A = ℕ} (cond a (cond (b && (c && d)) (cond f 0 1) 3) 11) 0 → nameAt gm t < names
+      go true true true w d f y = subst (λ (u : ℕ). nameAt gm u < names) (zero-plus t) (names-each names gm q 0 (sym (ap (every (below names)) (names-all gm q)) ∙ w) t h)
+      go true true false w d f y = absurd (omega arith)
+      go true false c w d f y = absurd (omega arith)
+      go false b c w d f y = absurd (omega arith)
+
+-- ---- linking and laying
+
+module _ (gm : List ℕ) (q : ℕ) (gv : List ℕ) (st sm so : ℕ) (l : Linkable gm q gv st sm so) (off nx head : List ℕ) (f : Offs gm off q) (ch : Chained gm nx head q 0)
+    (lo : q ≤ length off) (ln : q ≤ length nx) (lh : 4096 ≤ length head) where
+  heads-in : (t : ℕ) → t < q → nameAt gm t < length head
+  heads-in t h = let a = l .names t h in omega arith
+
+  heads-ok : HeadOk gm head q
+  heads-ok = chained-heads gm nx head q ch heads-in
+
+  all-placed : placedTo gm gv off 0 q ≡ mappingsFrom gm gv 0 0 q
+  unfolding placedTo
+  all-placed = let z : q - 0 ≡ q = omega arith in ap (placedFrom gm gv off 0) z ∙ placed-flat gm gv off q f
+
+  sums-fit : sumsTo gm gv off head q 0 ≤ before gm q
+  sums-fit = let a = sums-bound gm gv off head q heads-ok in let b = ap countIntervals all-placed ∙ count-all gm gv q in omega arith
+
+  pub all-ready : AllReady gm q gv off nx head st sm so
+  all-ready =
+      let a = sums-fit in
+      let b = l .room in
+      let c = l .space in
+      record {
+        words = l .words;
+        maps = l .maps;
+        offs = lo;
+        links = ln;
+        within = λ t h. within-of gm gv off q t f h (l .words) lo (l .spans) .spans;
+        linked = chained-linked gm nx head q ch;
+        heads = heads-in;
+        small = l .small;
+        room = omega arith;
+        space = omega arith;
+      }
+
+  pub all-by-name : collectTo gm gv off head q 0 ≡ byName (mappingsFrom gm gv 0 0 q)
+  all-by-name = collect-by-name gm gv off head q heads-ok ∙ ap byName all-placed
+
+-- ---- the whole plan
+
+not-laid : (ms : List Mapping) (om : List ℕ) (q : ℕ) (out : List ℕ) (k : ℕ) → failed ≡ layAll om q out k ms → ⊥
+unfolding layAll
+not-laid [] om q out k e = let z : _≡_ {A = ℕ} 0 1 = cc in omega arith
+not-laid (m ∷ ms) om q out k e = not-laid ms _ _ _ _ e
+
+unfoldable pub shownNames : Names → List ℕ → List ℕ → Shown
+shownNames Clash om out = fault 7
+shownNames (Done q k) om out = shown (placed om q out k)
+
+at-zero : (om out : List ℕ) (ms : List Mapping) → planOn 0 om out ms ≡ shownMerged om out (byName ms)
+unfolding planOn
+at-zero om out ms = refl
+
+shown-end : (r : Names) (om om' out out' : List ℕ) (g : Merged) → endNames r om' out' ≡ finishNames om 0 out 0 g → shownNames r om' out' ≡ shownMerged om out g
+unfolding endNames finishNames shownNames shownMerged
+shown-end Clash om om' out out' clash e = refl
+shown-end Clash om om' out out' (merged ms) e = absurd (not-laid ms om 0 out 0 e)
+shown-end (Done q k) om om' out out' clash e = let z : _≡_ {A = ℕ} 0 1 = cc in absurd (omega arith)
+shown-end (Done q k) om om' out out' (merged ms) e = ap shown e
+
+pub full : (n k : ℕ) (a : List ℕ) → a ≡ replicate k n → (t : ℕ) → t < length a → getD a t 0 ≡ n
+full n k a e t h = let l = ap length e ∙ length-replicate {A = ℕ} k n in ap (λ (r : List ℕ). getD r t 0) e ∙ getD-replicate k t n 0 (omega arith)
+
+pub linkable : (ms : List Mapping) (gm : List ℕ) (q : ℕ) (gv : List ℕ) (e : ℕ) → Stands ms gm q gv e → (names : ℕ) (known-rest : Bool) → names ≤ 4096
+    → faultFlat gm q gv e names known-rest ≡ 0 → (st sm so : ℕ) → q ≤ 8192 → 2 * q ≤ sm → 3 * e ≤ so → 3 * e ≤ st → so < 4294967296 → Linkable gm q gv st sm so
+linkable ms gm q gv e s names known-rest h z st sm so c i j k m =
+    let a = stands-before ms gm q gv e s in
+    let b = s .how-long in
+    let d = stands-spans ms gm q gv e s in
+    record {
+      words = stands-words ms gm q gv e s;
+      count = c;
+      spans = omega arith;
+      names = λ t y. let w = names-below ms gm q gv e s names known-rest z t y in omega arith;
+      maps = i;
+      room = omega arith;
+      space = omega arith;
+      small = m;
+    }
+
+pub plan-fault : (ms : List Mapping) (gm : List ℕ) (q : ℕ) (gv : List ℕ) (e : ℕ) → Stands ms gm q gv e → (names : ℕ) (known-rest : Bool) (om out : List ℕ) (n : ℕ)
+    → n ≡ faultFlat gm q gv e names known-rest → n ≢ 0 → fault n ≡ planOf names known-rest ms om out
+unfolding planOf planOn
+plan-fault ms gm q gv e s names known-rest om out n a d = go n (a ∙ fault-same ms gm q gv e s names known-rest) d
+  where
+    go : (k : ℕ) → k ≡ faultOf names known-rest ms → k ≢ 0 → fault k ≡ planOn (faultOf names known-rest ms) om out ms
+    go zero x y = absurd (y refl)
+    go (suc k) x y = ap (λ (j : ℕ). planOn j om out ms) x
+
+pub plan-laid : (ms : List Mapping) (gm : List ℕ) (q : ℕ) (gv : List ℕ) (e : ℕ) → Stands ms gm q gv e → (names : ℕ) (known-rest : Bool) (om out om' out' : List ℕ) (n : ℕ) (r x : Names)
+    → n ≡ faultFlat gm q gv e names known-rest → n ≡ 0 → endNames r om' out' ≡ finishNames om 0 out 0 (byName (mappingsFrom gm gv 0 0 q)) → r ≡ x
+    → shownNames x om' out' ≡ planOf names known-rest ms om out
+unfolding planOf
+plan-laid ms gm q gv e s names known-rest om out om' out' n r x a z h d =
+    ap (λ (y : Names). shownNames y om' out') (sym d)
+    ∙ shown-end r om om' out out' (byName ms) (h ∙ ap (λ (l : List Mapping). finishNames om 0 out 0 (byName l)) (stands-read ms gm q gv e s))
+    ∙ sym (ap (λ (j : ℕ). planOn j om out ms) (sym (fault-same ms gm q gv e s names known-rest) ∙ sym a ∙ z) ∙ at-zero om out ms)
+
+module _ (lm : List ℕ) (n : ℕ) (lv rm : List ℕ) (k : ℕ) (rv : List ℕ) (names sm so : ℕ) (p : Planable lm n lv rm k rv names sm so) where
+  pub plan-gathered : (a b : ℕ) → a ≡ 16384 → b ≡ 393216 → Gathered lm n lv rm k rv a b
+  plan-gathered a b x y =
+      let c = p .left-count in
+      let d = p .right-count in
+      let e = p .few-spans in
+      record {
+        left-words = p .left-words;
+        left-count = c;
+        left-spans = p .left-spans;
+        right-words = p .right-words;
+        right-count = d;
+        right-spans = p .right-spans;
+        maps = omega arith;
+        room = omega arith;
+        small = omega arith;
+        few = omega arith;
+      }
+
+  pub plan-linkable : (gm : List ℕ) (q : ℕ) (gv : List ℕ) (e : ℕ) → Stands (bothSides lm n lv rm k rv) gm q gv e → (known-rest : Bool) (f : ℕ)
+      → f ≡ faultFlat gm q gv e names known-rest → f ≡ 0 → (st : ℕ) → st ≡ 393216 → Linkable gm q gv st sm so
+  plan-linkable gm q gv e s known-rest f a z st x =
+      let c = p .left-count in
+      let d = p .right-count in
+      let g = p .few-spans in
+      let i = both-size lm n lv rm k rv in
+      let j = both-count lm n lv rm k rv in
+      let y = s .how-many in
+      let w = s .how-long in
+      let u = p .maps in
+      let v = p .room in
+      linkable (bothSides lm n lv rm k rv) gm q gv e s names known-rest (p .few-names) (sym a ∙ z) st sm so (omega arith) (omega arith) (omega arith) (omega arith) (omega arith)
