@@ -22,7 +22,7 @@ use Rattle.map_point.specs.PointsLaws.{set-rising}
 use Rattle.map_point.specs.PointsSteps.{Stores}
 use Rattle.metadata_rules.specs.Metadata.{Mapping, mapping}
 use Rattle.metadata_rules.specs.Words.{nameAt, countAt, stretch, mappingsFrom, before}
-use Rattle.metadata_lists.specs.Link.{before-up}
+use Rattle.metadata_rules.specs.WordsLaws.{before-up}
 use Rattle.build_rules.specs.declared.reading.Direction.{Direction}
 use Rattle.build_rules.specs.Reading.{fault, value, readOf}
 use Rattle.build_rules.specs.ReadingLaws.{refused-read}

@@ -3,9 +3,9 @@
 use build_rules::reading::Direction;
 use build_rules::reading::Heading;
 use build_rules::reading::direction_by;
+use leaves::refusal::Refusal;
 use leaves_days::days::Day;
 use leaves_days::days::day_of;
-use leaves::refusal::Refusal;
 use metadata_form::header::Header;
 ghost use mathlib.Core.Path.{_≡_};
 ghost use Prim.Native.Nat.{_≤_};

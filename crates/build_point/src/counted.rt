@@ -2,8 +2,8 @@
 // interval up to it are read.
 use leaves_days::days::Day;
 use leaves_days::days::day_of;
-use metadata_rules::Interval;
 use metadata_form::words::interval_at;
+use metadata_rules::Interval;
 ghost use mathlib.Core.Path.{_≡_};
 ghost use Prim.Native.Nat.{_+_, _*_, _≤_, _<_};
 ghost use lib.ListN.{length};

@@ -1,9 +1,9 @@
 // What both builds read of a metadata (01, The map over time): the direction, what stands under a name's number, an instrument's
 // number, a date; and the table emptied.
-use leaves_days::days::Day;
-use leaves_days::days::Moment;
 use leaves::number_text::Reading;
 use leaves::refusal::Refusal;
+use leaves_days::days::Day;
+use leaves_days::days::Moment;
 ghost use mathlib.Core.Path.{_≡_};
 ghost use Prim.Native.Nat.{_≤_, _<_};
 ghost use mathlib.Core.List.{[]};

@@ -37,7 +37,7 @@ use Rattle.metadata_rules.specs.Words.{nameAt, countAt, before, intervalAt, str
 use Rattle.metadata_form.specs.declared.header.Header.{Header}
 use Rattle.metadata_form.specs.declared.header.Lengths.{Lengths}
 use Rattle.metadata_form.specs.Header.{Lists, lengthsOf, metadataOf, sizedOf, Sized, sized-facts}
-use Rattle.metadata_lists.specs.Link.{before-next, before-up}
+use Rattle.metadata_rules.specs.WordsLaws.{before-next, before-up}
 use Rattle.build_rules.specs.declared.reading.Direction.{Direction}
 use Rattle.build_rules.specs.declared.reading.Direction.the-variants as direction
 use Rattle.build_rules.specs.declared.reading.Symbol.{Symbol}

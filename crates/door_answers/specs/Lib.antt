@@ -1,2 +1,4 @@
 pub mod Answers
 pub mod AnswersLaws
+pub mod Header
+pub mod HeaderLaws

@@ -5,8 +5,9 @@ ghost use mathlib.Core.Bool.{true};
 ghost use Prim.Native.Nat.{_≤_};
 ghost use lib.Dec.{eqb};
 ghost use lib.ListN.{length, getD};
-ghost use Rattle.metadata_merge.specs.Merger.{bit, numbersOf};
-ghost use Rattle.door_metadata.specs.Merger.{widths, within, headerFits, headerOf};
+ghost use Rattle.theory.specs.Answer.{bit};
+ghost use Rattle.metadata_form.specs.Header.{numbersOf};
+ghost use Rattle.door_answers.specs.Header.{widths, within, headerFits, headerOf};
 
 const TOP: u64 = 18446744073709551615;
 

@@ -10,7 +10,7 @@ use Rattle.leaves.specs.declared.refusal.Refusal.{Refusal}
 use Rattle.metadata_form.specs.declared.header.Header.{Header}
 use Rattle.door_answers.specs.Answers.{numberIn, valueIn}
 use Rattle.door_answers.specs.AnswersLaws.{refused-value}
-use Rattle.door_metadata.specs.Merger.{headerFits, headerOf}
+use Rattle.door_answers.specs.Header.{headerFits, headerOf}
 
 -- the answer of a build over these words, and the table of so many bytes after it: words that are no header get 15 and empty it too
 unfoldable pub buildingAnswer : List ℕ → (Header → Answer) → Answer

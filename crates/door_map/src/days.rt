@@ -1,9 +1,9 @@
 // Dates and days at the C door (01, Names, numbers, days).
 use door_answers::DONE;
+use leaves::refusal::number;
 use leaves_days::days::Date;
 use leaves_days::days::Day;
 use leaves_days::days::Moment;
-use leaves::refusal::number;
 ghost use mathlib.Core.Path.{_≡_};
 ghost use Rattle.leaves_days.specs.Days.{dayOf, dateOf, startOf};
 ghost use Rattle.door_answers.specs.Answers.{numberIn, valueIn};

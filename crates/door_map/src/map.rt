@@ -2,10 +2,10 @@
 use door_answers::DONE;
 use door_answers::damage::reason_in;
 use leaves::refusal::number;
+use map_look::lookup::Found;
 use map_record::mapping::Recorded;
 use map_time::insert::Inserted;
 use map_time::interval::Interval;
-use map_look::lookup::Found;
 use map_time::table::Checked;
 ghost use mathlib.Core.Path.{_≡_};
 ghost use mathlib.Core.Bool.{false, _||_};

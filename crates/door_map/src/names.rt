@@ -1,9 +1,9 @@
 // The name list at the C door (01, Names, numbers, days): the names' bytes one after another, where each ends, and two numbers in use.
 use door_answers::DONE;
+use leaves::refusal::number;
 use leaves_names::names::Checked;
 use leaves_names::names::Named;
 use leaves_names::names::Placed;
-use leaves::refusal::number;
 ghost use mathlib.Core.Path.{_≡_};
 ghost use Rattle.leaves_names.specs.Names.{checkNames, naming, namingAnswer, bytesAfter, endsAfter, placeOfName};
 ghost use Rattle.door_answers.specs.Answers.{numberIn, valueIn};

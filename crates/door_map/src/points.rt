@@ -2,8 +2,8 @@
 use door_answers::DONE;
 use door_answers::damage::reason_in;
 use leaves::refusal::number;
-use map_record::mapping::Recorded;
 use map_look::lookup::Found;
+use map_record::mapping::Recorded;
 use map_time::table::Checked;
 ghost use mathlib.Core.Path.{_≡_};
 ghost use mathlib.Core.Bool.{true, not, _||_};

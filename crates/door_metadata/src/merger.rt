@@ -1,11 +1,11 @@
 // The metadata merge at the C door (01, Merging metadata). A metadata is fourteen words, its header, and five lists of words:
 // symbols, partial, not_found (a word an entry), mappings (two words each: name, number of intervals) and intervals (three words
 // each: start date, end date, symbol).
-use door_map::BAD_MEMORY;
-use door_map::DONE;
 use door_answers::header::header_of;
 use door_answers::header::is_header;
 use door_answers::header::put_header;
+use door_answers::BAD_MEMORY;
+use door_answers::DONE;
 use leaves::refusal::Refusal;
 use leaves::refusal::number;
 use metadata_merge::merger::Finished;
@@ -16,7 +16,8 @@ ghost use mathlib.Core.Bool.{_&&_};
 ghost use Rattle.leaves.specs.Refusal.{refused};
 ghost use Rattle.metadata_form.specs.Header.{lists};
 ghost use Rattle.door_answers.specs.Answers.{numberIn};
-ghost use Rattle.door_metadata.specs.Merger.{headerFits, fieldIn, Opening, Merging, finishingAnswer};
+ghost use Rattle.door_answers.specs.Header.{headerFits};
+ghost use Rattle.door_metadata.specs.Merger.{fieldIn, Opening, Merging, finishingAnswer};
 
 // The field that comes with a refusal, or what is held.
 fn field_in(refusal: Refusal, held: u32) -> u32

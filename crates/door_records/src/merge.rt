@@ -1,9 +1,9 @@
 // The record merge at the C door (01, Merging records). Its state stands in five arrays of 256 places that the caller lends, and in
 // the number of streams that the heap holds.
-use door_map::DONE;
 use door_answers::damage::place_in;
 use door_answers::damage::reason_in;
 use door_answers::damage::stream_in;
+use door_answers::DONE;
 use leaves::refusal::number;
 use records::merge::Opening;
 use records::merge::Turn;

@@ -23,7 +23,8 @@ use Rattle.metadata_gather.specs.Judge.{knownDate}
 use Rattle.metadata_form.specs.declared.header.Header.{Header}
 use Rattle.metadata_form.specs.Header.{Lists, lists, metadataOf, sizedOf}
 use Rattle.metadata_form.specs.Over.{over}
-use Rattle.metadata_merge.specs.Merger.{numbersOf, bothSized, mergeAnswer, mergeLists}
+use Rattle.metadata_form.specs.Header.{numbersOf}
+use Rattle.metadata_merge.specs.Merger.{bothSized, mergeAnswer, mergeLists}
 use Rattle.records_rules.specs.Machine.{start}
 use Rattle.records_rules.specs.Bytes.{streamsOf}
 use Rattle.records_rules.specs.State.{answerOf, rightMemory, rightStreams, padded, opening}

@@ -10,7 +10,7 @@ use borrow.Author.Tests.{le-leb, lt-leb, eq-eqb, ne-eqb}
 use lib.ListN.{length, getD}
 use lib.Seq.{slice}
 use Rattle.theory.specs.Answer.{answer}
-use Rattle.leaves_names.specs.Utf8Laws.{cut, none-left}
+use Rattle.theory.specs.Slices.{cut, none-left}
 use Rattle.leaves.specs.NumberText.{isDigit, stuck, digits, someDigits, numberText}
 
 -- the value with one more digit; one past the largest where the byte is no digit

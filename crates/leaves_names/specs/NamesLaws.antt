@@ -12,7 +12,7 @@ use lib.ListN.{length, getD, set, take, drop}
 use lib.Seq.{slice, length-slice, paste, paste-suc, length-paste, getD-drop, getD-take}
 use native.Mathlib.Nat.{add-zero, zero-add}
 use Rattle.leaves_names.specs.Utf8.{isUtf8}
-use Rattle.leaves_names.specs.Utf8Laws.{cut, none-left, whole}
+use Rattle.theory.specs.Slices.{cut, none-left, whole}
 use Rattle.leaves_names.specs.Names.{startOf, endOf, nameOf, namesFrom, namesOf, isName, standFrom, wellFormed, memoryOk, same, least, hasRoom, numbering, naming, namingAnswer, written, bytesAfter, endsAfter}
 use Rattle.theory.specs.Answer.{answer}
 use Rattle.leaves.specs.Refusal.{refused}

@@ -9,7 +9,8 @@ use native.Mathlib.Omega.{arith}
 use native.Mathlib.Numerals.{add-one}
 use lib.Dec.{T, leb, le→leb}
 use lib.ListN.{length, getD}
-use lib.Seq.{slice, slice-cons, slice-empty, take-all}
+use lib.Seq.{slice}
+use Rattle.theory.specs.Slices.{cut, none-left}
 use Rattle.leaves_names.specs.Utf8.{within, utf8-1, utf8-2, three, utf8-3, four, utf8-4, isUtf8}
 
 -- n is the length of the UTF8-char that stands at place at, of the bytes before to; 0 where none does
@@ -93,9 +94,6 @@ no-4 a b c d s e f g h = rw (e, f, g, h)
 
 -- ---- the bytes from a place on
 
-pub cut : (s : List ℕ) (at to : ℕ) → at < to → to ≤ length s → slice at to s ≡ getD s at 0 ∷ slice (at + 1) to s
-cut s at to h k = slice-cons at to s 0 h k ∙ ap (λ (n : ℕ). getD s at 0 ∷ slice n to s) (sym (add-one at))
-
 cut-from : (s : List ℕ) (at to i j : ℕ) → i + 1 ≡ j → at + i < to → to ≤ length s → slice (at + i) to s ≡ getD s (at + i) 0 ∷ slice (at + j) to s
 cut-from s at to i j e h k =
     let p : at + i + 1 ≡ at + j = omega arith in
@@ -111,9 +109,6 @@ cut-3 s at to h k =
 cut-4 : (s : List ℕ) (at to : ℕ) → at + 3 < to → to ≤ length s → slice at to s ≡ getD s at 0 ∷ getD s (at + 1) 0 ∷ getD s (at + 2) 0 ∷ getD s (at + 3) 0 ∷ slice (at + 4) to s
 cut-4 s at to h k =
     cut-3 s at to (omega arith) k ∙ ap (λ (l : List ℕ). getD s at 0 ∷ getD s (at + 1) 0 ∷ getD s (at + 2) 0 ∷ l) (cut-from s at to 3 4 refl h k)
-
-pub none-left : (s : List ℕ) (at to : ℕ) → at ≡ to → slice at to s ≡ []
-none-left s at to e = ap (λ (n : ℕ). slice n to s) e ∙ slice-empty to s
 
 pub none-left-is : (s : List ℕ) (at to : ℕ) → at ≡ to → isUtf8 (slice at to s) ≡ true
 unfolding isUtf8
@@ -226,5 +221,3 @@ none-4 {s} {at} {to} h k e1 t1 l2 e2 t2 l3 e3 t3 l4 e4 t4 =
     bad h (ap isUtf8 (cut-4 s at to (omega arith) k) ∙ no-4 _ _ _ _ _ (sym e1 ∙ t1) (sym e2 ∙ t2) (sym e3 ∙ t3) (sym e4 ∙ t4))
 
 -- the whole text is its bytes from 0 to its length
-pub whole : (s : List ℕ) → slice 0 (length s) s ≡ s
-whole s = take-all (length s) s (omega arith)

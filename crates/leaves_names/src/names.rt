@@ -7,8 +7,8 @@ ghost use lib.ListN.{length, set};
 ghost use lib.Seq.{slice};
 ghost use Rattle.leaves_names.specs.Names.{startOf, endOf, namesOf, isName, wellFormed, memoryOk, same, least, hasRoom, written, checkedOf, checkNames, naming, namedOf, namingAnswer, bytesAfter, endsAfter, placedOf, placeOfName};
 ghost use Rattle.leaves_names.specs.NamesLaws.{standing, Ordered};
-use leaves::refusal::Refusal;
 use crate::utf8::is_utf8_within;
+use leaves::refusal::Refusal;
 
 // The most names.
 pub const NAMES: usize = 4096;

@@ -2,21 +2,21 @@
 // read and judged before anything is stored, and the name joins the list last.
 use leaves::frame::Mapping;
 use leaves::frame::read_mapping;
+use leaves::refusal::Refusal;
 use leaves_names::names::add_name;
 use leaves_names::names::find_name;
 use leaves_names::names::has_room;
 use leaves_names::names::is_list;
 use leaves_names::names::is_memory;
 use leaves_names::names::is_name;
-use leaves::refusal::Refusal;
 use map_point::entries::Entry;
-use map_time::insert::Inserted;
-use map_time::insert::place;
-use map_time::interval::Interval;
 use map_point::points::Stored;
 use map_point::points::points_fit;
 use map_point::points::set_entry;
 use map_point::points::well_formed;
+use map_time::insert::Inserted;
+use map_time::insert::place;
+use map_time::interval::Interval;
 use map_time::table::bad_table;
 ghost use mathlib.Core.Path.{_≡_};
 ghost use mathlib.Core.Bool.{true};

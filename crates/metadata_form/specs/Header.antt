@@ -4,10 +4,11 @@ use mathlib.Core.Path.{_≡_, refl}
 use Prim.Native.Nat.{ℕ, _*_, _/_, _%_, _≤_, min, max}
 use native.Mathlib.Omega.{arith}
 use mathlib.Core.Bool.{Bool, true, false, _&&_}
-use mathlib.Core.List.{List}
+use mathlib.Core.List.{List, [], _∷_}
 use lib.ListN.{length, take}
 use lib.Dec.{leb, eqb}
 use borrow.Author.Tests.{leb-true, eqb-true}
+use Rattle.theory.specs.Answer.{bit}
 use Rattle.metadata_rules.specs.Metadata.{Metadata, Fields, sameSchema}
 use Rattle.metadata_rules.specs.Words.{before, mappingsFrom}
 use Rattle.metadata_form.specs.declared.header.Header.{Header}
@@ -28,6 +29,12 @@ headerFields h = record {
   ts-out = h .«ts_out»;
   symbol-cstr-len = h .«symbol_cstr_len»;
 }
+
+-- a header's numbers, in the order of its fields
+abbrev pub numbersOf : Header → List ℕ
+numbersOf h =
+    h .version ∷ h .dataset ∷ h .schema ∷ h .start ∷ h .end ∷ h .limit ∷ h .«stype_in» ∷ h .«stype_out» ∷ bit (h .«ts_out») ∷ h .«symbol_cstr_len»
+    ∷ h .symbols ∷ h .partial ∷ h .«not_found» ∷ h .mappings ∷ []
 
 -- the five lent lists, whole
 pub record Lists : Type 0 where

@@ -17,7 +17,8 @@ use Rattle.metadata_rules.specs.Metadata.{Mapping, mapping, enter, enterAll, co
 use Rattle.metadata_rules.specs.Words.{nameAt, countAt, stretch, mappingsFrom, before}
 use Rattle.metadata_form.specs.Words.{putMapping, lay}
 use Rattle.metadata_lists.specs.Flat.{listAt, placedFrom, placedTo}
-use Rattle.metadata_lists.specs.Link.{flat-same, before-next, before-up}
+use Rattle.metadata_rules.specs.WordsLaws.{before-next, before-up}
+use Rattle.metadata_lists.specs.Link.{flat-same}
 use Rattle.metadata_lists.specs.Name.{list-length}
 use Rattle.metadata_lists.specs.Names.{Final, placed, layAll}
 use Rattle.metadata_gather.specs.Picks.{enterPlace, picksOf}

@@ -2,10 +2,10 @@
 // interval. Each answers whether all pass. Helpers: each asks for the words that it reads.
 use leaves_days::days::Day;
 use leaves_days::days::day_of;
-use metadata_rules::Interval;
 use metadata_form::words::interval_at;
 use metadata_form::words::name_at;
 use metadata_form::words::wide;
+use metadata_rules::Interval;
 ghost use mathlib.Core.Path.{_≡_};
 ghost use mathlib.Core.Logic.{_≢_};
 ghost use mathlib.Core.Bool.{true};

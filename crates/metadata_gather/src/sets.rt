@@ -1,6 +1,6 @@
 // A set of both sides: equal entries once, in the order of first arrival.
-use crate::judge::entries_known;
 use crate::arrivals::add_all;
+use crate::judge::entries_known;
 ghost use mathlib.Core.Path.{_≡_};
 ghost use mathlib.Core.Bool.{_&&_};
 ghost use mathlib.Core.List.{[]};

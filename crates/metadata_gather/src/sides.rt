@@ -1,11 +1,11 @@
 // The mappings of two sides one after the other, the first side without its repeats: two words a mapping in `gm`, three an
 // interval in `gv`, as in lent memory.
 use crate::picks::picks;
-use metadata_lists::link::offsets;
 use metadata_form::words::copy_intervals;
 use metadata_form::words::count_at;
 use metadata_form::words::name_at;
 use metadata_form::words::put_mapping;
+use metadata_lists::link::offsets;
 ghost use mathlib.Core.Path.{_≡_};
 ghost use Prim.Native.Nat.{ℕ, _+_, _-_, _*_, _<_, _≤_};
 ghost use mathlib.Core.List.{[], _++_};

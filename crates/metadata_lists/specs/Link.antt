@@ -4,30 +4,14 @@ use mathlib.Core.Path.{_≡_, refl, sym, ap, _∙_, subst}
 use mathlib.Core.Logic.{_≢_, _⊎_, inl, inr}
 use Prim.Native.Nat.{ℕ, zero, suc, _+_, _-_, _*_, _≤_, _<_}
 use native.Mathlib.Omega.{arith}
-use native.Mathlib.Numerals.{add-one}
 use native.Mathlib.Decide.{decLe, ℕ-discrete}
 use mathlib.Core.List.{List, [], _∷_}
 use lib.ListN.{length, getD, set, length-set}
 use lib.Seq.{getD-set-same, getD-set-other}
 use Rattle.metadata_rules.specs.Metadata.{Mapping, mapping}
 use Rattle.metadata_rules.specs.Words.{nameAt, countAt, stretch, mappingsFrom, before}
+use Rattle.metadata_rules.specs.WordsLaws.{before-next}
 use Rattle.metadata_lists.specs.Flat.{listAt, placedFrom, First, Linked}
-
-pub before-next : (m : List ℕ) (t : ℕ) → before m (t + 1) ≡ before m t + countAt m t
-unfolding before
-before-next m t = ap (before m) (add-one t)
-
-grow : (m : List ℕ) (d t : ℕ) → before m t ≤ before m (t + d)
-grow m zero t = let z : t ≡ t + 0 = omega arith in subst (λ (u : ℕ). before m t ≤ before m u) z (omega arith)
-grow m (suc d) t =
-    let z : (t + 1) + d ≡ t + suc d = omega arith in
-    let g : before m (t + 1) ≤ before m (t + suc d) = subst (λ (u : ℕ). before m (t + 1) ≤ before m u) z (grow m d (t + 1)) in
-    omega (arith, before-next m t)
-
-pub before-up : (m : List ℕ) (t e : ℕ) → t ≤ e → before m t ≤ before m e
-before-up m t e h =
-    let z : t + (e - t) ≡ e = omega arith in
-    subst (λ (u : ℕ). before m t ≤ before m u) z (grow m (e - t) t)
 
 pub off-turn : (m off off' : List ℕ) (t o : ℕ) → t < length off → o ≡ before m t → off' ≡ set off t o
     → ((s : ℕ) → s < t → getD off s 0 ≡ before m s) → (s : ℕ) → s < t + 1 → getD off' s 0 ≡ before m s

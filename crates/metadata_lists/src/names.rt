@@ -1,6 +1,6 @@
 // Every name's outcome, one after the other, in the order of first arrival.
-use crate::name::lay_name;
 use crate::heads::Walked;
+use crate::name::lay_name;
 use metadata_form::words::name_at;
 use metadata_form::words::put_mapping;
 use metadata_form::words::wide;

@@ -9,7 +9,7 @@ use lib.ListN.{length, take}
 use lib.Seq.{length-take-le, take-append-seam}
 use lib.Dec.{leb}
 use borrow.Author.Tests.{leb-true}
-use Rattle.theory.specs.Answer.{Answer, answer}
+use Rattle.theory.specs.Answer.{Answer, answer, bit}
 use Rattle.leaves.specs.Refusal.{refused}
 use Rattle.leaves.specs.declared.refusal.Refusal.{Refusal}
 use Rattle.leaves.specs.declared.refusal.Refusal.the-variants.{Differ, BadMemory}
@@ -24,7 +24,7 @@ use Rattle.metadata_gather.specs.Sides.{Sound, lost-count, count-all}
 use Rattle.metadata_form.specs.declared.header.Header.{Header}
 use Rattle.metadata_form.specs.declared.header.Lengths.{Lengths}
 use Rattle.metadata_form.specs.declared.header.Counts.{Counts}
-use Rattle.metadata_form.specs.Header.{Lists, lists, lengthsOf, headerFields, metadataOf, sizedOf, mergedHeader, countedHeader, Sized, sized-facts, countsFit}
+use Rattle.metadata_form.specs.Header.{Lists, lists, lengthsOf, headerFields, metadataOf, sizedOf, mergedHeader, countedHeader, Sized, sized-facts, countsFit, numbersOf}
 use Rattle.metadata_form.specs.Over.{over}
 use Rattle.metadata_gather.specs.Sets.{AllUnited}
 use Rattle.metadata_merge.specs.Outcome.{given, Outcomes, Deciding, Decided, Fitted, Plannable, Commit, Fits1, committed, lists-same, countsOf, front}
@@ -37,17 +37,6 @@ use Rattle.metadata_merge.specs.declared.merger.Merged.{Merged}
 use Rattle.metadata_merge.specs.declared.merger.Merged.the-variants as merging
 use Rattle.metadata_merge.specs.declared.merger.Finished.{Finished}
 use Rattle.metadata_merge.specs.declared.merger.Finished.the-variants as finishing
-
--- a bool as a number
-abbrev pub bit : Bool → ℕ
-bit true = 1
-bit false = 0
-
--- a header's numbers, in the order of its fields
-abbrev pub numbersOf : Header → List ℕ
-numbersOf h =
-    h .version ∷ h .dataset ∷ h .schema ∷ h .start ∷ h .end ∷ h .limit ∷ h .«stype_in» ∷ h .«stype_out» ∷ bit (h .«ts_out») ∷ h .«symbol_cstr_len»
-    ∷ h .symbols ∷ h .partial ∷ h .«not_found» ∷ h .mappings ∷ []
 
 -- what each answer says: done with the header's numbers, or a refusal
 abbrev pub openedOf : Opened → Answer

@@ -15,7 +15,8 @@ use Rattle.metadata_rules.specs.Cases.{eqb-case}
 use Rattle.metadata_rules.specs.Words.{nameAt, countAt, mappingsFrom, before, mappingWords, intervalWords, namesFrom, stretch, read-back, intervals-test, names-test, mapping-length, interval-length}
 use Rattle.metadata_form.specs.Words.{rest}
 use Rattle.metadata_lists.specs.Flat.{placedFrom, placedTo}
-use Rattle.metadata_lists.specs.Link.{Chained, chained-linked, chained-heads, before-up, before-next, flat-same}
+use Rattle.metadata_rules.specs.WordsLaws.{before-up, before-next}
+use Rattle.metadata_lists.specs.Link.{Chained, chained-linked, chained-heads, flat-same}
 use Rattle.metadata_lists.specs.Names.{Final, failed, placed, layAll, finishNames, collectTo, sumsTo, endNames}
 use Rattle.metadata_lists.specs.NamesLaying.{AllReady}
 use Rattle.metadata_lists.specs.NamesWhole.{HeadOk, collect-by-name, sums-bound}

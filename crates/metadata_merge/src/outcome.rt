@@ -1,14 +1,14 @@
 // The outcome of a merge in scratch, or its refusal, and the outcome laid over the lent lists.
+use crate::plan::Planned;
+use crate::plan::plan;
 use leaves::refusal::Refusal;
 use metadata_form::header::Counts;
 use metadata_form::header::Header;
 use metadata_form::header::Lengths;
 use metadata_form::header::fits;
 use metadata_form::over::lay_over;
-use metadata_gather::sets::unite;
-use crate::plan::Planned;
-use crate::plan::plan;
 use metadata_form::words::wide;
+use metadata_gather::sets::unite;
 ghost use mathlib.Core.Path.{_≡_};
 ghost use Prim.Native.Nat.{_+_, _*_, _<_, _≤_};
 ghost use lib.ListN.{length};

@@ -7,4 +7,5 @@ pub mod Fold
 pub mod Cover
 pub mod Laws
 pub mod Words
+pub mod WordsLaws
 pub mod Examples

@@ -8,7 +8,9 @@ use lib.ListN.{getD}
 use Rattle.theory.specs.Answer.{answer}
 use Rattle.leaves.specs.FrameLaws.{refused-one}
 use Rattle.metadata_form.specs.declared.header.Header.{Header}
-use Rattle.metadata_merge.specs.Merger.{bit, numbersOf, openedOf, mergedOf, finishedOf}
+use Rattle.theory.specs.Answer.{bit}
+use Rattle.metadata_form.specs.Header.{numbersOf}
+use Rattle.metadata_merge.specs.Merger.{openedOf, mergedOf, finishedOf}
 use Rattle.metadata_merge.specs.declared.merger.Opened.{Opened}
 use Rattle.metadata_merge.specs.declared.merger.Opened.the-variants as opening
 use Rattle.metadata_merge.specs.declared.merger.Merged.{Merged}

@@ -9,7 +9,8 @@ ghost use mathlib.Core.Bool.{_||_};
 ghost use Prim.Native.Nat.{_-_, _<_, _≤_};
 ghost use lib.Dec.{eqb};
 ghost use lib.ListN.{length};
-ghost use Rattle.records_rules.specs.State.{bit, Room, riseTo, rightStreams};
+ghost use Rattle.theory.specs.Answer.{bit};
+ghost use Rattle.records_rules.specs.State.{Room, riseTo, rightStreams};
 ghost use Rattle.records_rules.specs.Opening.{markAt, numberAt, Laid};
 
 // Cuts are one more than the streams.

@@ -1,7 +1,8 @@
 // What the tests and the laying of the merge's arrays share: the places, the marks, and what is right of what is lent.
 ghost use mathlib.Core.Path.{_≡_};
 ghost use lib.ListN.{getD};
-ghost use Rattle.records_rules.specs.State.{bit, rightMemory};
+ghost use Rattle.theory.specs.Answer.{bit};
+ghost use Rattle.records_rules.specs.State.{rightMemory};
 
 // The places of each array that is lent, and what an empty one holds.
 pub const PLACES: usize = 256;

@@ -15,7 +15,8 @@ use Rattle.records_rules.specs.Machine.{waiting, start}
 use Rattle.records_rules.specs.View.{tab, statusOf, statusesOf}
 use Rattle.records_rules.specs.Sift.{Heaped}
 use Rattle.records_rules.specs.Holds.{Holds, holds-moved}
-use Rattle.records_rules.specs.State.{bit, rightMemory, rightStreams, Room, riseTo, padded, Opened}
+use Rattle.theory.specs.Answer.{bit}
+use Rattle.records_rules.specs.State.{rightMemory, rightStreams, Room, riseTo, padded, Opened}
 
 -- ---- each place of the 256 is laid
 

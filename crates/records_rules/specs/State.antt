@@ -28,11 +28,6 @@ unfoldable pub rightMemory : ℕ → ℕ → ℕ → ℕ → ℕ → ℕ → Boo
 rightMemory held marks times places heads heap =
     leb held 256 && (eqb marks 256 && (eqb times 256 && (eqb places 256 && (eqb heads 256 && eqb heap 256))))
 
--- a test as a number: 1 where it holds
-abbrev pub bit : Bool → ℕ
-bit true = 1
-bit false = 0
-
 -- what the inner functions need of it
 abbrev pub Room : ℕ → List ℕ → List ℕ → List ℕ → List ℕ → List ℕ → Type 0
 Room held ms ts cs hs hp = (held ≤ 256) × (256 ≤ length ms) × (256 ≤ length ts) × (256 ≤ length cs) × (256 ≤ length hs) × (256 ≤ length hp)

@@ -1,9 +1,9 @@
 // The whole text of a bundle's replay (document 01, "Merging records"), laid in lent bytes.
+use crate::telling::told;
+use leaves::refusal::Refusal;
 use lines::lines::word;
 use lines::sections::Parted;
 use lines::sections::part;
-use crate::telling::told;
-use leaves::refusal::Refusal;
 ghost use mathlib.Core.Path.{_≡_};
 ghost use Prim.Native.Nat.{_≤_};
 ghost use lib.ListN.{length, getD};

@@ -1,9 +1,9 @@
 // The merge of a buffer's streams told in lines (document 01, "Merging records"): it is opened with no hints and called to its end,
 // and each answer's line is laid behind the one before.
+use leaves::refusal::Refusal;
 use lines::lines::damage_line;
 use lines::lines::record_line;
 use lines::lines::word;
-use leaves::refusal::Refusal;
 use records::merge::Opening;
 use records::merge::Turn;
 use records::merge::empty_bytes;

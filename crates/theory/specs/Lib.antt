@@ -4,3 +4,4 @@ pub mod RunsTools
 pub mod RunsOverwrite
 pub mod RunsLongest
 pub mod Fields
+pub mod Slices

@@ -1,8 +1,8 @@
 // Cases of the table over time: check, insert, get_for_ts.
-use map_time::insert::Inserted;
-use map_time::interval::Interval;
 use map_look::lookup::Found;
 use map_look::lookup::Looked;
+use map_time::insert::Inserted;
+use map_time::interval::Interval;
 use map_time::table::Checked;
 ghost use mathlib.Core.Path.{_≡_};
 ghost use lib.ListN.{length};

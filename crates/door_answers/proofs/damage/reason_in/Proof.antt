@@ -3,7 +3,7 @@ use mathlib.Core.Path.{sym, ap}
 use Rattle.leaves.specs.Refusal.{refused}
 use Rattle.leaves.specs.declared.refusal.Refusal.{Refusal}
 use Rattle.door_answers.specs.Answers.{damageIn}
-use Rattle.door_map.proofs.Kept.{kept}
+use Rattle.door_answers.proofs.Kept.{kept}
 use borrow.Author.Needs.{needs}
 use Rattle.door_answers.proofs.damage.reason_in.Statement.{statement}
 use Rattle.door_answers.proofs.damage.reason_in.Tie as tie

@@ -6,7 +6,7 @@ use lib.ListN.{length, length-set}
 use lib.Seq.{paste, paste-zero}
 use denote.Ref.{now}
 use Rattle.metadata_form.specs.Over.{copy-turn}
-use Rattle.door_metadata.specs.MergerLaws.{paste-whole}
+use Rattle.door_answers.specs.HeaderLaws.{paste-whole}
 use borrow.Author.Needs.{needs}
 use Rattle.door_answers.proofs.header.copy.Statement.{statement}
 use Rattle.door_answers.proofs.header.copy.Tie as tie

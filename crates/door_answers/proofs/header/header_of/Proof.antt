@@ -4,7 +4,7 @@ use mathlib.Core.Path.{_∙_, ap}
 use lib.Dec.{eqb}
 use denote.Ref.{now}
 use Prim.Native.Nat.{ℕ}
-use Rattle.door_metadata.specs.MergerLaws.{word-fits, header-same}
+use Rattle.door_answers.specs.HeaderLaws.{word-fits, header-same}
 use borrow.Author.Needs.{needs}
 use Rattle.door_answers.proofs.header.header_of.Statement.{statement}
 use Rattle.door_answers.proofs.header.header_of.Tie as tie

@@ -3,7 +3,7 @@ use mathlib.Core.Path.{ap, _∙_}
 use mathlib.Core.List.{List}
 use Prim.Native.Nat.{ℕ}
 use denote.Ref.{now}
-use Rattle.door_metadata.specs.Merger.{within, headerFits}
+use Rattle.door_answers.specs.Header.{within, headerFits}
 use borrow.Author.Needs.{needs}
 use Rattle.door_answers.proofs.header.is_header.Statement.{statement}
 use Rattle.door_answers.proofs.header.is_header.Tie as tie

@@ -4,8 +4,8 @@ use mathlib.Core.Path.{_≡_, refl, _∙_}
 use Prim.Native.Nat.{_-_}
 use lib.ListN.{length, drop}
 use denote.Ref.{now}
-use Rattle.door_metadata.specs.Merger.{within}
-use Rattle.door_metadata.specs.MergerLaws.{within-unequal, within-over, within-on, within-end}
+use Rattle.door_answers.specs.Header.{within}
+use Rattle.door_answers.specs.HeaderLaws.{within-unequal, within-over, within-on, within-end}
 use borrow.Author.Needs.{needs}
 use Rattle.door_answers.proofs.header.is_within.Statement.{statement}
 use Rattle.door_answers.proofs.header.is_within.Tie as tie

@@ -3,8 +3,9 @@ use mathlib.Core.Path.{sym, _∙_}
 use borrow.Author.Tests.{not-true, not-false}
 use denote.Ref.{now}
 use Rattle.metadata_form.specs.Header.{lists}
-use Rattle.door_metadata.specs.Merger.{headerFits}
-use Rattle.door_metadata.specs.MergerLaws.{and-left, and-right, header-length, merge-unfit, merge-done, merge-refused}
+use Rattle.door_answers.specs.Header.{headerFits}
+use Rattle.door_answers.specs.HeaderLaws.{and-left, and-right, header-length}
+use Rattle.door_metadata.specs.MergerLaws.{merge-unfit, merge-done, merge-refused}
 use borrow.Author.Needs.{needs}
 use Rattle.door_metadata.proofs.merger.desk_metadata_merge.Statement.{statement}
 use Rattle.door_metadata.proofs.merger.desk_metadata_merge.Tie as tie

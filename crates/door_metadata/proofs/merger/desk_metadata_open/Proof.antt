@@ -3,7 +3,8 @@ use mathlib.Core.Path.{sym, _∙_}
 use borrow.Author.Tests.{not-true, not-false}
 use denote.Ref.{now}
 use Rattle.metadata_form.specs.Header.{lists}
-use Rattle.door_metadata.specs.MergerLaws.{header-length, open-unfit, open-done, open-refused}
+use Rattle.door_answers.specs.HeaderLaws.{header-length}
+use Rattle.door_metadata.specs.MergerLaws.{open-unfit, open-done, open-refused}
 use borrow.Author.Needs.{needs}
 use Rattle.door_metadata.proofs.merger.desk_metadata_open.Statement.{statement}
 use Rattle.door_metadata.proofs.merger.desk_metadata_open.Tie as tie

@@ -3,7 +3,7 @@ use mathlib.Core.Path.{sym, ap}
 use Rattle.leaves.specs.Refusal.{refused}
 use Rattle.leaves.specs.declared.refusal.Refusal.{Refusal}
 use Rattle.door_metadata.specs.Merger.{fieldIn}
-use Rattle.door_map.proofs.Kept.{field-kept}
+use Rattle.door_metadata.proofs.Kept.{field-kept}
 use borrow.Author.Needs.{needs}
 use Rattle.door_metadata.proofs.merger.field_in.Statement.{statement}
 use Rattle.door_metadata.proofs.merger.field_in.Tie as tie

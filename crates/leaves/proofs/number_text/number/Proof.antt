@@ -3,7 +3,7 @@
 use mathlib.Core.Path.{ap, _∙_}
 use borrow.Author.Needs.{needs}
 use Rattle.leaves.specs.NumberText.{numberText}
-use Rattle.leaves_names.specs.Utf8Laws.{whole}
+use Rattle.theory.specs.Slices.{whole}
 use Rattle.leaves.proofs.number_text.number.Statement.{statement}
 use Rattle.leaves.proofs.number_text.number.Tie as tie
 

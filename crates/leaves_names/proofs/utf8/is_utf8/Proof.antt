@@ -3,7 +3,7 @@
 use mathlib.Core.Path.{ap, _∙_}
 use borrow.Author.Needs.{needs}
 use Rattle.leaves_names.specs.Utf8.{isUtf8}
-use Rattle.leaves_names.specs.Utf8Laws.{whole}
+use Rattle.theory.specs.Slices.{whole}
 use Rattle.leaves_names.proofs.utf8.is_utf8.Statement.{statement}
 use Rattle.leaves_names.proofs.utf8.is_utf8.Tie as tie
 

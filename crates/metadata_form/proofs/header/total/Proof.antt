@@ -4,7 +4,7 @@ use Prim.Native.Nat.{ℕ, _≤_, _<_, _+_, _-_, _*_}
 use lib.ListN.{length}
 use denote.Ref.{now}
 use Rattle.metadata_rules.specs.Words.{before, countAt}
-use Rattle.metadata_lists.specs.Link.{before-next}
+use Rattle.metadata_rules.specs.WordsLaws.{before-next}
 use native.Mathlib.Omega.{arith}
 use Rattle.metadata_form.proofs.header.total.Statement.{statement}
 use Rattle.metadata_form.proofs.header.total.Tie as tie

@@ -4,7 +4,8 @@ use Prim.Native.Nat.{ℕ, suc, _≤_, _<_, _+_, _-_, _*_}
 use native.Mathlib.Omega.{arith}
 use lib.ListN.{length, getD, set, length-set}
 use Rattle.metadata_rules.specs.Words.{before}
-use Rattle.metadata_lists.specs.Link.{before-next, before-up, off-turn}
+use Rattle.metadata_rules.specs.WordsLaws.{before-next, before-up}
+use Rattle.metadata_lists.specs.Link.{off-turn}
 use Rattle.metadata_lists.proofs.link.offsets.Statement.{statement}
 use Rattle.metadata_lists.proofs.link.offsets.Tie as tie
 

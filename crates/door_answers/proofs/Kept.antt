@@ -1,4 +1,4 @@
--- A refusal that is not damage brings no stream, place or reason, and one that is not 6 no field: what is held stays. Assumes nothing.
+-- A refusal that is not damage brings no stream, place or reason: what is held stays. Assumes nothing.
 use Prim.Native.Nat.{ℕ}
 use mathlib.Core.Path.{_≡_, refl}
 use mathlib.Core.List.{List, [], _∷_}
@@ -8,8 +8,7 @@ use Rattle.leaves.specs.Refusal.{refused}
 use Rattle.leaves.specs.declared.refusal.Refusal.{Refusal}
 use Rattle.leaves.specs.declared.refusal.Refusal.the-variants as refusal
 use Rattle.leaves.proofs.refusal.Refusal.{the-type}
 use Rattle.door_answers.specs.Answers.{damageIn}
-use Rattle.door_metadata.specs.Merger.{fieldIn}
 
 -- the tags of every refusal but damage
 abbrev others : List ℕ
@@ -32,25 +31,3 @@ kept refusal.BadStreams held k o = refl
 kept (refusal.Damaged stream place reason) held k o = absurd (miss others 12 tt o)
 kept refusal.IllFormed held k o = refl
 kept refusal.BadMemory held k o = refl
-
--- the tags of every refusal but 6
-abbrev agreeing : List ℕ
-agreeing = 0 ∷ 1 ∷ 2 ∷ 3 ∷ 4 ∷ 6 ∷ 7 ∷ 8 ∷ 9 ∷ 10 ∷ 11 ∷ 12 ∷ 13 ∷ 14 ∷ []
-
-pub field-kept : (r : Refusal) (held : ℕ) → OneOf agreeing (tagOf the-type r) → held ≡ fieldIn held (refused r)
-unfolding fieldIn
-field-kept refusal.Reversed held o = refl
-field-kept refusal.NoRoom held o = refl
-field-kept refusal.UnknownSymbol held o = refl
-field-kept refusal.BadName held o = refl
-field-kept refusal.NoNameRoom held o = refl
-field-kept (refusal.Differ field) held o = absurd (miss agreeing 5 tt o)
-field-kept refusal.Conflict held o = refl
-field-kept refusal.NotNumber held o = refl
-field-kept refusal.NoInstrumentId held o = refl
-field-kept refusal.OutsideQuery held o = refl
-field-kept refusal.NoDate held o = refl
-field-kept refusal.BadStreams held o = refl
-field-kept (refusal.Damaged stream place reason) held o = refl
-field-kept refusal.IllFormed held o = refl
-field-kept refusal.BadMemory held o = refl
