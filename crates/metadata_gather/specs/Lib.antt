@@ -3,3 +3,4 @@ pub mod Picks
 pub mod Sides
 pub mod Judge
 pub mod Sets
+pub mod Plan

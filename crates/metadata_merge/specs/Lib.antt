@@ -1,4 +1,3 @@
 pub mod Room
 pub mod Outcome
 pub mod Merger
-pub mod Plan

@@ -1,6 +1,6 @@
 // The outcome of a merge in scratch, or its refusal, and the outcome laid over the lent lists.
-use crate::plan::Planned;
-use crate::plan::plan;
+use metadata_gather::plan::Planned;
+use metadata_gather::plan::plan;
 use leaves::refusal::Refusal;
 use metadata_form::header::Counts;
 use metadata_form::header::Header;
