@@ -15,7 +15,7 @@ use Rattle.map_rules.specs.Table.{Row, intervalOf, answerFor, ordered, allKnown
 use Rattle.map_rules.specs.Tests.{good-room}
 use Rattle.map_rules.specs.Memory.{sameValue, knownValue}
 use Rattle.map_rules.specs.Pieces.{symbols}
-use Rattle.map_rules.specs.History.{Event, insertion, after, accepted, noted, Accepted, entered-ok, Told, told, stored-runs}
+use Rattle.map_rules.specs.History.{Event, insertion, after, accepted, noted, Accepted, entered-ok, Told, history-told, stored-runs}
 use Rattle.metadata_rules.specs.declared.Interval.{Interval}
 use Rattle.metadata_rules.specs.Metadata.{Mapping, Metadata}
 use Rattle.build_rules.specs.Reading.{Read, fault, value, andThen, textOf, numberIn, directionOf}
@@ -171,7 +171,7 @@ module _ (room : ℕ) (texts : List (List ℕ)) (few : length texts ≤ 4096) (s
   built-demanded m ys e =
       let c : Comes (length texts) room (insertsAsked texts m) ys = built-history m ys e in
       let es : List (Event ℕ) = events (length texts) room (insertsAsked texts m) in
-      let w : Told sameValue symbols knownValue (after sameValue knownValue es) (accepted sameValue knownValue es) = told sameValue symbols knownValue es in
+      let w : Told sameValue symbols knownValue (after sameValue knownValue es) (accepted sameValue knownValue es) = history-told sameValue symbols knownValue es in
       record {
         well-formed = c .formed;
         latest = λ i q. ap (λ (xs : List (Row ℕ)). answerFor xs i q) (c .history) ∙ w .latest i q ∙ ap (λ (xs : List (Row ℕ)). answerFor xs i q) (c .each);

@@ -15,7 +15,7 @@ use Rattle.leaves.specs.NumberText.{numberText, someDigits, digits, isDigit, st
 use Rattle.leaves_days.specs.Days.{dayOf, inRange}
 use Rattle.leaves_days.specs.Calendar.{isDate, dayNumber}
 use Rattle.map_rules.specs.Table.{Row, refusedBy, stored}
-use Rattle.map_rules.specs.Memory.{rowsBytes, rowBytes, written}
+use Rattle.map_rules.specs.Memory.{rowsBytes, rowBytes, rowsWritten}
 use Rattle.map_rules.specs.MemoryLaws.{length-row}
 use Rattle.metadata_rules.specs.declared.Interval.{Interval}
 use Rattle.metadata_rules.specs.Metadata.{Mapping, mapping}
@@ -271,8 +271,8 @@ drop-blank (suc n) zero = let e : suc n - 0 ≡ suc n = omega arith in rw e refl
 drop-blank (suc n) (suc k) = let e : suc n - suc k ≡ n - k = omega arith in rw e (drop-blank n k)
 
 -- rows in memory that held 0: the rows, and 0 in every other place
-pub laid-blank : (long : ℕ) (xs : List (Row ℕ)) → written (replicate long 0) 0 xs ≡ rowsBytes xs ++ replicate (long - length xs * 24) 0
-unfolding written
+pub laid-blank : (long : ℕ) (xs : List (Row ℕ)) → rowsWritten (replicate long 0) 0 xs ≡ rowsBytes xs ++ replicate (long - length xs * 24) 0
+unfolding rowsWritten
 laid-blank long xs =
     let a : (0 - length xs) * 24 ≡ 0 = omega arith in
     let b : max 0 (length xs) * 24 ≡ length xs * 24 = omega arith in
@@ -284,8 +284,8 @@ drop-rows k xs bs h =
     ap (λ (n : ℕ). drop n (rowsBytes xs ++ bs)) (sym e) ∙ drop-append-add (rowsBytes xs) bs (k - length xs * 24)
 
 over-blank : (long : ℕ) (xs ys : List (Row ℕ)) → length xs * 24 ≤ long → length ys * 24 ≤ long
-    → written (rowsBytes xs ++ replicate (long - length xs * 24) 0) (length xs) ys ≡ rowsBytes ys ++ replicate (long - length ys * 24) 0
-unfolding written
+    → rowsWritten (rowsBytes xs ++ replicate (long - length xs * 24) 0) (length xs) ys ≡ rowsBytes ys ++ replicate (long - length ys * 24) 0
+unfolding rowsWritten
 over-blank long xs ys h k =
     let x : ℕ = max (length xs) (length ys) in
     let d : drop (x * 24) (rowsBytes xs ++ replicate (long - length xs * 24) 0) ≡ replicate (long - x * 24) 0 =
@@ -298,5 +298,5 @@ over-blank long xs ys h k =
 
 -- so rows written over others are as if they had been written first
 pub written-again : (long : ℕ) (xs ys : List (Row ℕ)) → length xs * 24 ≤ long → length ys * 24 ≤ long
-    → written (written (replicate long 0) 0 xs) (length xs) ys ≡ written (replicate long 0) 0 ys
-written-again long xs ys h k = ap (λ (t : List ℕ). written t (length xs) ys) (laid-blank long xs) ∙ over-blank long xs ys h k ∙ sym (laid-blank long ys)
+    → rowsWritten (rowsWritten (replicate long 0) 0 xs) (length xs) ys ≡ rowsWritten (replicate long 0) 0 ys
+written-again long xs ys h k = ap (λ (t : List ℕ). rowsWritten t (length xs) ys) (laid-blank long xs) ∙ over-blank long xs ys h k ∙ sym (laid-blank long ys)

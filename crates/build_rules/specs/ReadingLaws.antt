@@ -17,12 +17,12 @@ use Rattle.leaves_days.specs.declared.days.Moment.the-variants as moment
 use Rattle.leaves.specs.NumberText.{numberText, readingOf}
 use Rattle.leaves.specs.declared.number_text.Reading.{Reading}
 use Rattle.leaves.specs.declared.number_text.Reading.the-variants.{Value, Stuck}
-use Rattle.leaves_days.specs.Days.{dayOf, startOf, dayAnswerOf, momentAnswerOf}
+use Rattle.leaves_days.specs.Days.{dayOf, dayStart, dayAnswerOf, momentAnswerOf}
 use Rattle.leaves_days.specs.declared.days.Day.{Day}
 use Rattle.leaves_days.specs.declared.days.Day.the-variants as day
 use Rattle.leaves_days.specs.DaysLaws.{day-limit, start-good}
-use Rattle.leaves_names.specs.Names.{nameOf, namesOf, endOf}
-use Rattle.leaves_names.specs.Names.{startOf as nameStart}
+use Rattle.leaves_names.specs.Names.{nameOf, namesOf, nameEnd}
+use Rattle.leaves_names.specs.Names.{nameStart}
 use Rattle.leaves_names.specs.NamesLaws.{Ordered}
 use Rattle.leaves_names.specs.NamesList.{names-length, names-at}
 use Rattle.build_rules.specs.Reading.{Read, fault, value, andThen, readOf, textOf, numberIn, dayIn, dayLength, momentIn, isEmpty, symbolUnder, symbolIn, momentRead}
@@ -77,7 +77,7 @@ moment-read : (r : Moment) → readOf (momentAnswerOf r) ≡ momentRead r
 moment-read (moment.Nanoseconds n) = done-read n
 moment-read (moment.Refused r) = refused-read r
 
-pub moment-value : (date d : ℕ) (x : Day) (r : Moment) → dayAnswerOf x ≡ dayOf date → x ≡ day.Number d → momentAnswerOf r ≡ startOf d → momentRead r ≡ momentIn date
+pub moment-value : (date d : ℕ) (x : Day) (r : Moment) → dayAnswerOf x ≡ dayOf date → x ≡ day.Number d → momentAnswerOf r ≡ dayStart d → momentRead r ≡ momentIn date
 unfolding momentIn andThen
 moment-value date d x r w h f =
     let e : answer 0 (d ∷ []) ≡ dayOf date = ap dayAnswerOf (sym h) ∙ w in
@@ -111,28 +111,28 @@ module _ (bytes ends : List ℕ) (names n : ℕ) where
   unfolding symbolIn symbolUnder
   look-unknown h = sym (ap symbolUnder (text-unknown h))
 
-  pub look-empty : {s e : ℕ} → n < names → s ≡ nameStart ends n → e ≡ endOf ends n → s ≡ e → Empty ≡ symbolIn texts n
+  pub look-empty : {s e : ℕ} → n < names → s ≡ nameStart ends n → e ≡ nameEnd ends n → s ≡ e → Empty ≡ symbolIn texts n
   unfolding symbolIn symbolUnder isEmpty nameOf
   look-empty h p q t =
-      sym (ap symbolUnder (text-is h ∙ ap (λ (i : ℕ). value (slice i (endOf ends n) bytes)) (sym p ∙ t ∙ q) ∙ ap value (slice-empty (endOf ends n) bytes)))
+      sym (ap symbolUnder (text-is h ∙ ap (λ (i : ℕ). value (slice i (nameEnd ends n) bytes)) (sym p ∙ t ∙ q) ∙ ap value (slice-empty (nameEnd ends n) bytes)))
 
-  pub look-filled : {s e : ℕ} → Ordered bytes ends names → n < names → s ≡ nameStart ends n → e ≡ endOf ends n → (s ≡ e → ⊥) → Filled ≡ symbolIn texts n
+  pub look-filled : {s e : ℕ} → Ordered bytes ends names → n < names → s ≡ nameStart ends n → e ≡ nameEnd ends n → (s ≡ e → ⊥) → Filled ≡ symbolIn texts n
   unfolding symbolIn symbolUnder isEmpty nameOf
   look-filled o h p q d =
       let r = o .rising n h in
-      sym (ap symbolUnder (text-is h ∙ ap value (slice-cons (nameStart ends n) (endOf ends n) bytes 0 (omega arith) (o .inside n h))))
+      sym (ap symbolUnder (text-is h ∙ ap value (slice-cons (nameStart ends n) (nameEnd ends n) bytes 0 (omega arith) (o .inside n h))))
 
-  part : {s e : ℕ} → n < names → s ≡ nameStart ends n → e ≡ endOf ends n → slice s e bytes ≡ getD texts n []
+  part : {s e : ℕ} → n < names → s ≡ nameStart ends n → e ≡ nameEnd ends n → slice s e bytes ≡ getD texts n []
   unfolding nameOf
   part {s} {e} h p q = ap (λ (i : ℕ). slice i e bytes) p ∙ ap (λ (i : ℕ). slice (nameStart ends n) i bytes) q ∙ sym (names-at bytes ends names n h)
 
-  pub named-within : {s e : ℕ} → Ordered bytes ends names → n < names → s ≡ nameStart ends n → e ≡ endOf ends n → (s ≤ e) × (e ≤ length bytes)
+  pub named-within : {s e : ℕ} → Ordered bytes ends names → n < names → s ≡ nameStart ends n → e ≡ nameEnd ends n → (s ≤ e) × (e ≤ length bytes)
   named-within o h p q = let r = o .rising n h in let i = o .inside n h in (omega arith, omega arith)
 
-  pub named-value : {s e v : ℕ} (x : Reading) → n < names → s ≡ nameStart ends n → e ≡ endOf ends n → readingOf x ≡ numberText (slice s e bytes) → x ≡ Value v
+  pub named-value : {s e v : ℕ} (x : Reading) → n < names → s ≡ nameStart ends n → e ≡ nameEnd ends n → readingOf x ≡ numberText (slice s e bytes) → x ≡ Value v
       → value v ≡ numberIn (getD texts n [])
   named-value x h p q w t = number-value _ x w t ∙ ap numberIn (part h p q)
 
-  pub named-stuck : {s e place : ℕ} (x : Reading) → n < names → s ≡ nameStart ends n → e ≡ endOf ends n → readingOf x ≡ numberText (slice s e bytes) → x ≡ Stuck place
+  pub named-stuck : {s e place : ℕ} (x : Reading) → n < names → s ≡ nameStart ends n → e ≡ nameEnd ends n → readingOf x ≡ numberText (slice s e bytes) → x ≡ Stuck place
       → fault 8 ≡ numberIn (getD texts n [])
   named-stuck x h p q w t = number-stuck _ x w t ∙ ap numberIn (part h p q)

@@ -10,7 +10,7 @@ use Rattle.leaves_names.specs.Names.{namesOf, memoryOk, wellFormed}
 use Rattle.map_time.specs.Interval.{rowOf}
 use Rattle.metadata_rules.specs.declared.Interval.{Interval}
 use Rattle.map_rules.specs.Table.{Row}
-use Rattle.map_rules.specs.Memory.{roomOf, badTable, written}
+use Rattle.map_rules.specs.Memory.{roomOf, badTable, rowsWritten}
 use Rattle.metadata_form.specs.declared.header.Header.{Header}
 use Rattle.metadata_form.specs.declared.header.Lengths.{Lengths}
 use Rattle.metadata_form.specs.Header.{Lists, lengthsOf, metadataOf, sizedOf}
@@ -73,7 +73,7 @@ overTimeAnswer table h l bytes ends names used = buildAnswer (overTimeBuild tabl
 -- the memory of so many bytes after a build: the intervals, and 0 in every other place; refused, 0 in every place
 unfoldable pub builtMemory : ℕ → Build (Row ℕ) → List ℕ
 builtMemory long (stopped c t k) = replicate long 0
-builtMemory long (built ys) = written (replicate long 0) 0 ys
+builtMemory long (built ys) = rowsWritten (replicate long 0) 0 ys
 
 -- what the table holds then
 unfoldable pub overTimeMemory : List ℕ → Header → Lists → List ℕ → List ℕ → ℕ → ℕ → List ℕ

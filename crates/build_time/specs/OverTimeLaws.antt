@@ -17,7 +17,7 @@ use Rattle.map_time.specs.declared.interval.Interval.{Interval}
 use Rattle.map_time.specs.declared.insert.Inserted.{Inserted}
 use Rattle.map_time.specs.declared.insert.Inserted.the-variants as inserted
 use Rattle.map_rules.specs.Table.{Row, Ordered, Outcome, refusedBy, stored, nowStored, ordered, allKnown, wellFormed, entered}
-use Rattle.map_rules.specs.Memory.{width, sameValue, knownValue, rowsFrom, rows, rowsBytes, roomOf, badTable, written, memoryAfter, outcomeAnswer, usedAfter, Gives}
+use Rattle.map_rules.specs.Memory.{width, sameValue, knownValue, rowsFrom, rows, rowsBytes, roomOf, badTable, rowsWritten, memoryAfter, outcomeAnswer, usedAfter, Gives}
 use Rattle.map_rules.specs.MemoryLaws.{length-rows}
 use Rattle.map_rules.specs.Outcomes.{Lent, table-lent}
 use Rattle.map_rules.specs.Tests.{formed-parts}
@@ -65,7 +65,7 @@ pub record Holds (names : ℕ) (t : List ℕ) (used : ℕ) : Type 0 where
   pub whole : length t ≡ roomOf t * width
   pub in-use : used ≤ roomOf t
   pub formed : T (wellFormed sameValue knownValue names (rows t used))
-  pub memory : t ≡ written (replicate (length t) 0) 0 (rows t used)
+  pub memory : t ≡ rowsWritten (replicate (length t) 0) 0 (rows t used)
 
 -- one step had this outcome: the answer is the outcome's, and where it is done the table holds the outcome's rows
 pub record Took (names : ℕ) (o : Outcome (Row ℕ)) (r : Built) (t′ : List ℕ) : Type 0 where
@@ -134,10 +134,10 @@ module _ (names : ℕ) (t t′ : List ℕ) (used : ℕ) (n : Row ℕ) (h : Holds
         formed = rw d (a .formed);
         memory =
             g .memory
-            ∙ ap (λ (k : ℕ). written t k ys) (sym c)
-            ∙ ap (λ (b : List ℕ). written b (length xs) ys) (h .memory)
+            ∙ ap (λ (k : ℕ). rowsWritten t k ys) (sym c)
+            ∙ ap (λ (b : List ℕ). rowsWritten b (length xs) ys) (h .memory)
             ∙ written-again (length t) xs ys (omega (arith, h .whole)) (omega (arith, h .whole, a .fits))
-            ∙ (λ i. written (replicate (sym l i) 0) 0 (sym d i));
+            ∙ (λ i. rowsWritten (replicate (sym l i) 0) 0 (sym d i));
       }
 
 -- ---- the step, by what its readings answered
@@ -495,7 +495,7 @@ module _ (names : ℕ) (t : List ℕ) (texts : List (List ℕ)) (ms : List Mappi
         let p = l .on (usedOf r) (done-is r c) in
         record {
           answers = l .answers ∙ sym (ap buildAnswer on-way);
-          memory = p .1 .memory ∙ ap (λ (n : ℕ). written (replicate n 0) 0 (rows t′ (usedOf r))) g ∙ sym (ap (builtMemory (length t)) (on-way ∙ p .0));
+          memory = p .1 .memory ∙ ap (λ (n : ℕ). rowsWritten (replicate n 0) 0 (rows t′ (usedOf r))) g ∙ sym (ap (builtMemory (length t)) (on-way ∙ p .0));
           stands = rw (on-way ∙ p .0) (ap (λ (n : ℕ). rows t′ n) (length-rows t′ 0 (usedOf r)));
         }
 
@@ -564,7 +564,7 @@ empty-holds long names z e d =
       whole = k ∙ w .whole ∙ ap (λ (n : ℕ). n / 24 * 24) (sym k);
       in-use = omega arith;
       formed = tt;
-      memory = e ∙ sym (ap (λ (n : ℕ). written (replicate n 0) 0 []) k ∙ laid-blank long [] ∙ ap (λ (n : ℕ). replicate n 0) r);
+      memory = e ∙ sym (ap (λ (n : ℕ). rowsWritten (replicate n 0) 0 []) k ∙ laid-blank long [] ∙ ap (λ (n : ℕ). replicate n 0) r);
     }
 
 -- ---- the call

@@ -53,8 +53,8 @@ refused-given BadMemory held k = refl
 -- ---- a match
 
 -- an answer that is known to be a case is what the case says
-pub told : {X : Type 0} (f : X → Answer) {x y : X} {a : Answer} → f x ≡ a → x ≡ y → f y ≡ a
-told f e w = sym (ap f w) ∙ e
+pub answer-same : {X : Type 0} (f : X → Answer) {x y : X} {a : Answer} → f x ≡ a → x ≡ y → f y ≡ a
+answer-same f e w = sym (ap f w) ∙ e
 
 module _ {a : Answer} where
   -- a done call returns 0, and hands its values over

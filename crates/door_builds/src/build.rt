@@ -1,10 +1,10 @@
 // Both builds from metadata at the C door (01, The map over time). A metadata is fourteen words, its header, and five lists of words,
 // as in the metadata merge. A build discards what the table held; a refused one leaves it empty, 0 in every place.
 use build_rules::reading::clear;
-use door_answers::header::header_of;
-use door_answers::header::is_header;
 use door_answers::BAD_MEMORY;
 use door_answers::DONE;
+use door_answers::header::header_of;
+use door_answers::header::is_header;
 use leaves::refusal::number;
 ghost use mathlib.Core.Path.{_≡_};
 ghost use lib.ListN.{length};

@@ -5,7 +5,7 @@ use leaves_days::days::Date;
 use leaves_days::days::Day;
 use leaves_days::days::Moment;
 ghost use mathlib.Core.Path.{_≡_};
-ghost use Rattle.leaves_days.specs.Days.{dayOf, dateOf, startOf};
+ghost use Rattle.leaves_days.specs.Days.{dayOf, dateOf, dayStart};
 ghost use Rattle.door_answers.specs.Answers.{numberIn, valueIn};
 
 // The day of a date, YYYYMMDD, since 1970-01-01: 0 or 11.
@@ -43,8 +43,8 @@ pub extern "C" fn desk_date_of(day: u32, date: &mut u32) -> u32
 // The moment, in nanoseconds, at which a day since 1970-01-01 starts: 0 or 11.
 #[no_mangle]
 pub extern "C" fn desk_day_start(day: u32, moment: &mut u64) -> u32
-    ensures { λ r. ⌜ r ≡ numberIn (startOf day) ⌝ }
-    ensures { λ _. ⌜ now (moment .exit) ≡ valueIn (now (moment .entry)) 0 (startOf day) ⌝ }
+    ensures { λ r. ⌜ r ≡ numberIn (dayStart day) ⌝ }
+    ensures { λ _. ⌜ now (moment .exit) ≡ valueIn (now (moment .entry)) 0 (dayStart day) ⌝ }
 {
     let answer = leaves_days::days::day_start(day);
     match answer {

@@ -2,8 +2,8 @@
 use door_answers::DONE;
 use leaves::refusal::number;
 use leaves_names::names::Checked;
+use leaves_names::names::NamePlace;
 use leaves_names::names::Named;
-use leaves_names::names::Placed;
 ghost use mathlib.Core.Path.{_≡_};
 ghost use Rattle.leaves_names.specs.Names.{checkNames, naming, namingAnswer, bytesAfter, endsAfter, placeOfName};
 ghost use Rattle.door_answers.specs.Answers.{numberIn, valueIn};
@@ -70,7 +70,7 @@ pub extern "C" fn desk_place_of_name(
 {
     let placed = leaves_names::names::place_of_name(bytes, ends, names, size, symbol);
     match placed {
-        Placed::At {
+        NamePlace::At {
             first: from,
             end: to,
         } => {
@@ -78,6 +78,6 @@ pub extern "C" fn desk_place_of_name(
             *end = to;
             DONE
         }
-        Placed::Refused(refusal) => number(refusal),
+        NamePlace::Refused(refusal) => number(refusal),
     }
 }

@@ -17,12 +17,12 @@ use Rattle.metadata_form.specs.declared.header.Header.{Header}
 use Rattle.metadata_form.specs.Header.{Lists}
 use Rattle.metadata_form.specs.Header.{numbersOf}
 use Rattle.metadata_merge.specs.Merger.{openedOf, mergedOf, finishedOf, finishAnswer, Open, Merge}
-use Rattle.metadata_merge.specs.declared.merger.Opened.{Opened}
-use Rattle.metadata_merge.specs.declared.merger.Opened.the-variants as opening
-use Rattle.metadata_merge.specs.declared.merger.Merged.{Merged}
-use Rattle.metadata_merge.specs.declared.merger.Merged.the-variants as merging
-use Rattle.metadata_merge.specs.declared.merger.Finished.{Finished}
-use Rattle.metadata_merge.specs.declared.merger.Finished.the-variants as finishing
+use Rattle.metadata_merge.specs.declared.merger.OpenedMetadata.{OpenedMetadata}
+use Rattle.metadata_merge.specs.declared.merger.OpenedMetadata.the-variants as opening
+use Rattle.metadata_merge.specs.declared.merger.MergedMetadata.{MergedMetadata}
+use Rattle.metadata_merge.specs.declared.merger.MergedMetadata.the-variants as merging
+use Rattle.metadata_merge.specs.declared.merger.FinishedMetadata.{FinishedMetadata}
+use Rattle.metadata_merge.specs.declared.merger.FinishedMetadata.the-variants as finishing
 use Rattle.door_answers.specs.Answers.{numberIn}
 use Rattle.door_answers.specs.HeaderLaws.{refused-words}
 use Rattle.door_answers.specs.Header.{widths, within, headerFits, headerOf, wordsIn}
@@ -35,7 +35,7 @@ module _ (w : List ℕ) (l : Lists) where
   unfolding openingAnswer openingLists numberIn wordsIn
   open-unfit b e d = let f = sym e ∙ d in record { returns = rw f refl; header = rw f refl; holds = rw f refl }
 
-  module _ (b : Bool) (e : b ≡ headerFits w) (d : b ≡ true) (h : Header) (q : h ≡ headerOf w) (o : Opened) (l′ : Lists) (c : Open h l o l′) where
+  module _ (b : Bool) (e : b ≡ headerFits w) (d : b ≡ true) (h : Header) (q : h ≡ headerOf w) (o : OpenedMetadata) (l′ : Lists) (c : Open h l o l′) where
     fit : Open (headerOf w) l o l′
     fit = subst (λ (x : Header). Open x l o l′) q c
 
@@ -61,7 +61,7 @@ module _ (names : ℕ) (w : List ℕ) (l : Lists) (v : List ℕ) (a : Lists) (fi
   merge-unfit b e d = let f = sym e ∙ d in record { returns = rw f refl; header = rw f refl; holds = rw f refl; differs = rw f refl }
 
   module _ (b : Bool) (e : b ≡ (headerFits w && headerFits v)) (d : b ≡ true) (h : Header) (q : h ≡ headerOf w) (g : Header) (s : g ≡ headerOf v)
-      (o : Merged) (l′ : Lists) (c : Merge names h l g a o l′) where
+      (o : MergedMetadata) (l′ : Lists) (c : Merge names h l g a o l′) where
     both : Merge names (headerOf w) l (headerOf v) a o l′
     both = subst (λ (x : Header). Merge names (headerOf w) l x a o l′) s (subst (λ (x : Header). Merge names x l g a o l′) q c)
 
@@ -87,7 +87,7 @@ module _ (w : List ℕ) (l : Lists) where
   unfolding finishingAnswer numberIn
   finish-unfit b e d = rw (sym e ∙ d) refl
 
-  module _ (b : Bool) (e : b ≡ headerFits w) (d : b ≡ true) (h : Header) (q : h ≡ headerOf w) (o : Finished) (c : finishedOf o ≡ finishAnswer h l) where
+  module _ (b : Bool) (e : b ≡ headerFits w) (d : b ≡ true) (h : Header) (q : h ≡ headerOf w) (o : FinishedMetadata) (c : finishedOf o ≡ finishAnswer h l) where
     answered : finishedOf o ≡ finishingAnswer w l
     unfolding finishingAnswer
     answered = rw (sym e ∙ d) (c ∙ ap (λ (x : Header). finishAnswer x l) q)

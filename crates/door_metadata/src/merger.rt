@@ -1,16 +1,16 @@
 // The metadata merge at the C door (01, Merging metadata). A metadata is fourteen words, its header, and five lists of words:
 // symbols, partial, not_found (a word an entry), mappings (two words each: name, number of intervals) and intervals (three words
 // each: start date, end date, symbol).
+use door_answers::BAD_MEMORY;
+use door_answers::DONE;
 use door_answers::header::header_of;
 use door_answers::header::is_header;
 use door_answers::header::put_header;
-use door_answers::BAD_MEMORY;
-use door_answers::DONE;
 use leaves::refusal::Refusal;
 use leaves::refusal::number;
-use metadata_merge::merger::Finished;
-use metadata_merge::merger::Merged;
-use metadata_merge::merger::Opened;
+use metadata_merge::merger::FinishedMetadata;
+use metadata_merge::merger::MergedMetadata;
+use metadata_merge::merger::OpenedMetadata;
 ghost use mathlib.Core.Path.{_≡_};
 ghost use mathlib.Core.Bool.{_&&_};
 ghost use Rattle.leaves.specs.Refusal.{refused};
@@ -57,11 +57,11 @@ pub extern "C" fn desk_metadata_open(
     let h = header_of(header);
     let opened = metadata_merge::merger::open(h, symbols, partial, not_found, mappings, intervals);
     match opened {
-        Opened::Done(g) => {
+        OpenedMetadata::Done(g) => {
             put_header(header, g);
             DONE
         }
-        Opened::Refused(refusal) => number(refusal),
+        OpenedMetadata::Refused(refusal) => number(refusal),
     }
 }
 
@@ -107,11 +107,11 @@ pub extern "C" fn desk_metadata_merge(
         added_intervals,
     );
     match merged {
-        Merged::Done(k) => {
+        MergedMetadata::Done(k) => {
             put_header(header, k);
             DONE
         }
-        Merged::Refused(refusal) => {
+        MergedMetadata::Refused(refusal) => {
             *field = field_in(refusal, *field);
             number(refusal)
         }
@@ -143,7 +143,7 @@ pub extern "C" fn desk_metadata_finish(
         intervals,
     );
     match finished {
-        Finished::Done(_) => DONE,
-        Finished::Refused(refusal) => number(refusal),
+        FinishedMetadata::Done(_) => DONE,
+        FinishedMetadata::Refused(refusal) => number(refusal),
     }
 }

@@ -1,9 +1,9 @@
 // The record merge at the C door (01, Merging records). Its state stands in five arrays of 256 places that the caller lends, and in
 // the number of streams that the heap holds.
+use door_answers::DONE;
 use door_answers::damage::place_in;
 use door_answers::damage::reason_in;
 use door_answers::damage::stream_in;
-use door_answers::DONE;
 use leaves::refusal::number;
 use records::merge::Opening;
 use records::merge::Turn;
@@ -14,7 +14,7 @@ ghost use Prim.Native.Nat.{ℕ, _-_, _≤_};
 ghost use lib.ListN.{length};
 ghost use Rattle.theory.specs.Answer.{answer};
 ghost use Rattle.records_rules.specs.Bytes.{streamsOf};
-ghost use Rattle.records_rules.specs.State.{rightMemory, rightStreams, opening, Untouched, Opened, StateOk, Says};
+ghost use Rattle.records_rules.specs.State.{rightMemory, rightStreams, opening, Untouched, StreamsOpened, StateOk, Says};
 ghost use Rattle.door_answers.specs.Answers.{numberIn, valueIn};
 ghost use Rattle.door_records.specs.Merge.{turnAnswer, Handed};
 
@@ -44,11 +44,11 @@ pub extern "C" fn desk_open(
         → Untouched (now (marks .entry)) (now (times .entry)) (now (places .entry)) (now (heads .entry)) (now (heap .entry)) (now (marks .exit)) (now (times .exit)) (now (places .exit)) (now (heads .exit)) (now (heap .exit))) ⌝ }
     ensures { λ r. ⌜ ((rightMemory 0 (length (now (marks .entry))) (length (now (times .entry))) (length (now (places .entry))) (length (now (heads .entry))) (length (now (heap .entry)))
         && rightStreams (length (now (buffer .entry))) (now (cuts .entry)) (length (now (hints .entry)))) ≡ true
-        → Opened (length (now (cuts .entry)) - 1) (now (hints .entry)) (now (marks .exit)) (now (times .exit)) (now (places .exit)) (now (heads .exit)) (now (heap .exit))) ⌝ }
+        → StreamsOpened (length (now (cuts .entry)) - 1) (now (hints .entry)) (now (marks .exit)) (now (times .exit)) (now (places .exit)) (now (heads .exit)) (now (heap .exit))) ⌝ }
 {
     let opened = records::merge::open(buffer, cuts, hints, marks, times, places, heads, heap);
     match opened {
-        Opening::Opened {
+        Opening::StreamsOpened {
             streams: count,
             held: in_heap,
         } => {

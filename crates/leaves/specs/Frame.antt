@@ -50,13 +50,13 @@ frameOf End = answer 0 []
 frameOf (Damaged reason) = answer 13 (reason ∷ [])
 
 -- what `found` says: 0 the end, 1 to 3 damage with this reason, else the record r
-unfoldable pub foundOf : ℕ → Read → Read
-foundOf found r = cond (eqb found 0) ended (cond (ltb found 4) (damaged found) r)
+unfoldable pub readFound : ℕ → Read → Read
+readFound found r = cond (eqb found 0) ended (cond (ltb found 4) (damaged found) r)
 
 -- what a `Head` says
 unfoldable pub headOf : Head → Read
-unfolding foundOf
-headOf h = foundOf (h .found) (whole (h .length) (h .kind) (h .instrument) (h .time))
+unfolding readFound
+headOf h = readFound (h .found) (whole (h .length) (h .kind) (h .instrument) (h .time))
 
 -- a `Head` without a record
 abbrev pub foundAlone : ℕ → Head
@@ -69,14 +69,14 @@ pub data Mapped : Type 0 where
   notOne : ℕ → Mapped
 
 -- "18446744073709551615 means missing", "a missing start is 0"; a missing end is 18446744073709551615, the number itself
-unfoldable pub startOf : ℕ → ℕ
-startOf time = cond (eqb time 18446744073709551615) 0 time
+unfoldable pub mappingStart : ℕ → ℕ
+mappingStart time = cond (eqb time 18446744073709551615) 0 time
 
 -- "Kind 2 is a symbol mapping: start (8), end (8), name"; "a kind-2 record with a body under 16 bytes gets reason 4"; "other kinds are done and change nothing"
 unfoldable pub ofKind : List ℕ → ℕ → ℕ → Mapped
-unfolding startOf
+unfolding mappingStart
 ofKind b kind instrument =
-    cond (eqb kind 2) (cond (ltb (length b - 16) 16) (notOne 4) (symbol instrument (startOf (field 8 b 16)) (field 8 b 24))) other
+    cond (eqb kind 2) (cond (ltb (length b - 16) 16) (notOne 4) (symbol instrument (mappingStart (field 8 b 16)) (field 8 b 24))) other
 
 -- the name of a symbol mapping: the body after the two times
 abbrev pub nameIn : List ℕ → List ℕ

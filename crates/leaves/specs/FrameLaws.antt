@@ -13,8 +13,8 @@ use Rattle.theory.specs.Fields.{field, field-slice}
 use Rattle.leaves.specs.Refusal.{numberOf, valuesOf, refused}
 use Rattle.leaves.specs.declared.refusal.Refusal.{Refusal}
 use Rattle.leaves.specs.declared.refusal.Refusal.the-variants.{Reversed, NoRoom, UnknownSymbol, BadName, NoNameRoom, Differ, Conflict, NotNumber, NoInstrumentId, OutsideQuery, NoDate, BadStreams, Damaged, IllFormed, BadMemory}
-use Rattle.leaves.specs.Frame.{Read, whole, ended, damaged, judged, recordAt, frameAt, foundOf}
-use Rattle.leaves.specs.Frame.{Mapped, other, symbol, notOne, startOf, ofKind, oneRecord, mappedIn, mappedOf, frameOf, mappingOf}
+use Rattle.leaves.specs.Frame.{Read, whole, ended, damaged, judged, recordAt, frameAt, readFound}
+use Rattle.leaves.specs.Frame.{Mapped, other, symbol, notOne, mappingStart, ofKind, oneRecord, mappedIn, mappedOf, frameOf, mappingOf}
 use Rattle.leaves.specs.declared.frame.Frame.{Frame}
 use Rattle.leaves.specs.declared.frame.Frame.the-variants.{Record, End, Damaged as Spoilt}
 use Rattle.leaves.specs.declared.frame.Mapping.{Mapping}
@@ -55,16 +55,16 @@ module _ (left size : ℕ) (r : Read) where
 
 -- what a `Head` found, by its number
 module _ (found : ℕ) (r : Read) where
-  pub found-ended : found ≡ 0 → foundOf found r ≡ ended
-  unfolding foundOf
+  pub found-ended : found ≡ 0 → readFound found r ≡ ended
+  unfolding readFound
   found-ended h = simp (eq-eqb found 0 h)
 
-  pub found-damaged : found ≢ 0 → found < 4 → foundOf found r ≡ damaged found
-  unfolding foundOf
+  pub found-damaged : found ≢ 0 → found < 4 → readFound found r ≡ damaged found
+  unfolding readFound
   found-damaged d h = simp (ne-eqb found 0 d, lt-ltb found 4 h)
 
-  pub found-whole : 4 ≤ found → foundOf found r ≡ r
-  unfolding foundOf
+  pub found-whole : 4 ≤ found → readFound found r ≡ r
+  unfolding readFound
   found-whole h = simp (ne-eqb found 0 (λ e. omega arith), le-ltb found 4 h)
 
 -- a place of a part of a buffer: the bytes left there, and the frame read from the buffer itself
@@ -124,8 +124,8 @@ pub slice-all : (b : List ℕ) → slice 0 (length b) b ≡ b
 slice-all b = take-length b
 
 -- what a record's bytes ask for, by what a `Head` says of them
-module _ (b : List ℕ) (found size kind instrument time : ℕ) (e : foundOf found (whole size kind instrument time) ≡ frameAt (slice 0 (length b) b) 0) where
-  here : (r : Read) → foundOf found (whole size kind instrument time) ≡ r → mappedIn b ≡ oneRecord b r
+module _ (b : List ℕ) (found size kind instrument time : ℕ) (e : readFound found (whole size kind instrument time) ≡ frameAt (slice 0 (length b) b) 0) where
+  here : (r : Read) → readFound found (whole size kind instrument time) ≡ r → mappedIn b ≡ oneRecord b r
   unfolding mappedIn
   here r h = ap (oneRecord b) (ap (λ (l : List ℕ). frameAt l 0) (sym (slice-all b)) ∙ sym e ∙ h)
 
@@ -155,7 +155,7 @@ module _ (b : List ℕ) (found size kind instrument time : ℕ) (e : foundOf fou
       unfolding ofKind
       mapping-short k h = kinds ∙ simp (eq-eqb kind 2 k, lt-ltb (length b - 16) 16 (omega arith))
 
-      pub mapping-symbol : kind ≡ 2 → 32 ≤ length b → mappedIn b ≡ symbol instrument (startOf (field 8 b 16)) (field 8 b 24)
+      pub mapping-symbol : kind ≡ 2 → 32 ≤ length b → mappedIn b ≡ symbol instrument (mappingStart (field 8 b 16)) (field 8 b 24)
       unfolding ofKind
       mapping-symbol k h = kinds ∙ simp (eq-eqb kind 2 k, le-ltb (length b - 16) 16 (omega arith))
 

@@ -8,7 +8,7 @@ ghost use mathlib.Core.Path.{_≡_};
 ghost use Prim.Native.Nat.{_-_, min};
 ghost use lib.ListN.{length};
 ghost use lib.Seq.{slice};
-ghost use Rattle.leaves.specs.Frame.{frameAt, headOf, foundAlone, frameOf, readOf, startOf, notOneRecord, mappingOf, mappedOf, mappedIn};
+ghost use Rattle.leaves.specs.Frame.{frameAt, headOf, foundAlone, frameOf, readOf, mappingStart, notOneRecord, mappingOf, mappedOf, mappedIn};
 
 // A record's least and greatest whole length.
 const HEADER: u16 = 16;
@@ -179,8 +179,8 @@ fn not_one_record(reason: u64) -> Mapping
 }
 
 // A start that is missing is 0.
-fn start_of(time: u64) -> u64
-    ensures { λ r. ⌜ r ≡ startOf time ⌝ }
+fn mapping_start(time: u64) -> u64
+    ensures { λ r. ⌜ r ≡ mappingStart time ⌝ }
 {
     if time == MISSING {
         return 0;
@@ -212,7 +212,7 @@ pub fn read_mapping(bytes: &[u8]) -> Mapping
     }
     Mapping::Symbol {
         instrument: head.instrument,
-        start: start_of(u64_at(bytes, START_AT)),
+        start: mapping_start(u64_at(bytes, START_AT)),
         end: u64_at(bytes, END_AT),
         name_from: NAME_AT,
         name_to: bytes.len(),

@@ -37,8 +37,8 @@ daysBefore leap zero = 0
 daysBefore leap (suc month) = daysBefore leap month + monthDays leap month
 
 -- ISO 8601, calendar date, basic format YYYYMMDD, as a number
-abbrev pub written : ℕ → ℕ → ℕ → ℕ
-written year month day = year * 10000 + month * 100 + day
+abbrev pub dateWritten : ℕ → ℕ → ℕ → ℕ
+dateWritten year month day = year * 10000 + month * 100 + day
 
 -- the year, the month and the day that such a number writes
 abbrev pub yearIn : ℕ → ℕ
@@ -60,10 +60,10 @@ dayNumber date = daysOfYears (yearIn date - 1970) + daysBefore (isLeap (yearIn d
 
 -- the date that lies `rest` days after the first of a month: whole months are counted off, n at most
 unfoldable pub countMonths : ℕ → ℕ → ℕ → ℕ → ℕ
-countMonths zero year month rest = written year month (rest + 1)
+countMonths zero year month rest = dateWritten year month (rest + 1)
 countMonths (suc n) year month rest =
     cond (ltb rest (monthDays (isLeap year) month))
-    (written year month (rest + 1))
+    (dateWritten year month (rest + 1))
     (countMonths n year (month + 1) (rest - monthDays (isLeap year) month))
 
 -- the date that lies `rest` days after the first of January of a year: whole years are counted off, n at most, then whole months

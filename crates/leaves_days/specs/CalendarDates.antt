@@ -9,7 +9,7 @@ use mathlib.Core.Path.{_≡_, refl, sym, ap, _∙_, subst}
 use mathlib.Core.Bool.{Bool}
 use lib.Dec.{T, leb}
 use mir.Facts.{and-yes, yes-and, leb-yes, yes-leb}
-use Rattle.leaves_days.specs.Calendar.{isLeap, yearDays, monthDays, daysOfYears, daysBefore, written, yearIn, monthIn, dayIn, isDate, dayNumber, countMonths, countYears, dateNumber}
+use Rattle.leaves_days.specs.Calendar.{isLeap, yearDays, monthDays, daysOfYears, daysBefore, dateWritten, yearIn, monthIn, dayIn, isDate, dayNumber, countMonths, countYears, dateNumber}
 use Rattle.leaves_days.specs.CalendarLaws.{ltb-case, years-none, years-suc, years-rise, years-sum, leapsTo, before-suc, before-rises, before-first, before-end, Month, month-known}
 
 -- ---- order
@@ -83,7 +83,7 @@ abbrev pub placed : ℕ → ℕ → ℕ → ℕ
 placed year month day = daysOfYears (year - 1970) + daysBefore (isLeap year) month + (day - 1)
 
 less-in-calendar : (y z m n d e : ℕ) → InMonth (isLeap y) m d → InMonth (isLeap z) n e → 1970 ≤ y →
-    written y m d < written z n e → placed y m d < placed z n e
+    dateWritten y m d < dateWritten z n e → placed y m d < placed z n e
 less-in-calendar y z m n d e p q f h = go (order y z)
   where
     go : Order y z → placed y m d < placed z n e
@@ -135,15 +135,15 @@ pub dated-one : (day a b : ℕ) → Dated day a → Dated day b → a ≡ b
 dated-one day a b p q = number-one a b (p .is) (q .is) (p .from) (q .from) (p .number ∙ sym (q .number))
 
 -- a year, a month and a day of it, written
-pub dated : (day year month d : ℕ) → 1970 ≤ year → InMonth (isLeap year) month d → daysOfYears (year - 1970) + daysBefore (isLeap year) month + d ≡ day + 1 → Dated day (written year month d)
+pub dated : (day year month d : ℕ) → 1970 ≤ year → InMonth (isLeap year) month d → daysOfYears (year - 1970) + daysBefore (isLeap year) month + d ≡ day + 1 → Dated day (dateWritten year month d)
 unfolding dayNumber
 dated day year month d h p e =
     let m = in-month (isLeap year) month d p in
-    let i : yearIn (written year month d) ≡ year = omega arith in
-    let j : monthIn (written year month d) ≡ month = omega arith in
-    let k : dayIn (written year month d) ≡ d = omega arith in
+    let i : yearIn (dateWritten year month d) ≡ year = omega arith in
+    let j : monthIn (dateWritten year month d) ≡ month = omega arith in
+    let k : dayIn (dateWritten year month d) ≡ d = omega arith in
     record {
-      is = yes-date (written year month d) (rw (i, j, k) p);
+      is = yes-date (dateWritten year month d) (rw (i, j, k) p);
       from = rw i h;
       number = rw (i, j, k) (omega (arith, p .from));
     }

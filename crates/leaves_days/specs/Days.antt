@@ -44,5 +44,5 @@ unfoldable pub dateOf : ℕ → Answer
 dateOf day = cond (leb day lastDay) (answer 0 (dateNumber day ∷ [])) (refused NoDate)
 
 -- a day's start: days x 86,400,000,000,000 nanoseconds; 11 past the last day
-unfoldable pub startOf : ℕ → Answer
-startOf day = cond (leb day lastDay) (answer 0 (day * 86400000000000 ∷ [])) (refused NoDate)
+unfoldable pub dayStart : ℕ → Answer
+dayStart day = cond (leb day lastDay) (answer 0 (day * 86400000000000 ∷ [])) (refused NoDate)

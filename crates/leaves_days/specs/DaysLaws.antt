@@ -13,7 +13,7 @@ use Rattle.leaves.specs.Refusal.{refused}
 use Rattle.leaves.specs.declared.refusal.Refusal.the-variants.{NoDate}
 use Rattle.leaves_days.specs.Calendar.{isLeap, monthDays, yearIn, isDate, dayNumber, dateNumber}
 use Rattle.leaves_days.specs.CalendarDates.{Order, less, equal, more, order, Dated, dated-one, number-rises, number-one, date-yes, in-month, dateNumber-dated, number-of-last}
-use Rattle.leaves_days.specs.Days.{inRange, lastDay, dayOf, dateOf, startOf}
+use Rattle.leaves_days.specs.Days.{inRange, lastDay, dayOf, dateOf, dayStart}
 
 -- there is such a date, from 1970-01-01 to 2554-07-21
 pub record Good (date : ℕ) : Type 0 where
@@ -179,18 +179,18 @@ answers-one a b m n e f =
 
 -- ---- a day's start
 
-pub start-good : (day : ℕ) → day ≤ lastDay → startOf day ≡ answer 0 (day * 86400000000000 ∷ [])
-unfolding startOf
+pub start-good : (day : ℕ) → day ≤ lastDay → dayStart day ≡ answer 0 (day * 86400000000000 ∷ [])
+unfolding dayStart
 start-good day h = passed (leb day lastDay) (day * 86400000000000) (yes-leb h)
 
-pub start-answered : (day n : ℕ) → startOf day ≡ answer 0 (n ∷ []) → (day ≤ lastDay) × (day * 86400000000000 ≡ n)
-unfolding startOf
+pub start-answered : (day n : ℕ) → dayStart day ≡ answer 0 (n ∷ []) → (day ≤ lastDay) × (day * 86400000000000 ≡ n)
+unfolding dayStart
 start-answered day n e =
     let p = was-passed (leb day lastDay) (day * 86400000000000) n e in
     (leb-yes (p .0), p .1)
 
-pub start-refused : (day : ℕ) → (startOf day ≡ refused NoDate) ↔ (lastDay < day)
-unfolding startOf
+pub start-refused : (day : ℕ) → (dayStart day ≡ refused NoDate) ↔ (lastDay < day)
+unfolding dayStart
 start-refused day = (λ e. leb-no (was-failed (leb day lastDay) (day * 86400000000000) e), λ h. failed (leb day lastDay) (day * 86400000000000) (no-leb h))
 
 -- the last day is the last whose start fits 64 bits

@@ -4,7 +4,7 @@ ghost use Prim.Native.Nat.{_-_, _≤_, _<_};
 ghost use Rattle.leaves_days.specs.Calendar.{isLeap, yearDays, daysOfYears, daysBefore};
 ghost use Rattle.leaves_days.specs.CalendarLaws.{leapDay};
 ghost use Rattle.leaves_days.specs.CalendarDates.{YearOf, MonthOf};
-ghost use Rattle.leaves_days.specs.Days.{dayAnswerOf, dateAnswerOf, momentAnswerOf, dayOf, dateOf, startOf};
+ghost use Rattle.leaves_days.specs.Days.{dayAnswerOf, dateAnswerOf, momentAnswerOf, dayOf, dateOf, dayStart};
 use leaves::refusal::Refusal;
 
 // A date's day.
@@ -184,7 +184,7 @@ pub fn date_of(day: u32) -> Date
 
 // The moment at which a day since 1970-01-01 starts; 11 past 2554-07-21.
 pub fn day_start(day: u32) -> Moment
-    ensures { λ r. ⌜ momentAnswerOf r ≡ startOf day ⌝ }
+    ensures { λ r. ⌜ momentAnswerOf r ≡ dayStart day ⌝ }
 {
     if LAST_DAY < day {
         return Moment::Refused(Refusal::NoDate);

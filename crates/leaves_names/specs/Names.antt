@@ -16,23 +16,23 @@ use Rattle.leaves_names.specs.declared.names.Naming.{Naming}
 use Rattle.leaves_names.specs.declared.names.Naming.the-variants.{Old, New, Refused as Not-named}
 use Rattle.leaves_names.specs.declared.names.Named.{Named}
 use Rattle.leaves_names.specs.declared.names.Named.the-variants.{Number, Refused as Named-refused}
-use Rattle.leaves_names.specs.declared.names.Placed.{Placed}
-use Rattle.leaves_names.specs.declared.names.Placed.the-variants.{At, Refused as Placed-refused}
+use Rattle.leaves_names.specs.declared.names.NamePlace.{NamePlace}
+use Rattle.leaves_names.specs.declared.names.NamePlace.the-variants.{At, Refused as Placed-refused}
 
 -- ---- the list that the memory holds
 
 -- where name n begins: at 0, or where the one before it ends
-unfoldable pub startOf : List ℕ → ℕ → ℕ
-startOf ends zero = 0
-startOf ends (suc n) = getD ends n 0
+unfoldable pub nameStart : List ℕ → ℕ → ℕ
+nameStart ends zero = 0
+nameStart ends (suc n) = getD ends n 0
 
 -- where name n ends
-abbrev pub endOf : List ℕ → ℕ → ℕ
-endOf ends n = getD ends n 0
+abbrev pub nameEnd : List ℕ → ℕ → ℕ
+nameEnd ends n = getD ends n 0
 
 -- the bytes of name n
 unfoldable pub nameOf : List ℕ → List ℕ → ℕ → List ℕ
-nameOf bytes ends n = slice (startOf ends n) (endOf ends n) bytes
+nameOf bytes ends n = slice (nameStart ends n) (nameEnd ends n) bytes
 
 -- so many names, from number n on
 unfoldable pub namesFrom : List ℕ → List ℕ → ℕ → ℕ → List (List ℕ)
@@ -51,9 +51,9 @@ isName name = leb (length name) 255 && isUtf8 name
 
 -- so many names, from number n on: no end falls, each name is valid, and the last ends where the bytes in use do
 unfoldable pub standFrom : List ℕ → List ℕ → ℕ → ℕ → ℕ → Bool
-standFrom bytes ends used n zero = eqb (startOf ends n) used
+standFrom bytes ends used n zero = eqb (nameStart ends n) used
 standFrom bytes ends used n (suc k) =
-    leb (startOf ends n) (endOf ends n) && isName (nameOf bytes ends n) && standFrom bytes ends used (suc n) k
+    leb (nameStart ends n) (nameEnd ends n) && isName (nameOf bytes ends n) && standFrom bytes ends used (suc n) k
 
 -- "A name list is well-formed if valid names stand one after another"
 unfoldable pub wellFormed : List ℕ → List ℕ → ℕ → ℕ → Bool
@@ -123,13 +123,13 @@ namingAnswer names used name (New number) = answer 0 (number ∷ (names + 1) ∷
 namingAnswer names used name (Not-named r) = refused r
 
 -- the lent bytes with a name after those in use
-unfoldable pub written : List ℕ → ℕ → List ℕ → List ℕ
-written bytes used name = paste bytes used name (length name)
+unfoldable pub nameWritten : List ℕ → ℕ → List ℕ → List ℕ
+nameWritten bytes used name = paste bytes used name (length name)
 
 -- the lent bytes after naming: a new name's stand after those in use, all else is as it was
 abbrev pub bytesAfter : List ℕ → ℕ → List ℕ → Naming → List ℕ
 bytesAfter bytes used name (Old number) = bytes
-bytesAfter bytes used name (New number) = written bytes used name
+bytesAfter bytes used name (New number) = nameWritten bytes used name
 bytesAfter bytes used name (Not-named r) = bytes
 
 -- the lent ends after naming: a new name's stands after those in use, all else is as it was
@@ -141,7 +141,7 @@ endsAfter ends names used name (Not-named r) = ends
 -- ---- where a name lies
 
 -- the answer of asking where a name lies
-abbrev pub placedOf : Placed → Answer
+abbrev pub placedOf : NamePlace → Answer
 placedOf (At first end) = answer 0 (first ∷ end ∷ [])
 placedOf (Placed-refused r) = refused r
 
@@ -150,6 +150,6 @@ unfoldable pub placeOfName : List ℕ → List ℕ → ℕ → ℕ → ℕ → A
 placeOfName bytes ends names used n =
     cond (memoryOk (length bytes) (length ends) names used)
     (cond (wellFormed bytes ends names used)
-    (cond (ltb n names) (answer 0 (startOf ends n ∷ endOf ends n ∷ [])) (refused UnknownSymbol))
+    (cond (ltb n names) (answer 0 (nameStart ends n ∷ nameEnd ends n ∷ [])) (refused UnknownSymbol))
     (refused IllFormed))
     (refused BadMemory)

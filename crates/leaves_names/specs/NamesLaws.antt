@@ -13,7 +13,7 @@ use lib.Seq.{slice, length-slice, paste, paste-suc, length-paste, getD-drop, get
 use native.Mathlib.Nat.{add-zero, zero-add}
 use Rattle.leaves_names.specs.Utf8.{isUtf8}
 use Rattle.theory.specs.Slices.{cut, none-left, whole}
-use Rattle.leaves_names.specs.Names.{startOf, endOf, nameOf, namesFrom, namesOf, isName, standFrom, wellFormed, memoryOk, same, least, hasRoom, numbering, naming, namingAnswer, written, bytesAfter, endsAfter}
+use Rattle.leaves_names.specs.Names.{nameStart, nameEnd, nameOf, namesFrom, namesOf, isName, standFrom, wellFormed, memoryOk, same, least, hasRoom, numbering, naming, namingAnswer, nameWritten, bytesAfter, endsAfter}
 use Rattle.theory.specs.Answer.{answer}
 use Rattle.leaves.specs.Refusal.{refused}
 use Rattle.leaves.specs.declared.refusal.Refusal.{Refusal}
@@ -28,8 +28,8 @@ standing bytes used start end = leb start end && leb end used && isName (slice s
 -- the names in use lie one after another within the bytes lent
 pub record Ordered (bytes ends : List ℕ) (names : ℕ) : Type 0 where
   pub places : names ≤ length ends
-  pub rising : (n : ℕ) → n < names → startOf ends n ≤ endOf ends n
-  pub inside : (n : ℕ) → n < names → endOf ends n ≤ length bytes
+  pub rising : (n : ℕ) → n < names → nameStart ends n ≤ nameEnd ends n
+  pub inside : (n : ℕ) → n < names → nameEnd ends n ≤ length bytes
 
 -- ---- a Bool's both values
 
@@ -107,53 +107,53 @@ room-some bytes places names used size m h = go (leb size (bytes - used)) refl
 
 -- ---- the walk that checks a list
 
-pub start-next : (ends : List ℕ) (n : ℕ) → startOf ends (n + 1) ≡ getD ends n 0
-unfolding startOf
+pub start-next : (ends : List ℕ) (n : ℕ) → nameStart ends (n + 1) ≡ getD ends n 0
+unfolding nameStart
 start-next ends n = rw add-one
 
-pub start-first : (ends : List ℕ) {n : ℕ} → n ≡ 0 → 0 ≡ startOf ends n
-unfolding startOf
+pub start-first : (ends : List ℕ) {n : ℕ} → n ≡ 0 → 0 ≡ nameStart ends n
+unfolding nameStart
 start-first ends e = rw e
 
-pub start-after : (ends : List ℕ) {n : ℕ} → (n ≡ 0 → ⊥) → getD ends (n - 1) 0 ≡ startOf ends n
+pub start-after : (ends : List ℕ) {n : ℕ} → (n ≡ 0 → ⊥) → getD ends (n - 1) 0 ≡ nameStart ends n
 start-after ends {n} h =
     let e : n - 1 + 1 ≡ n = omega arith in
-    sym (start-next ends (n - 1)) ∙ ap (startOf ends) e
+    sym (start-next ends (n - 1)) ∙ ap (nameStart ends) e
 
 stand-next : (bytes ends : List ℕ) (used : ℕ) {n names : ℕ} → n < names
-    → standFrom bytes ends used n (names - n) ≡ (leb (startOf ends n) (endOf ends n) && isName (nameOf bytes ends n) && standFrom bytes ends used (n + 1) (names - (n + 1)))
+    → standFrom bytes ends used n (names - n) ≡ (leb (nameStart ends n) (nameEnd ends n) && isName (nameOf bytes ends n) && standFrom bytes ends used (n + 1) (names - (n + 1)))
 unfolding standFrom
 stand-next bytes ends used {n} {names} h =
     let e : names - n ≡ suc (names - (n + 1)) = omega arith in
     rw (e, add-one)
 
-past-on : (bytes ends : List ℕ) (used n k : ℕ) (t : Bool) → leb (startOf ends n) (endOf ends n) ≡ t → used < startOf ends n
-    → (used < startOf ends (suc n) → standFrom bytes ends used (suc n) k ≡ false) → standFrom bytes ends used n (suc k) ≡ false
-unfolding standFrom startOf
+past-on : (bytes ends : List ℕ) (used n k : ℕ) (t : Bool) → leb (nameStart ends n) (nameEnd ends n) ≡ t → used < nameStart ends n
+    → (used < nameStart ends (suc n) → standFrom bytes ends used (suc n) k ≡ false) → standFrom bytes ends used n (suc k) ≡ false
+unfolding standFrom nameStart
 past-on bytes ends used n k true e h on =
-    let l : startOf ends n ≤ getD ends n 0 = leb-true _ _ e in
+    let l : nameStart ends n ≤ getD ends n 0 = leb-true _ _ e in
     rw (e, on (omega arith)) (and-false (isName (nameOf bytes ends n)))
 past-on bytes ends used n k false e h on = rw e
 
 -- a name that begins past the bytes in use: no list
-past : (bytes ends : List ℕ) (used n k : ℕ) → used < startOf ends n → standFrom bytes ends used n k ≡ false
+past : (bytes ends : List ℕ) (used n k : ℕ) → used < nameStart ends n → standFrom bytes ends used n k ≡ false
 unfolding standFrom
-past bytes ends used n zero h = ne-eqb (startOf ends n) used (λ e. omega arith)
-past bytes ends used n (suc k) h = past-on bytes ends used n k (leb (startOf ends n) (endOf ends n)) refl h (past bytes ends used (suc n) k)
+past bytes ends used n zero h = ne-eqb (nameStart ends n) used (λ e. omega arith)
+past bytes ends used n (suc k) h = past-on bytes ends used n k (leb (nameStart ends n) (nameEnd ends n)) refl h (past bytes ends used (suc n) k)
 
-stands-not : (bytes ends : List ℕ) (used n k : ℕ) (t u : Bool) → leb (startOf ends n) (endOf ends n) ≡ t → leb (endOf ends n) used ≡ u
-    → standing bytes used (startOf ends n) (endOf ends n) ≡ false → (leb (startOf ends n) (endOf ends n) && isName (nameOf bytes ends n) && standFrom bytes ends used (n + 1) k) ≡ false
+stands-not : (bytes ends : List ℕ) (used n k : ℕ) (t u : Bool) → leb (nameStart ends n) (nameEnd ends n) ≡ t → leb (nameEnd ends n) used ≡ u
+    → standing bytes used (nameStart ends n) (nameEnd ends n) ≡ false → (leb (nameStart ends n) (nameEnd ends n) && isName (nameOf bytes ends n) && standFrom bytes ends used (n + 1) k) ≡ false
 unfolding standing nameOf
 stands-not bytes ends used n k true true e f h = rw (e, rw (e, f) at h)
 stands-not bytes ends used n k true false e f h =
     let l : used < getD ends n 0 = leb-false _ _ f in
-    let p : used < startOf ends (n + 1) = rw (start-next ends n) l in
-    rw (e, past bytes ends used (n + 1) k p) (and-false (isName (slice (startOf ends n) (endOf ends n) bytes)))
+    let p : used < nameStart ends (n + 1) = rw (start-next ends n) l in
+    rw (e, past bytes ends used (n + 1) k p) (and-false (isName (slice (nameStart ends n) (nameEnd ends n) bytes)))
 stands-not bytes ends used n k false u e f h = rw e
 
-stands-so : (bytes ends : List ℕ) (used n k : ℕ) (t u : Bool) → leb (startOf ends n) (endOf ends n) ≡ t → leb (endOf ends n) used ≡ u
-    → standing bytes used (startOf ends n) (endOf ends n) ≡ true
-    → (leb (startOf ends n) (endOf ends n) && isName (nameOf bytes ends n) && standFrom bytes ends used (n + 1) k) ≡ standFrom bytes ends used (n + 1) k
+stands-so : (bytes ends : List ℕ) (used n k : ℕ) (t u : Bool) → leb (nameStart ends n) (nameEnd ends n) ≡ t → leb (nameEnd ends n) used ≡ u
+    → standing bytes used (nameStart ends n) (nameEnd ends n) ≡ true
+    → (leb (nameStart ends n) (nameEnd ends n) && isName (nameOf bytes ends n) && standFrom bytes ends used (n + 1) k) ≡ standFrom bytes ends used (n + 1) k
 unfolding standing nameOf
 stands-so bytes ends used n k true true e f h = rw (e, rw (e, f) at h)
 stands-so bytes ends used n k true false e f h = let z : false ≡ true = rw (e, f) at h in absurd (false≢true z)
@@ -162,11 +162,11 @@ stands-so bytes ends used n k false u e f h = let z : false ≡ true = rw e at h
 -- n names were passed, the last of which ends at start; what is left to check is what there was
 pub record Walked (bytes ends : List ℕ) (names used start n : ℕ) : Type 0 where
   pub upto : n ≤ names
-  pub begins : start ≡ startOf ends n
+  pub begins : start ≡ nameStart ends n
   pub left : wellFormed bytes ends names used ≡ standFrom bytes ends used n (names - n)
 
 pub walk-none : (bytes ends : List ℕ) (names used : ℕ) → Walked bytes ends names used 0 0
-unfolding wellFormed startOf
+unfolding wellFormed nameStart
 walk-none bytes ends names used =
     let e : names ≡ names - 0 = omega arith in
     record { upto = omega arith; begins = refl; left = ap (standFrom bytes ends used 0) e }
@@ -174,7 +174,7 @@ walk-none bytes ends names used =
 pub walk-turn : {bytes ends : List ℕ} {names used start end n : ℕ} {f : Bool} → Walked bytes ends names used start n → n < names → end ≡ getD ends n 0
     → f ≡ standing bytes used start end → f ≡ true → Walked bytes ends names used end (n + 1)
 walk-turn {bytes} {ends} {names} {used} {start} {end} {n} w h e s t =
-    let st : standing bytes used (startOf ends n) (endOf ends n) ≡ true = cc in
+    let st : standing bytes used (nameStart ends n) (nameEnd ends n) ≡ true = cc in
     record {
       upto = omega arith;
       begins = e ∙ sym (start-next ends n);
@@ -184,7 +184,7 @@ walk-turn {bytes} {ends} {names} {used} {start} {end} {n} w h e s t =
 pub walk-stop : {bytes ends : List ℕ} {names used start end n : ℕ} {f : Bool} → Walked bytes ends names used start n → n < names → end ≡ getD ends n 0
     → f ≡ standing bytes used start end → f ≡ false → false ≡ wellFormed bytes ends names used
 walk-stop {bytes} {ends} {names} {used} {start} {end} {n} w h e s t =
-    let st : standing bytes used (startOf ends n) (endOf ends n) ≡ false = cc in
+    let st : standing bytes used (nameStart ends n) (nameEnd ends n) ≡ false = cc in
     sym (w .left ∙ stand-next bytes ends used h ∙ stands-not bytes ends used n (names - (n + 1)) _ _ refl refl st)
 
 pub walk-end : {bytes ends : List ℕ} {names used start n : ℕ} → Walked bytes ends names used start n → names ≤ n → eqb start used ≡ wellFormed bytes ends names used
@@ -197,16 +197,16 @@ walk-end {bytes} {ends} {names} {used} {start} {n} w h =
 
 -- the names in use, name by name: no end falls or passes the bytes in use, each name is valid, and the last ends where those bytes do
 pub record Formed (bytes ends : List ℕ) (names used : ℕ) : Type 0 where
-  pub rising : (n : ℕ) → n < names → startOf ends n ≤ endOf ends n
-  pub under : (n : ℕ) → n < names → endOf ends n ≤ used
+  pub rising : (n : ℕ) → n < names → nameStart ends n ≤ nameEnd ends n
+  pub under : (n : ℕ) → n < names → nameEnd ends n ≤ used
   pub valid : (n : ℕ) → n < names → isName (nameOf bytes ends n) ≡ true
-  pub last : startOf ends names ≡ used
+  pub last : nameStart ends names ≡ used
 
 module _ (bytes ends : List ℕ) (used : ℕ) where
-  reach : (n k : ℕ) → standFrom bytes ends used n k ≡ true → startOf ends n ≤ used
-  reach n k e = go (leb (startOf ends n) used) refl
+  reach : (n k : ℕ) → standFrom bytes ends used n k ≡ true → nameStart ends n ≤ used
+  reach n k e = go (leb (nameStart ends n) used) refl
     where
-      go : (t : Bool) → leb (startOf ends n) used ≡ t → startOf ends n ≤ used
+      go : (t : Bool) → leb (nameStart ends n) used ≡ t → nameStart ends n ≤ used
       go true l = leb-true _ _ l
       go false l = absurd (false≢true (sym (past bytes ends used n k (leb-false _ _ l)) ∙ e))
 
@@ -216,22 +216,22 @@ module _ (bytes ends : List ℕ) (used : ℕ) where
     suffix zero h = let e : names - 0 ≡ names = omega arith in rw e w
     suffix (suc n) h =
         let e = sym (stand-next bytes ends used h) ∙ suffix n (omega arith) in
-        rw (← (add-one n)) (and-right (leb (startOf ends n) (endOf ends n) && isName (nameOf bytes ends n)) (standFrom bytes ends used (n + 1) (names - (n + 1))) e)
+        rw (← (add-one n)) (and-right (leb (nameStart ends n) (nameEnd ends n) && isName (nameOf bytes ends n)) (standFrom bytes ends used (n + 1) (names - (n + 1))) e)
 
-    first-two : {n : ℕ} → n < names → (leb (startOf ends n) (endOf ends n) && isName (nameOf bytes ends n)) ≡ true
+    first-two : {n : ℕ} → n < names → (leb (nameStart ends n) (nameEnd ends n) && isName (nameOf bytes ends n)) ≡ true
     first-two {n} h =
-        and-left (leb (startOf ends n) (endOf ends n) && isName (nameOf bytes ends n)) (standFrom bytes ends used (n + 1) (names - (n + 1)))
+        and-left (leb (nameStart ends n) (nameEnd ends n) && isName (nameOf bytes ends n)) (standFrom bytes ends used (n + 1) (names - (n + 1)))
         (sym (stand-next bytes ends used h) ∙ suffix n (omega arith))
 
     pub formed : Formed bytes ends names used
     unfolding standFrom
     formed =
         record {
-          rising = λ n h. leb-true _ _ (and-left (leb (startOf ends n) (endOf ends n)) (isName (nameOf bytes ends n)) (first-two h));
+          rising = λ n h. leb-true _ _ (and-left (leb (nameStart ends n) (nameEnd ends n)) (isName (nameOf bytes ends n)) (first-two h));
           under =
-              λ n h. let l : startOf ends (n + 1) ≤ used = reach (n + 1) (names - (n + 1)) (suffix (n + 1) (omega arith)) in
+              λ n h. let l : nameStart ends (n + 1) ≤ used = reach (n + 1) (names - (n + 1)) (suffix (n + 1) (omega arith)) in
               rw (start-next ends n) at l;
-          valid = λ n h. and-right (leb (startOf ends n) (endOf ends n)) (isName (nameOf bytes ends n)) (first-two h);
+          valid = λ n h. and-right (leb (nameStart ends n) (nameEnd ends n)) (isName (nameOf bytes ends n)) (first-two h);
           last = let z : names - names ≡ 0 = omega arith in let l = suffix names (omega arith) in eqb-true _ _ (rw z at l);
         }
 
@@ -241,7 +241,7 @@ module _ (bytes ends : List ℕ) (used : ℕ) where
     unfolding standFrom
     stands-on zero n e =
         let q : n ≡ names = omega arith in
-        eq-eqb (startOf ends n) used (ap (startOf ends) q ∙ f .last)
+        eq-eqb (nameStart ends n) used (ap (nameStart ends) q ∙ f .last)
     stands-on (suc k) n e =
         rw (le-leb _ _ (f .rising n (omega arith)), f .valid n (omega arith)) (stands-on k (suc n) (omega arith))
 
@@ -347,20 +347,20 @@ least-none name = refl
 -- the n names before start differ from a name; what is left to look at is what there was
 pub record Sought (bytes ends : List ℕ) (names : ℕ) (name : List ℕ) (start n : ℕ) : Type 0 where
   pub upto : n ≤ names
-  pub begins : start ≡ startOf ends n
+  pub begins : start ≡ nameStart ends n
   pub left : least name (namesOf bytes ends names) ≡ n + least name (namesFrom bytes ends n (names - n))
 
 pub seek-none : (bytes ends : List ℕ) (names : ℕ) (name : List ℕ) → Sought bytes ends names name 0 0
-unfolding namesOf startOf
+unfolding namesOf nameStart
 seek-none bytes ends names name =
     let e : names - 0 ≡ names = omega arith in
     record { upto = omega arith; begins = refl; left = rw (e, zero-add) }
 
-seek-next : (bytes ends : List ℕ) (name : List ℕ) (start end n names : ℕ) (f : Bool) → n < names → start ≡ startOf ends n → end ≡ getD ends n 0 → f ≡ same name (slice start end bytes)
+seek-next : (bytes ends : List ℕ) (name : List ℕ) (start end n names : ℕ) (f : Bool) → n < names → start ≡ nameStart ends n → end ≡ getD ends n 0 → f ≡ same name (slice start end bytes)
     → least name (namesFrom bytes ends n (names - n)) ≡ cond f 0 (suc (least name (namesFrom bytes ends (n + 1) (names - (n + 1)))))
 unfolding nameOf
 seek-next bytes ends name start end n names f h b e s =
-    let r : same name (slice (startOf ends n) (endOf ends n) bytes) ≡ f = cc in
+    let r : same name (slice (nameStart ends n) (nameEnd ends n) bytes) ≡ f = cc in
     ap (least name) (names-next bytes ends h) ∙ least-cons name (nameOf bytes ends n) (namesFrom bytes ends (n + 1) (names - (n + 1))) ∙ rw r
 
 module _ {bytes ends : List ℕ} {names : ℕ} {name : List ℕ} {start n : ℕ} (w : Sought bytes ends names name start n) where
@@ -397,15 +397,15 @@ copied-next bytes text at from to i k l h =
     ∙ paste-suc bytes at (slice from to text) i 0 (omega arith) (omega arith)
     ∙ ap (paste bytes at (slice from to text)) (sym (add-one i))
 
-pub copied-all : (bytes text : List ℕ) (at from to i : ℕ) → to ≤ length text → i ≡ to - from → paste bytes at (slice from to text) i ≡ written bytes at (slice from to text)
-unfolding written
+pub copied-all : (bytes text : List ℕ) (at from to i : ℕ) → to ≤ length text → i ≡ to - from → paste bytes at (slice from to text) i ≡ nameWritten bytes at (slice from to text)
+unfolding nameWritten
 copied-all bytes text at from to i k e =
     let f = length-slice from to text k in
     let q : i ≡ length (slice from to text) = omega arith in
     ap (paste bytes at (slice from to text)) q
 
-pub copied-length : (bytes text : List ℕ) (at from to : ℕ) → to ≤ length text → at + (to - from) ≤ length bytes → length (written bytes at (slice from to text)) ≡ length bytes
-unfolding written
+pub copied-length : (bytes text : List ℕ) (at from to : ℕ) → to ≤ length text → at + (to - from) ≤ length bytes → length (nameWritten bytes at (slice from to text)) ≡ length bytes
+unfolding nameWritten
 copied-length bytes text at from to k l =
     let e = length-slice from to text k in
     length-paste bytes at (slice from to text) (length (slice from to text)) (omega arith) (omega arith)
@@ -522,11 +522,11 @@ module _ (bytes ends : List ℕ) (names used : ℕ) (name : List ℕ) (became : 
       → (refused r ≡ namingAnswer names used name became) × ((bytes ≡ bytesAfter bytes used name became) × (ends ≡ endsAfter ends names used name became))
   promised-refused e = (rw e, (rw e, rw e))
 
-  pub promised-new : {k size r : ℕ} {part bytes′ ends′ : List ℕ} → became ≡ New k → part ≡ name → size ≡ length name → r ≡ used + size → bytes′ ≡ written bytes used part → ends′ ≡ set ends names (used + size)
+  pub promised-new : {k size r : ℕ} {part bytes′ ends′ : List ℕ} → became ≡ New k → part ≡ name → size ≡ length name → r ≡ used + size → bytes′ ≡ nameWritten bytes used part → ends′ ≡ set ends names (used + size)
       → (answer 0 (k ∷ (names + 1) ∷ r ∷ []) ≡ namingAnswer names used name became) × ((bytes′ ≡ bytesAfter bytes used name became) × (ends′ ≡ endsAfter ends names used name became))
   promised-new {k} {size} {r} e p z f g h = (
     rw e (ap (λ (n : ℕ). answer 0 (k ∷ (names + 1) ∷ n ∷ [])) (f ∙ ap (λ (n : ℕ). used + n) z)),
-    (rw e (g ∙ ap (written bytes used) p), rw e (h ∙ ap (λ (n : ℕ). set ends names (used + n)) z)),
+    (rw e (g ∙ ap (nameWritten bytes used) p), rw e (h ∙ ap (λ (n : ℕ). set ends names (used + n)) z)),
   )
 
 -- ---- what the tests say of a name; f, g and h are what those of the memory, the list and the name answered

@@ -12,7 +12,7 @@ use borrow.Author.Tests.{eqb-true, eq-eqb}
 use lib.Dec.{eqb}
 use lib.ListN.{length, getD, set, take, drop, length-set, List·getD-append}
 use lib.Seq.{slice, take-append-le, take-take, take-paste, length-paste, length-take-le, drop-at, take-length, getD-set-same, getD-set-other}
-use Rattle.leaves_names.specs.Names.{startOf, endOf, nameOf, namesFrom, namesOf, isName, wellFormed, memoryOk, same, least, naming, written}
+use Rattle.leaves_names.specs.Names.{nameStart, nameEnd, nameOf, namesFrom, namesOf, isName, wellFormed, memoryOk, same, least, naming, nameWritten}
 use Rattle.leaves_names.specs.NamesLaws.{Formed, Memory, Room, memory-so, start-next, well-formed, case-old, case-new}
 use Rattle.leaves_names.specs.declared.names.Naming.the-variants.{Old, New}
 
@@ -111,13 +111,13 @@ least-is name (x ∷ xs) = least-head name x xs (same name x) refl (least-is nam
 
 module _ (bytes ends : List ℕ) (names used : ℕ) (name : List ℕ) (m : Memory (length bytes) (length ends) names used) (f : Formed bytes ends names used) (v : isName name ≡ true) (r : Room (length bytes) (length ends) names used (length name)) where
   abbrev bytes′ : List ℕ
-  bytes′ = written bytes used name
+  bytes′ = nameWritten bytes used name
 
   abbrev ends′ : List ℕ
   ends′ = set ends names (used + length name)
 
   pub bytes-length : length bytes′ ≡ length bytes
-  unfolding written
+  unfolding nameWritten
   bytes-length =
       let h = r .held in
       length-paste bytes used name (length name) h (omega arith)
@@ -125,19 +125,19 @@ module _ (bytes ends : List ℕ) (names used : ℕ) (name : List ℕ) (m : Memor
   pub ends-length : length ends′ ≡ length ends
   ends-length = length-set ends names (used + length name)
 
-  end-old : (n : ℕ) → n < names → endOf ends′ n ≡ endOf ends n
+  end-old : (n : ℕ) → n < names → nameEnd ends′ n ≡ nameEnd ends n
   end-old n h = getD-set-other ends names n (used + length name) 0 (λ e. omega arith)
 
-  end-new : endOf ends′ names ≡ used + length name
+  end-new : nameEnd ends′ names ≡ used + length name
   end-new = let p = r .place in getD-set-same ends names (used + length name) 0 (omega arith)
 
-  start-old : (n : ℕ) → n ≤ names → startOf ends′ n ≡ startOf ends n
-  unfolding startOf
+  start-old : (n : ℕ) → n ≤ names → nameStart ends′ n ≡ nameStart ends n
+  unfolding nameStart
   start-old zero h = refl
   start-old (suc n) h = end-old n h
 
   before : (t : ℕ) → t ≤ used → take t bytes′ ≡ take t bytes
-  unfolding written
+  unfolding nameWritten
   before t h =
       let l = r .held in
       let e : t ≤ length (take used bytes) = rw (length-take-le used bytes (omega arith)) h in
@@ -150,11 +150,11 @@ module _ (bytes ends : List ℕ) (names used : ℕ) (name : List ℕ) (m : Memor
   unfolding nameOf
   name-old n h =
       ap₂ (λ (s t : ℕ). slice s t bytes′) (start-old n (omega arith)) (end-old n h)
-      ∙ ap (drop (startOf ends n)) (before (endOf ends n) (f .under n h))
+      ∙ ap (drop (nameStart ends n)) (before (nameEnd ends n) (f .under n h))
 
   -- the new one has the next
   pub name-new : nameOf bytes′ ends′ names ≡ name
-  unfolding nameOf written
+  unfolding nameOf nameWritten
   name-new =
       let l = r .held in
       ap₂ (λ (s t : ℕ). slice s t bytes′) (start-old names (omega arith) ∙ f .last) end-new
@@ -182,10 +182,10 @@ module _ (bytes ends : List ℕ) (names used : ℕ) (name : List ℕ) (m : Memor
   formed-after =
       record {
         rising =
-            case (λ (n : ℕ). startOf ends′ n ≤ endOf ends′ n) (λ n h. let q = f .rising n h in omega (arith, start-old n (omega arith), end-old n h))
+            case (λ (n : ℕ). nameStart ends′ n ≤ nameEnd ends′ n) (λ n h. let q = f .rising n h in omega (arith, start-old n (omega arith), end-old n h))
             (omega (arith, start-old names (omega arith), f .last, end-new));
         under =
-            case (λ (n : ℕ). endOf ends′ n ≤ used + length name) (λ n h. let q = f .under n h in omega (arith, end-old n h)) (omega (arith, end-new));
+            case (λ (n : ℕ). nameEnd ends′ n ≤ used + length name) (λ n h. let q = f .under n h in omega (arith, end-old n h)) (omega (arith, end-new));
         valid =
             case (λ (n : ℕ). isName (nameOf bytes′ ends′ n) ≡ true) (λ n h. ap isName (name-old n h) ∙ f .valid n h) (ap isName name-new ∙ v);
         last = start-next ends′ names ∙ end-new;
@@ -220,10 +220,10 @@ named-old bytes ends names used name {k} e =
 pub record Joined (bytes ends : List ℕ) (names used : ℕ) (name : List ℕ) (k : ℕ) : Type 0 where
   pub next : k ≡ names
   pub absent : (i : ℕ) → i < names → getD (namesOf bytes ends names) i [] ≡ name → ⊥
-  pub list : namesOf (written bytes used name) (set ends names (used + length name)) (names + 1) ≡ namesOf bytes ends names ++ (name ∷ [])
-  pub kept : (i : ℕ) → i < names → getD (namesOf (written bytes used name) (set ends names (used + length name)) (names + 1)) i [] ≡ getD (namesOf bytes ends names) i []
-  pub formed : wellFormed (written bytes used name) (set ends names (used + length name)) (names + 1) (used + length name) ≡ true
-  pub memory : memoryOk (length (written bytes used name)) (length (set ends names (used + length name))) (names + 1) (used + length name) ≡ true
+  pub list : namesOf (nameWritten bytes used name) (set ends names (used + length name)) (names + 1) ≡ namesOf bytes ends names ++ (name ∷ [])
+  pub kept : (i : ℕ) → i < names → getD (namesOf (nameWritten bytes used name) (set ends names (used + length name)) (names + 1)) i [] ≡ getD (namesOf bytes ends names) i []
+  pub formed : wellFormed (nameWritten bytes used name) (set ends names (used + length name)) (names + 1) (used + length name) ≡ true
+  pub memory : memoryOk (length (nameWritten bytes used name)) (length (set ends names (used + length name))) (names + 1) (used + length name) ≡ true
 
 pub named-new : (bytes ends : List ℕ) (names used : ℕ) (name : List ℕ) {k : ℕ} → naming bytes ends names used name ≡ New k → Joined bytes ends names used name k
 named-new bytes ends names used name e =

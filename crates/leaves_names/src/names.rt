@@ -5,7 +5,7 @@ ghost use mathlib.Core.Bool.{true};
 ghost use Prim.Native.Nat.{_+_, _-_, _<_, _≤_};
 ghost use lib.ListN.{length, set};
 ghost use lib.Seq.{slice};
-ghost use Rattle.leaves_names.specs.Names.{startOf, endOf, namesOf, isName, wellFormed, memoryOk, same, least, hasRoom, written, checkedOf, checkNames, naming, namedOf, namingAnswer, bytesAfter, endsAfter, placedOf, placeOfName};
+ghost use Rattle.leaves_names.specs.Names.{nameStart, nameEnd, namesOf, isName, wellFormed, memoryOk, same, least, hasRoom, nameWritten, checkedOf, checkNames, naming, namedOf, namingAnswer, bytesAfter, endsAfter, placedOf, placeOfName};
 ghost use Rattle.leaves_names.specs.NamesLaws.{standing, Ordered};
 use crate::utf8::is_utf8_within;
 use leaves::refusal::Refusal;
@@ -41,7 +41,7 @@ pub enum Named {
 }
 
 // Where a name lies: its first byte, and the first past its end.
-pub enum Placed {
+pub enum NamePlace {
     At { first: usize, end: usize },
     Refused(Refusal),
 }
@@ -187,7 +187,7 @@ pub fn has_room(bytes: usize, places: usize, names: usize, used: usize, size: us
 // Writes the text's bytes from `from` to before `to` at place `at`.
 fn copy(bytes: &mut [u8], at: usize, text: &[u8], from: usize, to: usize)
     requires { ⌜ (from ≤ to) × (to ≤ length (now text)) × (at + (to - from) ≤ length (now bytes)) ⌝ }
-    ensures { λ _. ⌜ now (bytes .exit) ≡ written (now (bytes .entry)) at (slice from to (now (text .entry))) ⌝ }
+    ensures { λ _. ⌜ now (bytes .exit) ≡ nameWritten (now (bytes .entry)) at (slice from to (now (text .entry))) ⌝ }
 {
     let size = to - from;
     let mut i = 0;
@@ -210,7 +210,7 @@ pub fn add_name(
     requires { ⌜ (from ≤ to) × (to ≤ length (now text)) ⌝ }
     requires { ⌜ (names < length (now ends)) × (used + (to - from) ≤ length (now bytes)) × (used + (to - from) < 4294967296) ⌝ }
     ensures { λ r. ⌜ r ≡ used + (to - from) ⌝ }
-    ensures { λ _. ⌜ now (bytes .exit) ≡ written (now (bytes .entry)) used (slice from to (now (text .entry))) ⌝ }
+    ensures { λ _. ⌜ now (bytes .exit) ≡ nameWritten (now (bytes .entry)) used (slice from to (now (text .entry))) ⌝ }
     ensures { λ _. ⌜ now (ends .exit) ≡ set (now (ends .entry)) names (used + (to - from)) ⌝ }
 {
     let end = used + (to - from);
@@ -287,7 +287,7 @@ pub fn number_of(
 // Where a name begins: at 0, or where the one before it ends.
 pub fn name_start(ends: &[u32], number: usize) -> usize
     requires { ⌜ number ≤ length (now ends) ⌝ }
-    ensures { λ r. ⌜ r ≡ startOf (now (ends .entry)) number ⌝ }
+    ensures { λ r. ⌜ r ≡ nameStart (now (ends .entry)) number ⌝ }
 {
     if number == 0 {
         0
@@ -299,26 +299,32 @@ pub fn name_start(ends: &[u32], number: usize) -> usize
 // Where a name ends.
 pub fn name_end(ends: &[u32], number: usize) -> usize
     requires { ⌜ number < length (now ends) ⌝ }
-    ensures { λ r. ⌜ r ≡ endOf (now (ends .entry)) number ⌝ }
+    ensures { λ r. ⌜ r ≡ nameEnd (now (ends .entry)) number ⌝ }
 {
     place(ends[number])
 }
 
 // Where a name lies, its first byte and its end; or 15, 14, 3.
-pub fn place_of_name(bytes: &[u8], ends: &[u32], names: usize, used: usize, number: u32) -> Placed
+pub fn place_of_name(
+    bytes: &[u8],
+    ends: &[u32],
+    names: usize,
+    used: usize,
+    number: u32,
+) -> NamePlace
     ensures { λ r. ⌜ placedOf r ≡ placeOfName (now (bytes .entry)) (now (ends .entry)) names used number ⌝ }
 {
     if !is_memory(bytes.len(), ends.len(), names, used) {
-        return Placed::Refused(Refusal::BadMemory);
+        return NamePlace::Refused(Refusal::BadMemory);
     }
     if !is_list(bytes, ends, names, used) {
-        return Placed::Refused(Refusal::IllFormed);
+        return NamePlace::Refused(Refusal::IllFormed);
     }
     let n = place(number);
     if names <= n {
-        return Placed::Refused(Refusal::UnknownSymbol);
+        return NamePlace::Refused(Refusal::UnknownSymbol);
     }
     let first = name_start(ends, n);
     let end = name_end(ends, n);
-    Placed::At { first, end }
+    NamePlace::At { first, end }
 }

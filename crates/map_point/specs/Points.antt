@@ -79,10 +79,10 @@ unfoldable pub pointFound : List ℕ → ℕ → ℕ → Answer
 unfolding pointsFit symbolFor
 pointFound t used i = cond (pointsFit (length t) used) (symbolAnswer (symbolFor i (entries t used))) (refused BadMemory)
 
-abbrev pub foundOf : Found → Answer
-foundOf (Symbol symbol) = answer 0 (symbol ∷ [])
-foundOf Nothing = answer 0 []
-foundOf (FindRefused r) = refused r
+abbrev pub pointFoundOf : Found → Answer
+pointFoundOf (Symbol symbol) = answer 0 (symbol ∷ [])
+pointFoundOf Nothing = answer 0 []
+pointFoundOf (FindRefused r) = refused r
 
 -- whether an outcome fits the room of a table's bytes
 unfoldable pub hasRoom : List ℕ → List Entry → Bool

@@ -146,7 +146,7 @@ left-end {t} {used} {names} {place} h l =
 -- ---- the search
 
 -- what the search answers: a place within those in use, and in a sorted table the instrument's
-pub record Placed (t : List ℕ) (used instrument place : ℕ) : Type 0 where
+pub record EntryPlaced (t : List ℕ) (used instrument place : ℕ) : Type 0 where
   pub within : place ≤ used
   pub exact : T (rising (entries t used)) → placeOf instrument (entries t used) ≡ place
 
@@ -185,7 +185,7 @@ between-down {t} {used} {instrument} {low} {high} {x} h b e l = record {
   above = λ u. rw (← e) l;
 }
 
-pub between-met : {t : List ℕ} {used instrument low high : ℕ} → high ≤ low → Between t used instrument low high → Placed t used instrument low
+pub between-met : {t : List ℕ} {used instrument low high : ℕ} → high ≤ low → Between t used instrument low high → EntryPlaced t used instrument low
 between-met {t} {used} {instrument} {low} {high} h b =
     let met : low ≡ high = omega (arith, b .apart) in
     let d = entryAt t 0 in
@@ -235,7 +235,7 @@ not-held t used place instrument e h o =
     let z : _≡_ {A = ℕ} 0 1 = cc in
     omega arith
 
-module _ (t : List ℕ) (used instrument place : ℕ) (p : Placed t used instrument place) (s : T (rising (entries t used))) where
+module _ (t : List ℕ) (used instrument place : ℕ) (p : EntryPlaced t used instrument place) (s : T (rising (entries t used))) where
   abbrev xs : List Entry
   xs = entries t used
 
@@ -302,14 +302,14 @@ module _ (t : List ℕ) (used : ℕ) {b : Bool} (e : b ≡ pointsFit (length t) 
   sorted : not b ≡ false → T (not (pointsFit (length t) used) || rising (entries t used)) → T (rising (entries t used))
   sorted f s = rw (fits f) at s
 
-  pub get-nothing : (i : ℕ) {place : ℕ} {h : Bool} → not b ≡ false → Placed t used i place → h ≡ holdsAt t used place i → not h ≡ true
+  pub get-nothing : (i : ℕ) {place : ℕ} {h : Bool} → not b ≡ false → EntryPlaced t used i place → h ≡ holdsAt t used place i → not h ≡ true
       → T (not (pointsFit (length t) used) || rising (entries t used)) → answer 0 [] ≡ pointFound t used i
   unfolding pointFound
   get-nothing i {place} {h} f p g n s =
       let o : symbolFor i (entries t used) ≡ none = symbol-not-held t used i place p (sorted f s) (not-held t used place i (sym g ∙ not-true h n)) in
       rw (fits f, o) refl
 
-  pub get-symbol : (i : ℕ) {place : ℕ} {h : Bool} {x : Entry} → not b ≡ false → Placed t used i place → h ≡ holdsAt t used place i → not h ≡ false → x ≡ entryAt t place
+  pub get-symbol : (i : ℕ) {place : ℕ} {h : Bool} {x : Entry} → not b ≡ false → EntryPlaced t used i place → h ≡ holdsAt t used place i → not h ≡ false → x ≡ entryAt t place
       → T (not (pointsFit (length t) used) || rising (entries t used)) → answer 0 (x .symbol ∷ []) ≡ pointFound t used i
   unfolding pointFound
   get-symbol i {place} {h} {x} f p g n q s =
@@ -370,7 +370,7 @@ stored-entries t used x b h e = rw e (go (leb (length out) (length t / 8)) refl)
     go false f = refl
 
 module _ (t : List ℕ) (used : ℕ) (x : Entry) (place : ℕ) (fit : used * 8 ≤ length t) (s : T (rising (entries t used)))
-    (p : Placed t used (x .instrument) place) where
+    (p : EntryPlaced t used (x .instrument) place) where
   abbrev old : List Entry
   old = entries t used
 

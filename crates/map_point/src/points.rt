@@ -18,8 +18,8 @@ ghost use lib.Dec.{T};
 ghost use Rattle.map_rules.specs.Looks.{numberIn};
 ghost use Rattle.map_time.specs.Table.{checkedOf};
 ghost use Rattle.map_point.specs.Entries.{entries};
-ghost use Rattle.map_point.specs.Points.{rising, wellFormed, pointsFit, setEntry, pointsChecked, pointFound, foundOf, storedAnswer, storedBytes, usedThen, entriesThen, storedOf};
-ghost use Rattle.map_point.specs.PointsSteps.{standsAt, holdsAt, Placed};
+ghost use Rattle.map_point.specs.Points.{rising, wellFormed, pointsFit, setEntry, pointsChecked, pointFound, pointFoundOf, storedAnswer, storedBytes, usedThen, entriesThen, storedOf};
+ghost use Rattle.map_point.specs.PointsSteps.{standsAt, holdsAt, EntryPlaced};
 
 // What a call that stores answers: how many entries are in use then.
 pub enum Stored {
@@ -90,7 +90,7 @@ pub fn check_points(table: &[u8], used: usize, names: usize) -> Checked
 // The place of the first entry in use whose instrument is not below this one.
 fn place_of(table: &[u8], used: usize, instrument: u32) -> usize
     requires { ⌜ used * 8 ≤ length (now table) ⌝ }
-    ensures { λ r. ⌜ Placed (now (table .entry)) used instrument r ⌝ }
+    ensures { λ r. ⌜ EntryPlaced (now (table .entry)) used instrument r ⌝ }
 {
     let mut low = 0;
     let mut high = used;
@@ -120,8 +120,8 @@ fn holds(table: &[u8], used: usize, place: usize, instrument: u32) -> bool
 
 // The symbol of an instrument: 15 only. On a table that is not sorted the answer may be any symbol or nothing.
 pub fn get(table: &[u8], used: usize, instrument: u32) -> Found
-    ensures right { λ r. ⌜ (T (not (pointsFit (length (now (table .entry))) used) || rising (entries (now (table .entry)) used)) → foundOf r ≡ pointFound (now (table .entry)) used instrument) ⌝ }
-    ensures accepted { λ r. ⌜ (pointsFit (length (now (table .entry))) used ≡ true → numberIn (foundOf r) ≡ 0) ⌝ }
+    ensures right { λ r. ⌜ (T (not (pointsFit (length (now (table .entry))) used) || rising (entries (now (table .entry)) used)) → pointFoundOf r ≡ pointFound (now (table .entry)) used instrument) ⌝ }
+    ensures accepted { λ r. ⌜ (pointsFit (length (now (table .entry))) used ≡ true → numberIn (pointFoundOf r) ≡ 0) ⌝ }
 {
     if !points_fit(table.len(), used) {
         return Found::Refused(Refusal::BadMemory);

@@ -9,7 +9,7 @@ use Rattle.theory.specs.Answer.{Answer, answer}
 use Rattle.leaves.specs.Refusal.{refused}
 use Rattle.leaves.specs.declared.refusal.Refusal.the-variants.{Reversed, NoRoom, BadName, IllFormed, BadMemory, Damaged}
 use Rattle.leaves.specs.Frame.{Mapped, other, symbol, notOne, mappedIn, nameIn}
-use Rattle.leaves_names.specs.Names.{isName, memoryOk, namesOf, least, numbering, written}
+use Rattle.leaves_names.specs.Names.{isName, memoryOk, namesOf, least, numbering, nameWritten}
 use Rattle.leaves_names.specs.Names.{wellFormed as wellFormedNames}
 use Rattle.leaves_names.specs.declared.names.Naming.{Naming}
 use Rattle.leaves_names.specs.declared.names.Naming.the-variants.{Old, New, Refused as NotNamed}
@@ -123,7 +123,7 @@ sizeThen joins size name = cond joins (size + length name) size
 
 -- the list's bytes and ends: the new name's after those in use, or as at entry
 unfoldable pub bytesThen : Bool → List ℕ → ℕ → List ℕ → List ℕ
-bytesThen joins bytes size name = cond joins (written bytes size name) bytes
+bytesThen joins bytes size name = cond joins (nameWritten bytes size name) bytes
 
 unfoldable pub endsThen : Bool → List ℕ → ℕ → ℕ → List ℕ → List ℕ
 endsThen joins ends names size name = cond joins (set ends names (size + length name)) ends

@@ -14,11 +14,11 @@ use Rattle.theory.specs.Fields.{field}
 use Rattle.leaves.specs.Refusal.{refused, numberOf}
 use Rattle.leaves.specs.declared.refusal.Refusal.the-variants.{NoRoom, NoNameRoom, BadName, IllFormed, BadMemory, Damaged}
 use Rattle.leaves.specs.declared.refusal.Refusal.{Refusal}
-use Rattle.leaves.specs.Frame.{Read, whole, ended, damaged, Mapped, other, symbol, notOne, startOf, ofKind, oneRecord, frameAt, mappedIn, mappedOf, mappingOf, nameIn}
+use Rattle.leaves.specs.Frame.{Read, whole, ended, damaged, Mapped, other, symbol, notOne, mappingStart, ofKind, oneRecord, frameAt, mappedIn, mappedOf, mappingOf, nameIn}
 use Rattle.leaves.specs.FrameLaws.{mapped-other, mapped-symbol, mapped-refused, refused-not-done}
 use Rattle.leaves.specs.declared.frame.Mapping.{Mapping}
 use Rattle.leaves.specs.declared.frame.Mapping.the-variants.{Other, Symbol, Refused as NotRead}
-use Rattle.leaves_names.specs.Names.{memoryOk, wellFormed as wellFormedNames, namesOf, least, isName, written, hasRoom as hasNameRoom}
+use Rattle.leaves_names.specs.Names.{memoryOk, wellFormed as wellFormedNames, namesOf, least, isName, nameWritten, hasRoom as hasNameRoom}
 use Rattle.leaves_names.specs.declared.names.Naming.the-variants.{New, Refused as NotNamed}
 use Rattle.leaves_names.specs.NamesLaws.{holds, fails, Memory, memory, Ordered as OrderedNames, formed, ordered, numbered-old, numbered-fresh}
 use Rattle.map_point.specs.Entries.{entries}
@@ -171,7 +171,7 @@ two false x y P h = inr (refl, h)
 symbol-kind : (b : List ℕ) (kind instrument : ℕ) {i s e : ℕ} → ofKind b kind instrument ≡ symbol i s e → 32 ≤ length b
 unfolding ofKind
 symbol-kind b kind instrument {i} {s} {e} h =
-    let time = startOf (field 8 b 16) in
+    let time = mappingStart (field 8 b 16) in
     let inner = cond (ltb (length b - 16) 16) (notOne 4) (symbol instrument time (field 8 b 24)) in
     go (two (eqb kind 2) inner other (λ (m : Mapped). m ≡ symbol i s e) h)
   where
@@ -179,7 +179,7 @@ symbol-kind b kind instrument {i} {s} {e} h =
     last m (inl p) = let f = p .1 in let z : _≡_ {A = ℕ} 0 1 = cc in absurd (omega arith)
     last m (inr p) = omega (arith, ltb-false (length b - 16) 16 (p .0))
 
-    go : ((eqb kind 2 ≡ true) × (cond (ltb (length b - 16) 16) (notOne 4) (symbol instrument (startOf (field 8 b 16)) (field 8 b 24)) ≡ symbol i s e)) ⊎ ((eqb kind 2 ≡ false) × (other ≡ symbol i s e)) → 32 ≤ length b
+    go : ((eqb kind 2 ≡ true) × (cond (ltb (length b - 16) 16) (notOne 4) (symbol instrument (mappingStart (field 8 b 16)) (field 8 b 24)) ≡ symbol i s e)) ⊎ ((eqb kind 2 ≡ false) × (other ≡ symbol i s e)) → 32 ≤ length b
     go (inl p) = last _ (two (ltb (length b - 16) 16) (notOne 4) _ (λ (m : Mapped). m ≡ symbol i s e) (p .1))
     go (inr p) = let f = p .1 in let z : _≡_ {A = ℕ} 0 1 = cc in absurd (omega arith)
 
@@ -278,13 +278,13 @@ module _ (bytes ends : List ℕ) (names size : ℕ) (rec : List ℕ) (from to : 
   name-size : size + (to - from) ≡ size + length (nameIn rec)
   name-size = ap (λ (k : ℕ). size + k) (sym (ap length (sym (l .name)) ∙ length-slice from to rec (l .inside)))
 
-  pub joined-new : new ≡ true → {end : ℕ} {b e : List ℕ} → end ≡ size + (to - from) → b ≡ written bytes size (slice from to rec) → e ≡ set ends names (size + (to - from))
+  pub joined-new : new ≡ true → {end : ℕ} {b e : List ℕ} → end ≡ size + (to - from) → b ≡ nameWritten bytes size (slice from to rec) → e ≡ set ends names (size + (to - from))
       → ((names + 1 ≡ namesThen new names) × (end ≡ sizeThen new size (nameIn rec)))
       × ((b ≡ bytesThen new bytes size (nameIn rec)) × (e ≡ endsThen new ends names size (nameIn rec)))
   unfolding bytesThen endsThen
   joined-new h p q r =
       rw h
-      ((refl, p ∙ name-size), (q ∙ ap (written bytes size) (l .name), r ∙ ap (set ends names) name-size))
+      ((refl, p ∙ name-size), (q ∙ ap (nameWritten bytes size) (l .name), r ∙ ap (set ends names) name-size))
 
 pub joined-old : (bytes ends : List ℕ) (names size : ℕ) (name : List ℕ) {new : Bool} → new ≡ false
     → ((names ≡ namesThen new names) × (size ≡ sizeThen new size name)) × ((bytes ≡ bytesThen new bytes size name) × (ends ≡ endsThen new ends names size name))

@@ -13,7 +13,7 @@ use mir.Facts.{eqb-yes, eqb-no, ltb-yes, ltb-no}
 use Rattle.theory.specs.Answer.{Answer, answer}
 use Rattle.theory.specs.RunsTools.{cond-case, cond-yes, cond-no}
 use Rattle.map_rules.specs.Table.{Row, answerFor, Ordered, Outcome, refusedBy, stored, nowStored, ifRoom, badRoom, badNames, wellFormed, insertRows, entered, inserted}
-use Rattle.map_rules.specs.History.{Event, insertion, after, accepted, told}
+use Rattle.map_rules.specs.History.{Event, insertion, after, accepted, history-told}
 use Rattle.map_rules.specs.Lookup.{lookupRows, lookupRows-right}
 use Rattle.map_rules.specs.Memory.{width, sameValue, knownValue, rows, roomOf, insertOutcome, memoryAfter, outcomeAnswer, usedAfter, Gives}
 use Rattle.map_rules.specs.Pieces.{symbols}
@@ -42,14 +42,14 @@ module _ (es : List (Event ℕ)) (t : List ℕ) (used : ℕ) (s : Holds es t use
 
   -- it is in order at any time, so that the promise on lookups holds
   pub in-order-call : Ordered (rows t used)
-  in-order-call = rw s (told sameValue symbols knownValue es .in-order)
+  in-order-call = rw s (history-told sameValue symbols knownValue es .in-order)
 
   -- a lookup, with any hint
   pub lookup-call : (i m h : ℕ) → lookupRows (rows t used) i m h .said ≡ answerFor (accepted sameValue knownValue es) i m
   lookup-call i m h =
       lookupRows-right (rows t used) in-order-call i m h
       ∙ ap (λ (xs : List (Row ℕ)). answerFor xs i m) s
-      ∙ told sameValue symbols knownValue es .latest i m
+      ∙ history-told sameValue symbols knownValue es .latest i m
 
 -- ---- the refusals, each exactly when the table says
 

@@ -97,11 +97,11 @@ module _ {A : Type 0} (same : A → A → Bool) (laws : Same same) (known : ℕ 
     pub in-order : Ordered xs
     pub latest : (i m : ℕ) → answerFor xs i m ≡ answerFor ac i m
 
-  pub told : (es : List (Event A)) → Told (after same known es) (accepted same known es)
+  pub history-told : (es : List (Event A)) → Told (after same known es) (accepted same known es)
   unfolding after nowStored accepted noted answerFor group answerAt
-  told [] = record { in-order = tt; latest = λ i m. refl }
-  told (look i m h ∷ es) = told es
-  told (insertion names room n ∷ es) = go (inserted same known names room n xs) (inserted-ok names room n xs) (told es)
+  history-told [] = record { in-order = tt; latest = λ i m. refl }
+  history-told (look i m h ∷ es) = history-told es
+  history-told (insertion names room n ∷ es) = go (inserted same known names room n xs) (inserted-ok names room n xs) (history-told es)
     where
       xs : List (Row A)
       xs = after same known es
@@ -120,7 +120,7 @@ module _ {A : Type 0} (same : A → A → Bool) (laws : Same same) (known : ℕ 
   pub stored-runs : (es : List (Event A)) (x : Row A)
       → Mem x (after same known es) ↔ IsRun (answerFor (accepted same known es) (x .instrument)) (intervalOf x)
   stored-runs es x =
-      let t : Told (after same known es) (accepted same known es) = told es in
+      let t : Told (after same known es) (accepted same known es) = history-told es in
       let f : ℕ → Option A = answerFor (after same known es) (x .instrument) in
       let g : ℕ → Option A = answerFor (accepted same known es) (x .instrument) in
       let l : Mem x (after same known es) ↔ IsRun f (intervalOf x) = rows-longest (after same known es) (t .in-order) x in (
@@ -131,8 +131,8 @@ module _ {A : Type 0} (same : A → A → Bool) (laws : Same same) (known : ℕ 
   -- and only one list fits
   pub stored-only : (es : List (Event A)) (ys : List (Row A)) → Sorted ys → ((i : ℕ) → Rising (group i ys))
       → ((y : Row A) → Mem y ys ↔ IsRun (answerFor (accepted same known es) (y .instrument)) (intervalOf y)) → ys ≡ after same known es
-  stored-only es ys s r g = only-rows (answerFor (accepted same known es)) (after same known es) ys (told es .in-order) (told es .latest) s r g
+  stored-only es ys s r g = only-rows (answerFor (accepted same known es)) (after same known es) ys (history-told es .in-order) (history-told es .latest) s r g
 
   -- a lookup at any time, with any hint
   pub looked-up : (es : List (Event A)) (i m h : ℕ) → lookupRows (after same known es) i m h .said ≡ answerFor (accepted same known es) i m
-  looked-up es i m h = lookupRows-right (after same known es) (told es .in-order) i m h ∙ told es .latest i m
+  looked-up es i m h = lookupRows-right (after same known es) (history-told es .in-order) i m h ∙ history-told es .latest i m

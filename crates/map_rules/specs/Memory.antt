@@ -86,13 +86,13 @@ checkAnswer t used names =
     (cond (wellFormed sameValue knownValue names (rows t used)) (answer 0 []) (answer 14 []))
 
 -- the memory once the rows ys stand where `used` rows stood: the rows, 0 in the places that were freed, the rest as it was
-unfoldable pub written : List ℕ → ℕ → List (Row ℕ) → List ℕ
-written t used ys = rowsBytes ys ++ (replicate ((used - length ys) * width) 0 ++ drop (max used (length ys) * width) t)
+unfoldable pub rowsWritten : List ℕ → ℕ → List (Row ℕ) → List ℕ
+rowsWritten t used ys = rowsBytes ys ++ (replicate ((used - length ys) * width) 0 ++ drop (max used (length ys) * width) t)
 
 -- the memory after an outcome: a refusal leaves it as at entry
 unfoldable pub memoryAfter : List ℕ → ℕ → Outcome (Row ℕ) → List ℕ
 memoryAfter t used (refusedBy c) = t
-memoryAfter t used (stored ys) = written t used ys
+memoryAfter t used (stored ys) = rowsWritten t used ys
 
 -- what the insert answers: the refusal's number, or 0 and the new length
 unfoldable pub outcomeAnswer : Outcome (Row ℕ) → Answer

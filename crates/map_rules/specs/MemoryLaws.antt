@@ -11,7 +11,7 @@ use lib.Seq.{take-add, take-all, drop-drop, drop-cons, drop-at}
 use Rattle.theory.specs.Runs.{All}
 use Rattle.theory.specs.Fields.{field, Agree, Bytes, field-same, field-drop, field-below}
 use Rattle.map_rules.specs.Table.{Row}
-use Rattle.map_rules.specs.Memory.{rowAt, Fit, rowsFrom, rows, bytesOf, rowBytes, rowsBytes, written}
+use Rattle.map_rules.specs.Memory.{rowAt, Fit, rowsFrom, rows, bytesOf, rowBytes, rowsBytes, rowsWritten}
 
 -- ---- the rows of a memory, one by one and as a list
 
@@ -157,8 +157,8 @@ blank-rows t k (suc n) h =
 pub memory-is : (t t′ : List ℕ) (room used m : ℕ) (ys : List (Row ℕ)) → Bytes t → Bytes t′ → length t ≡ room * 24 → length t′ ≡ length t
     → used ≤ room → m ≤ room → rows t′ m ≡ ys
     → ((j : ℕ) → m ≤ j → j < used → rowAt t′ j ≡ blank) → ((j : ℕ) → m ≤ j → used ≤ j → rowAt t′ j ≡ rowAt t j)
-    → t′ ≡ written t used ys
-unfolding written
+    → t′ ≡ rowsWritten t used ys
+unfolding rowsWritten
 memory-is t t′ room used m ys b b′ l l′ hu hm e z k =
     let lm : length ys ≡ m = ap length (sym e) ∙ length-rows t′ 0 m in
     let x : ℕ = max used m in
@@ -181,7 +181,7 @@ memory-is t t′ room used m ys b b′ l l′ hu hm e z k =
     ∙ (λ q. first q ++ (mid q ++ last q))
 
 -- rows that are as they were leave the memory as it was
-pub written-same : (t : List ℕ) (room used : ℕ) → Bytes t → length t ≡ room * 24 → used ≤ room → t ≡ written t used (rows t used)
+pub written-same : (t : List ℕ) (room used : ℕ) → Bytes t → length t ≡ room * 24 → used ≤ room → t ≡ rowsWritten t used (rows t used)
 written-same t room used b l h =
     memory-is t t room used used (rows t used) b b l refl h h refl (λ j p q. absurd (omega arith)) (λ j p q. refl)
 
@@ -248,8 +248,8 @@ rows-bytes (x ∷ xs) q f =
     λ j. first j ∷ rest j
 
 -- the rows that an accepted insert leaves
-pub rows-written : (t : List ℕ) (used : ℕ) (ys : List (Row ℕ)) → All Fit ys → rows (written t used ys) (length ys) ≡ ys
-unfolding written
+pub rows-written : (t : List ℕ) (used : ℕ) (ys : List (Row ℕ)) → All Fit ys → rows (rowsWritten t used ys) (length ys) ≡ ys
+unfolding rowsWritten
 rows-written t used ys f = rows-bytes ys _ f
 
 -- a row of bytes fits

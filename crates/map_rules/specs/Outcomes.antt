@@ -15,7 +15,7 @@ use Rattle.theory.specs.RunsTools.{ltb-case, cond-lt, cond-ge, cond-yes, cond-n
 use Rattle.map_rules.specs.Table.{Row, Ordered, Outcome, refusedBy, stored, nowStored, ifRoom, badRoom, badNames, wellFormed, insertRows, entered, inserted}
 use Rattle.map_rules.specs.Tests.{Good, room-good, good-room, bad-limit, formed-parts}
 use Rattle.map_rules.specs.Rules.{rows-ok}
-use Rattle.map_rules.specs.Memory.{width, sameValue, knownValue, rows, badTable, insertOutcome, checkAnswer, written, memoryAfter, outcomeAnswer, usedAfter, Gives}
+use Rattle.map_rules.specs.Memory.{width, sameValue, knownValue, rows, badTable, insertOutcome, checkAnswer, rowsWritten, memoryAfter, outcomeAnswer, usedAfter, Gives}
 use Rattle.map_rules.specs.MemoryLaws.{length-rows, written-same}
 use Rattle.map_rules.specs.Pieces.{symbols}
 
@@ -221,16 +221,16 @@ module _ (t : List ℕ) (used names : ℕ) (n : Row ℕ) where
 -- ---- what a caller of an insert in place learns
 
 -- done with m rows: they are the outcome, it fits, and the whole memory is known
-pub record Placed (room m used : ℕ) (ys : List (Row ℕ)) (t t′ : List ℕ) : Type 0 where
+pub record RowsPlaced (room m used : ℕ) (ys : List (Row ℕ)) (t t′ : List ℕ) : Type 0 where
   pub long : m ≡ length ys
   pub room-fits : m ≤ room
   pub holds : rows t′ m ≡ ys
-  pub memory : t′ ≡ written t used ys
+  pub memory : t′ ≡ rowsWritten t used ys
 
-pub placed-done : (room m used : ℕ) (ys : List (Row ℕ)) (t t′ : List ℕ) → Gives (ifRoom room ys) t used (answer 0 (m ∷ [])) t′ → Placed room m used ys t t′
+pub placed-done : (room m used : ℕ) (ys : List (Row ℕ)) (t t′ : List ℕ) → Gives (ifRoom room ys) t used (answer 0 (m ∷ [])) t′ → RowsPlaced room m used ys t t′
 unfolding ifRoom outcomeAnswer memoryAfter usedAfter nowStored
 placed-done room m used ys t t′ =
-    ltb-case (λ (o : Outcome (Row ℕ)). Gives o t used (answer 0 (m ∷ [])) t′ → Placed room m used ys t t′) room (length ys) (refusedBy 2) (stored ys)
+    ltb-case (λ (o : Outcome (Row ℕ)). Gives o t used (answer 0 (m ∷ [])) t′ → RowsPlaced room m used ys t t′) room (length ys) (refusedBy 2) (stored ys)
     (λ h g. let d : answer 0 (m ∷ []) ≡ answer 2 [] = g .answers in absurd (let z : _≡_ {A = ℕ} 0 2 = cc in omega arith))
     (λ h g.
     let d : answer 0 (m ∷ []) ≡ answer 0 (length ys ∷ []) = g .answers in

@@ -18,7 +18,7 @@ use Rattle.theory.specs.RunsTools.{cond-lt, cond-ge, cond-yes, cond-no, T-and, 
 use Rattle.map_rules.specs.Table.{Row, rowOf, tagged, Ordered, insertRows, refusedBy, stored, nowStored, ifRoom}
 use Rattle.map_rules.specs.Splice.{leftOf, rightOf, core, coreStart, coreEnd}
 use Rattle.map_rules.specs.RowSplice.{Cut, between, spliced-by}
-use Rattle.map_rules.specs.Memory.{width, sameValue, rowAt, rowsFrom, rows, written, memoryAfter, outcomeAnswer, usedAfter, Gives}
+use Rattle.map_rules.specs.Memory.{width, sameValue, rowAt, rowsFrom, rows, rowsWritten, memoryAfter, outcomeAnswer, usedAfter, Gives}
 use Rattle.map_rules.specs.MemoryLaws.{blank, length-rows, rows-eq, rows-add, rows-take, rows-drop, memory-is}
 use Rattle.map_rules.specs.Moves.{Replaced, Cleared}
 use Rattle.map_rules.specs.Search.{Found, at-row, cuts}
@@ -34,12 +34,12 @@ unfoldable pub rightCount : Row ℕ → Row ℕ → ℕ
 rightCount n z = cond (ltb (n .end) (z .end) && not (sameValue (n .value) (z .value))) 1 0
 
 -- where the new row starts: with x, where x starts before it and has its value
-unfoldable pub startOf : Row ℕ → Row ℕ → ℕ
-startOf n x = cond (ltb (x .start) (n .start) && sameValue (x .value) (n .value)) (x .start) (n .start)
+unfoldable pub joinedStart : Row ℕ → Row ℕ → ℕ
+joinedStart n x = cond (ltb (x .start) (n .start) && sameValue (x .value) (n .value)) (x .start) (n .start)
 
 -- where it ends: with z, where z ends after it and has its value
-unfoldable pub endOf : Row ℕ → Row ℕ → ℕ
-endOf n z = cond (ltb (n .end) (z .end) && sameValue (n .value) (z .value)) (z .end) (n .end)
+unfoldable pub joinedEnd : Row ℕ → Row ℕ → ℕ
+joinedEnd n z = cond (ltb (n .end) (z .end) && sameValue (n .value) (z .value)) (z .end) (n .end)
 
 -- what is left of x before n
 abbrev pub leftRow : Row ℕ → Row ℕ → Row ℕ
@@ -98,20 +98,20 @@ module _ (n x : Row ℕ) {p : Bool} where
   unfolding rightCount
   right-not e f = and-no (n .end) (x .end) 1 0 (not (sameValue (n .value) (x .value))) (not-true (sameValue (n .value) (x .value)) (sym e ∙ f))
 
-  pub start-yes : {a : ℕ} → x .start < n .start → p ≡ sameValue (x .value) (n .value) → p ≡ true → a ≡ x .start → a ≡ startOf n x
-  unfolding startOf
+  pub start-yes : {a : ℕ} → x .start < n .start → p ≡ sameValue (x .value) (n .value) → p ≡ true → a ≡ x .start → a ≡ joinedStart n x
+  unfolding joinedStart
   start-yes h e f d = d ∙ and-yes (x .start) (n .start) (x .start) (n .start) (sameValue (x .value) (n .value)) h (sym e ∙ f)
 
-  pub start-not : {a : ℕ} → p ≡ sameValue (x .value) (n .value) → p ≡ false → a ≡ n .start → a ≡ startOf n x
-  unfolding startOf
+  pub start-not : {a : ℕ} → p ≡ sameValue (x .value) (n .value) → p ≡ false → a ≡ n .start → a ≡ joinedStart n x
+  unfolding joinedStart
   start-not e f d = d ∙ and-no (x .start) (n .start) (x .start) (n .start) (sameValue (x .value) (n .value)) (sym e ∙ f)
 
-  pub end-yes : {a : ℕ} → n .end < x .end → p ≡ sameValue (n .value) (x .value) → p ≡ true → a ≡ x .end → a ≡ endOf n x
-  unfolding endOf
+  pub end-yes : {a : ℕ} → n .end < x .end → p ≡ sameValue (n .value) (x .value) → p ≡ true → a ≡ x .end → a ≡ joinedEnd n x
+  unfolding joinedEnd
   end-yes h e f d = d ∙ and-yes (n .end) (x .end) (x .end) (n .end) (sameValue (n .value) (x .value)) h (sym e ∙ f)
 
-  pub end-not : {a : ℕ} → p ≡ sameValue (n .value) (x .value) → p ≡ false → a ≡ n .end → a ≡ endOf n x
-  unfolding endOf
+  pub end-not : {a : ℕ} → p ≡ sameValue (n .value) (x .value) → p ≡ false → a ≡ n .end → a ≡ joinedEnd n x
+  unfolding joinedEnd
   end-not e f d = d ∙ and-no (n .end) (x .end) (x .end) (n .end) (sameValue (n .value) (x .value)) (sym e ∙ f)
 
 module _ (n x : Row ℕ) where
@@ -123,12 +123,12 @@ module _ (n x : Row ℕ) where
   unfolding rightCount
   right-ge = and-ge (n .end) (x .end) 1 0 (not (sameValue (n .value) (x .value)))
 
-  pub start-ge : {a : ℕ} → n .start ≤ x .start → a ≡ n .start → a ≡ startOf n x
-  unfolding startOf
+  pub start-ge : {a : ℕ} → n .start ≤ x .start → a ≡ n .start → a ≡ joinedStart n x
+  unfolding joinedStart
   start-ge h d = d ∙ and-ge (x .start) (n .start) (x .start) (n .start) (sameValue (x .value) (n .value)) h
 
-  pub end-ge : {a : ℕ} → x .end ≤ n .end → a ≡ n .end → a ≡ endOf n x
-  unfolding endOf
+  pub end-ge : {a : ℕ} → x .end ≤ n .end → a ≡ n .end → a ≡ joinedEnd n x
+  unfolding joinedEnd
   end-ge h d = d ∙ and-ge (n .end) (x .end) (x .end) (n .end) (sameValue (n .value) (x .value)) h
 
 -- ---- the pieces as rows
@@ -140,12 +140,12 @@ if-front true i l rs u us d e = λ q. d q ∷ e q
 if-front false i l rs u us d e = e
 
 pieces : (n x z : Row ℕ)
-    → onlyIf (leftCount n x) (leftRow n x) (midRow n (startOf n x) (endOf n z) ∷ onlyIf (rightCount n z) (rightRow n z) [])
+    → onlyIf (leftCount n x) (leftRow n x) (midRow n (joinedStart n x) (joinedEnd n z) ∷ onlyIf (rightCount n z) (rightRow n z) [])
     ≡ between sameValue symbols n x z
-unfolding leftCount rightCount startOf endOf between leftOf rightOf core coreStart coreEnd tagged
+unfolding leftCount rightCount joinedStart joinedEnd between leftOf rightOf core coreStart coreEnd tagged
 pieces n x z =
     if-front (ltb (x .start) (n .start) && not (sameValue (x .value) (n .value))) (n .instrument) (leftRow n x) _ _ _ refl
-    (ap (λ (rs : List (Row ℕ)). midRow n (startOf n x) (endOf n z) ∷ rs)
+    (ap (λ (rs : List (Row ℕ)). midRow n (joinedStart n x) (joinedEnd n z) ∷ rs)
     (if-front (ltb (n .end) (z .end) && not (sameValue (n .value) (z .value))) (n .instrument) (rightRow n z) [] _ [] refl refl))
 
 length-only : (k : ℕ) (r : Row ℕ) (rs : List (Row ℕ)) → k ≤ 1 → length (onlyIf k r rs) ≡ k + length rs
@@ -235,10 +235,10 @@ module _ {t : List ℕ} {used : ℕ} {n : Row ℕ} (h : n .start < n .end) (w : 
       ∙ length-splice t used lo hi (between sameValue symbols n x z) (cut-here .ordered) (b .within)
       ∙ ap (λ (ms : List (Row ℕ)). lo + (length ms + (used - hi))) (sym (pieces n x z))
       ∙ ap (λ (k : ℕ). lo + (k + (used - hi)))
-      (length-pieces (leftCount n x) (rightCount n z) (leftRow n x) (midRow n (startOf n x) (endOf n z)) (rightRow n z) (left-le n x) (right-le n z))
+      (length-pieces (leftCount n x) (rightCount n z) (leftRow n x) (midRow n (joinedStart n x) (joinedEnd n z)) (rightRow n z) (left-le n x) (right-le n z))
       ∙ omega arith
 
-  pub outcome-rows : {left right s e : ℕ} {t′ : List ℕ} → left ≡ leftCount n x → right ≡ rightCount n z → s ≡ startOf n x → e ≡ endOf n z
+  pub outcome-rows : {left right s e : ℕ} {t′ : List ℕ} → left ≡ leftCount n x → right ≡ rightCount n z → s ≡ joinedStart n x → e ≡ joinedEnd n z
       → Replaced t used lo hi (leftRow n x) (midRow n s e) (rightRow n z) left right t′
       → rows t′ (lo + left + 1 + right + (used - hi)) ≡ insertRows sameValue n (rows t used)
   outcome-rows {left} {right} {s} {e} {t′} el er es ee p =
@@ -260,7 +260,7 @@ module _ {t : List ℕ} {used : ℕ} {n : Row ℕ} (h : n .start < n .end) (w : 
       (record { answers = refl; memory = refl; holds = refl })
 
   -- where it fits: the stretch replaced, and the freed places cleared
-  pub placed : {left right s e : ℕ} {t₁ t′ : List ℕ} → left ≡ leftCount n x → right ≡ rightCount n z → s ≡ startOf n x → e ≡ endOf n z
+  pub placed : {left right s e : ℕ} {t₁ t′ : List ℕ} → left ≡ leftCount n x → right ≡ rightCount n z → s ≡ joinedStart n x → e ≡ joinedEnd n z
       → Bytes t → Bytes t′ → length t ≡ length t / width * width → length t′ ≡ length t → used ≤ length t / width
       → lo + left + 1 + right + (used - hi) ≤ length t / width
       → Replaced t used lo hi (leftRow n x) (midRow n s e) (rightRow n z) left right t₁
@@ -274,7 +274,7 @@ module _ {t : List ℕ} {used : ℕ} {n : Row ℕ} (h : n .start < n .end) (w : 
       let same : rows t′ total ≡ rows t₁ total =
       rows-eq t₁ t′ 0 0 total (λ j i. q .kept (0 + j) (λ c d. omega arith)) in
       let rs : rows t′ total ≡ ys = same ∙ outcome-rows el er es ee p in
-      let all : t′ ≡ written t used ys =
+      let all : t′ ≡ rowsWritten t used ys =
       memory-is t t′ (length t / width) used total ys b b′ m l u k rs (λ j i d. q .zero j i d)
       (λ j i d. q .kept j (λ c f. omega arith) ∙ p .beyond j d i) in
       rw (cond-ge (length t / width) (length ys) (refusedBy 2) (stored ys) (omega arith))

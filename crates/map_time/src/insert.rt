@@ -7,7 +7,7 @@ ghost use Prim.Native.Nat.{_+_, _*_, _-_, _≤_, _<_};
 ghost use lib.ListN.{length};
 ghost use Rattle.map_rules.specs.Table.{Ordered, insertRows, ifRoom, entered};
 ghost use Rattle.map_rules.specs.Memory.{sameValue, knownValue, width, rowAt, rows, roomOf, insertOutcome, Gives};
-ghost use Rattle.map_rules.specs.Pieces.{leftCount, rightCount, startOf, endOf};
+ghost use Rattle.map_rules.specs.Pieces.{leftCount, rightCount, joinedStart, joinedEnd};
 ghost use Rattle.map_time.specs.Interval.{rowOf};
 ghost use Rattle.map_time.specs.Insert.{insertedOf};
 
@@ -48,8 +48,8 @@ fn right_count(n: Interval, z: Interval) -> usize
 }
 
 // Where n starts once it is joined to x.
-fn start_of(n: Interval, x: Interval) -> u64
-    ensures { λ r. ⌜ r ≡ startOf (rowOf n) (rowOf x) ⌝ }
+fn joined_start(n: Interval, x: Interval) -> u64
+    ensures { λ r. ⌜ r ≡ joinedStart (rowOf n) (rowOf x) ⌝ }
 {
     if x.start < n.start {
         if crate::interval::same_value(x, n) {
@@ -63,8 +63,8 @@ fn start_of(n: Interval, x: Interval) -> u64
 }
 
 // Where n ends once it is joined to z.
-fn end_of(n: Interval, z: Interval) -> u64
-    ensures { λ r. ⌜ r ≡ endOf (rowOf n) (rowOf z) ⌝ }
+fn joined_end(n: Interval, z: Interval) -> u64
+    ensures { λ r. ⌜ r ≡ joinedEnd (rowOf n) (rowOf z) ⌝ }
 {
     if n.end < z.end {
         if crate::interval::same_value(n, z) {
@@ -126,8 +126,8 @@ pub fn place(table: &mut [u8], used: usize, n: Interval) -> Inserted
         let c = Interval {
             instrument: n.instrument,
             symbol: n.symbol,
-            start: start_of(n, x),
-            end: end_of(n, z),
+            start: joined_start(n, x),
+            end: joined_end(n, z),
         };
         let r = Interval {
             instrument: n.instrument,

@@ -22,9 +22,9 @@ unfolding stretch
 rest v i e = stretch v i (e - i)
 
 -- laid one after the other from the place k on
-unfoldable pub lay : List ℕ → ℕ → List Interval → List ℕ
-lay v k [] = v
-lay v k (x ∷ xs) = lay (putAt v k x) (k + 1) xs
+unfoldable pub layIntervals : List ℕ → ℕ → List Interval → List ℕ
+layIntervals v k [] = v
+layIntervals v k (x ∷ xs) = layIntervals (putAt v k x) (k + 1) xs
 
 -- ---- laws
 
@@ -51,24 +51,24 @@ rest-length v i e = stretch-length v i (e - i)
 
 -- one turn of a copy: x is the i-th of a, and w is v with it
 pub lay-turn : (a : List ℕ) (i e : ℕ) (v w : List ℕ) (k : ℕ) (x : Interval) → i < e → x ≡ intervalAt a i → w ≡ putAt v k x
-    → lay w (k + 1) (rest a (i + 1) e) ≡ lay v k (rest a i e)
-unfolding lay
+    → layIntervals w (k + 1) (rest a (i + 1) e) ≡ layIntervals v k (rest a i e)
+unfolding layIntervals
 lay-turn a i e v w k x h p q =
-    ap (λ (u : List ℕ). lay u (k + 1) (rest a (i + 1) e)) (q ∙ ap (putAt v k) p) ∙ ap (lay v k) (sym (rest-cons a i e h))
+    ap (λ (u : List ℕ). layIntervals u (k + 1) (rest a (i + 1) e)) (q ∙ ap (putAt v k) p) ∙ ap (layIntervals v k) (sym (rest-cons a i e h))
 
-pub lay-end : (a : List ℕ) (i e : ℕ) (v : List ℕ) (k : ℕ) → e ≤ i → lay v k (rest a i e) ≡ v
-unfolding lay
-lay-end a i e v k h = ap (lay v k) (rest-nil a i e h)
+pub lay-end : (a : List ℕ) (i e : ℕ) (v : List ℕ) (k : ℕ) → e ≤ i → layIntervals v k (rest a i e) ≡ v
+unfolding layIntervals
+lay-end a i e v k h = ap (layIntervals v k) (rest-nil a i e h)
 
 pub put-length : (v w : List ℕ) (k : ℕ) (x : Interval) → w ≡ putAt v k x → length w ≡ length v
 put-length v w k x e = ap length e ∙ length-put v k x
 
-pub lay-length : (xs : List Interval) (v : List ℕ) (k : ℕ) → length (lay v k xs) ≡ length v
-unfolding lay
+pub lay-length : (xs : List Interval) (v : List ℕ) (k : ℕ) → length (layIntervals v k xs) ≡ length v
+unfolding layIntervals
 lay-length [] v k = refl
 lay-length (x ∷ xs) v k = lay-length xs (putAt v k x) (k + 1) ∙ length-put v k x
 
-pub laid-length : (v w : List ℕ) (k : ℕ) (xs : List Interval) → w ≡ lay v k xs → length w ≡ length v
+pub laid-length : (v w : List ℕ) (k : ℕ) (xs : List Interval) → w ≡ layIntervals v k xs → length w ≡ length v
 laid-length v w k xs e = ap length e ∙ lay-length xs v k
 
 -- ---- what is laid, as words: the intervals' words in place of as many, and the rest as it was
@@ -85,15 +85,15 @@ put-words p r a b c k x h =
     ∙ set-at (p ++ x .start ∷ x .end ∷ []) c r (x .symbol) (3 * k + 2) (simp length-append (omega arith))
     ∙ append-assoc p (x .start ∷ x .end ∷ []) (x .symbol ∷ r)
 
-pub lay-words : (xs : List Interval) (p w r : List ℕ) (k : ℕ) → length p ≡ 3 * k → length w ≡ 3 * length xs → lay (p ++ (w ++ r)) k xs ≡ p ++ (wordsOf xs ++ r)
-unfolding lay wordsOf
+pub lay-words : (xs : List Interval) (p w r : List ℕ) (k : ℕ) → length p ≡ 3 * k → length w ≡ 3 * length xs → layIntervals (p ++ (w ++ r)) k xs ≡ p ++ (wordsOf xs ++ r)
+unfolding layIntervals wordsOf
 lay-words [] p [] r k h n = refl
 lay-words [] p (a ∷ w) r k h n = absurd (omega arith)
 lay-words (x ∷ xs) p [] r k h n = absurd (omega arith)
 lay-words (x ∷ xs) p (a ∷ []) r k h n = absurd (omega arith)
 lay-words (x ∷ xs) p (a ∷ b ∷ []) r k h n = absurd (omega arith)
 lay-words (x ∷ xs) p (a ∷ b ∷ c ∷ w) r k h n =
-    ap (λ (l : List ℕ). lay l (k + 1) xs)
+    ap (λ (l : List ℕ). layIntervals l (k + 1) xs)
     (put-words p (w ++ r) a b c k x h ∙ sym (append-assoc p (x .start ∷ x .end ∷ x .symbol ∷ []) (w ++ r)))
     ∙ lay-words xs (p ++ x .start ∷ x .end ∷ x .symbol ∷ []) w r (k + 1) (simp length-append (omega arith)) (omega arith)
     ∙ append-assoc p (x .start ∷ x .end ∷ x .symbol ∷ []) (wordsOf xs ++ r)

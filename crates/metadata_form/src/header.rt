@@ -181,7 +181,7 @@ fn same_schema(a: u16, b: u16) -> u16
 }
 
 // The header of a merge: start the lesser, end the greater, no limit, and the outcome's counts.
-pub fn merged(h: Header, g: Header, c: Counts) -> Header
+pub fn merged_header(h: Header, g: Header, c: Counts) -> Header
     ensures { λ r. ⌜ r ≡ mergedHeader h g c ⌝ }
 {
     let schema = same_schema(h.schema, g.schema);

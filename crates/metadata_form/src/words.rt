@@ -5,7 +5,7 @@ ghost use mathlib.Core.Path.{_≡_};
 ghost use Prim.Native.Nat.{_+_, _-_, _*_, _<_, _≤_};
 ghost use lib.ListN.{length};
 ghost use Rattle.metadata_rules.specs.Words.{intervalAt, nameAt, countAt};
-ghost use Rattle.metadata_form.specs.Words.{putAt, putMapping, lay, rest};
+ghost use Rattle.metadata_form.specs.Words.{putAt, putMapping, layIntervals, rest};
 
 // The same number, as a place.
 pub fn wide(x: u32) -> usize
@@ -41,7 +41,7 @@ pub fn put_interval(v: &mut [u32], i: usize, x: Interval)
 // The intervals of `a` from one place up to another, laid in `out` from the place `at` on.
 pub fn copy_intervals(a: &[u32], from: usize, to: usize, out: &mut [u32], at: usize)
     requires { ⌜ (from ≤ to) × (3 * to ≤ length (now a)) × (3 * (at + (to - from)) ≤ length (now out)) ⌝ }
-    ensures { λ _. ⌜ now (out .exit) ≡ lay (now (out .entry)) at (rest (now (a .entry)) from to) ⌝ }
+    ensures { λ _. ⌜ now (out .exit) ≡ layIntervals (now (out .entry)) at (rest (now (a .entry)) from to) ⌝ }
 {
     let mut i = from;
     let mut k = at;

@@ -9,7 +9,7 @@ use lib.ListN.{length, getD, replicate, length-replicate, getD-replicate, length
 use lib.Dec.{T, ltb, leb}
 use borrow.Author.Tests.{ltb-true}
 use Rattle.metadata_rules.specs.declared.Interval.{Interval}
-use Rattle.metadata_rules.specs.Metadata.{Mapping, Merged, clash, merged, enter, enterAll, byName, every, everyInterval, datesKnown, mappingsKnown, countIntervals}
+use Rattle.metadata_rules.specs.Metadata.{Mapping, Merged, conflicting, merged, enter, enterAll, byName, every, everyInterval, datesKnown, mappingsKnown, countIntervals}
 use Rattle.metadata_rules.specs.Metadata.{forwards as forwardsOf}
 use Rattle.metadata_rules.specs.Cases.{eqb-case}
 use Rattle.metadata_rules.specs.Words.{nameAt, countAt, mappingsFrom, before, mappingWords, intervalWords, namesFrom, stretch, read-back, intervals-test, names-test, mapping-length, interval-length}
@@ -22,7 +22,7 @@ use Rattle.metadata_lists.specs.NamesLaying.{AllReady}
 use Rattle.metadata_lists.specs.NamesWhole.{HeadOk, collect-by-name, sums-bound}
 use Rattle.metadata_lists.specs.NamesWords.{Stands, stands}
 use Rattle.metadata_lists.specs.declared.names.Names.{Names}
-use Rattle.metadata_lists.specs.declared.names.Names.the-variants.{Clash, Done}
+use Rattle.metadata_lists.specs.declared.names.Names.the-variants.{Conflicting, Done}
 use Rattle.metadata_gather.specs.Sides.{Sound, Offs, count-all, lay-append, lost-count, within-of, placed-flat}
 use Rattle.metadata_gather.specs.Judge.{knownDate, dated, below, known, forward, namesTo, rest-all, names-all}
 use Rattle.metadata_gather.specs.declared.plan.Planned.{Planned}
@@ -53,7 +53,7 @@ endPlan (Fault n) om out = fault n
 endPlan (Laid q k) om out = shown (placed om q out k)
 
 unfoldable pub shownMerged : List ℕ → List ℕ → Merged → Shown
-shownMerged om out clash = fault 7
+shownMerged om out conflicting = fault 7
 shownMerged om out (merged ms) = shown (layAll om 0 out 0 ms)
 
 unfoldable pub planOn : ℕ → List ℕ → List ℕ → List Mapping → Shown
@@ -299,7 +299,7 @@ not-laid [] om q out k e = let z : _≡_ {A = ℕ} 0 1 = cc in omega arith
 not-laid (m ∷ ms) om q out k e = not-laid ms _ _ _ _ e
 
 unfoldable pub shownNames : Names → List ℕ → List ℕ → Shown
-shownNames Clash om out = fault 7
+shownNames Conflicting om out = fault 7
 shownNames (Done q k) om out = shown (placed om q out k)
 
 at-zero : (om out : List ℕ) (ms : List Mapping) → planOn 0 om out ms ≡ shownMerged om out (byName ms)
@@ -308,9 +308,9 @@ at-zero om out ms = refl
 
 shown-end : (r : Names) (om om' out out' : List ℕ) (g : Merged) → endNames r om' out' ≡ finishNames om 0 out 0 g → shownNames r om' out' ≡ shownMerged om out g
 unfolding endNames finishNames shownNames shownMerged
-shown-end Clash om om' out out' clash e = refl
-shown-end Clash om om' out out' (merged ms) e = absurd (not-laid ms om 0 out 0 e)
-shown-end (Done q k) om om' out out' clash e = let z : _≡_ {A = ℕ} 0 1 = cc in absurd (omega arith)
+shown-end Conflicting om om' out out' conflicting e = refl
+shown-end Conflicting om om' out out' (merged ms) e = absurd (not-laid ms om 0 out 0 e)
+shown-end (Done q k) om om' out out' conflicting e = let z : _≡_ {A = ℕ} 0 1 = cc in absurd (omega arith)
 shown-end (Done q k) om om' out out' (merged ms) e = ap shown e
 
 pub full : (n k : ℕ) (a : List ℕ) → a ≡ replicate k n → (t : ℕ) → t < length a → getD a t 0 ≡ n

@@ -15,7 +15,7 @@ use Rattle.metadata_rules.specs.declared.Interval.{Interval}
 use Rattle.metadata_rules.specs.Cases.{eqb-case, cond-eq, cond-ne}
 use Rattle.metadata_rules.specs.Metadata.{Mapping, mapping, enter, enterAll, countIntervals}
 use Rattle.metadata_rules.specs.Words.{nameAt, countAt, stretch, mappingsFrom, before}
-use Rattle.metadata_form.specs.Words.{putMapping, lay}
+use Rattle.metadata_form.specs.Words.{putMapping, layIntervals}
 use Rattle.metadata_lists.specs.Flat.{listAt, placedFrom, placedTo}
 use Rattle.metadata_rules.specs.WordsLaws.{before-next, before-up}
 use Rattle.metadata_lists.specs.Link.{flat-same}
@@ -95,7 +95,7 @@ module _ (m v off ps : List ℕ) (n : ℕ) where
           picked-count i h ∙ ap (λ (u : ℕ). countAt m u + countIntervals (pickedTo m v off ps (i + 1) n)) (sym y) in
           omega arith
 
-      pub following-turn : (gm' gv' : List ℕ) (e' : ℕ) → gm' ≡ putMapping gm (q + i) (nameAt m j) (countAt m j) → gv' ≡ lay gv e (listAt m v off j) → e' ≡ e + countAt m j
+      pub following-turn : (gm' gv' : List ℕ) (e' : ℕ) → gm' ≡ putMapping gm (q + i) (nameAt m j) (countAt m j) → gv' ≡ layIntervals gv e (listAt m v off j) → e' ≡ e + countAt m j
           → length gm' ≡ length gm → length gv' ≡ length gv → Following m v off ps n gm₀ gm' q gv₀ gv' k e' (i + 1)
       unfolding layAll
       following-turn gm' gv' e' a b c lm lv =
@@ -115,7 +115,7 @@ module _ (m v off ps : List ℕ) (n : ℕ) where
                 ap (λ (u : ℕ). layAll gm' u gv' e' (pickedTo m v off ps (i + 1) n)) z
                 ∙ ap (λ (u : ℕ). layAll gm' (q + i + 1) gv' u (pickedTo m v off ps (i + 1) n)) (c ∙ ap (λ (u : ℕ). e + u) (sym l))
                 ∙ ap (λ (u : List ℕ). layAll gm' (q + i + 1) u (e + length (listAt m v off j)) (pickedTo m v off ps (i + 1) n)) b
-                ∙ ap (λ (u : List ℕ). layAll u (q + i + 1) (lay gv e (listAt m v off j)) (e + length (listAt m v off j)) (pickedTo m v off ps (i + 1) n)) (a ∙ ap (putMapping gm (q + i) (nameAt m j)) (sym l))
+                ∙ ap (λ (u : List ℕ). layAll u (q + i + 1) (layIntervals gv e (listAt m v off j)) (e + length (listAt m v off j)) (pickedTo m v off ps (i + 1) n)) (a ∙ ap (putMapping gm (q + i) (nameAt m j)) (sym l))
                 ∙ ap (layAll gm (q + i) gv e) (sym p)
                 ∙ g .on;
           }

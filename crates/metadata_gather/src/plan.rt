@@ -143,7 +143,7 @@ pub fn plan(
     let mut temp = [0u32; BOTH_INTERVAL_WORDS];
     let r = merge_names(&gm, q, &gv, &mut temp, om, out);
     match r {
-        Names::Clash => Planned::Fault(CONFLICT),
+        Names::Conflicting => Planned::Fault(CONFLICT),
         Names::Done(a, b) => Planned::Laid(a, b),
     }
 }

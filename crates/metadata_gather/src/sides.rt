@@ -13,7 +13,7 @@ ghost use lib.ListN.{length, getD};
 ghost use Rattle.metadata_rules.specs.Metadata.{enterAll};
 ghost use Rattle.metadata_rules.specs.Words.{nameAt, countAt, mappingsFrom, before};
 ghost use Rattle.metadata_form.specs.Words.{putMapping};
-ghost use Rattle.metadata_form.specs.Words.{lay as layFrom};
+ghost use Rattle.metadata_form.specs.Words.{layIntervals as layFrom};
 ghost use Rattle.metadata_lists.specs.Flat.{listAt};
 ghost use Rattle.metadata_lists.specs.Names.{placed, layAll};
 ghost use Rattle.metadata_gather.specs.Sides.{Within, Layable, pickedTo, Sound};

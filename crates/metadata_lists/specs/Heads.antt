@@ -14,28 +14,28 @@ use Rattle.metadata_rules.specs.Walk.{conflict, laid, ordering, joined, out, ag
 use Rattle.metadata_rules.specs.Walk.{Walked as Said}
 use Rattle.metadata_rules.specs.Words.{intervalAt}
 use Rattle.metadata_rules.specs.Cases.{eqb-case}
-use Rattle.metadata_form.specs.Words.{putAt, rest, lay, length-put, rest-cons, rest-nil, rest-length, lay-length}
+use Rattle.metadata_form.specs.Words.{putAt, rest, layIntervals, length-put, rest-cons, rest-nil, rest-length, lay-length}
 use Rattle.metadata_lists.specs.declared.heads.Step.{Step}
-use Rattle.metadata_lists.specs.declared.heads.Step.the-variants.{Clash, Out}
+use Rattle.metadata_lists.specs.declared.heads.Step.the-variants.{Conflicting, Out}
 use Rattle.metadata_lists.specs.declared.heads.Walked.{Walked}
 use Rattle.metadata_lists.specs.declared.heads.Walked.the-variants.{Conflict, Laid}
 
 -- what a walk leaves: a conflict, or the list and the place behind the last
 pub data Ended : Type 0 where
-  clashed : Ended
+  conflicted : Ended
   held : List ℕ → ℕ → Ended
 
 unfoldable pub finish : List ℕ → ℕ → Said → Ended
-unfolding lay
-finish v k conflict = clashed
-finish v k (laid xs) = held (lay v k xs) (k + length xs)
+unfolding layIntervals
+finish v k conflict = conflicted
+finish v k (laid xs) = held (layIntervals v k xs) (k + length xs)
 
-unfoldable pub endOf : Walked → List ℕ → Ended
-endOf Conflict v = clashed
-endOf (Laid n) v = held v n
+unfoldable pub endedOf : Walked → List ℕ → Ended
+endedOf Conflict v = conflicted
+endedOf (Laid n) v = held v n
 
 unfoldable pub agreedStep : Interval → Interval → Interval → Step
-agreedStep a b x = cond (eqb (a .symbol) (b .symbol)) (Out x 1 1) Clash
+agreedStep a b x = cond (eqb (a .symbol) (b .symbol)) (Out x 1 1) Conflicting
 
 unfoldable pub stepOn : Interval → Interval → IntervalOrdering → Step
 unfolding agreedStep
@@ -51,13 +51,13 @@ stepOf a b = stepOn a b (ordering a b)
 -- ---- laws
 
 pub finish-out : (v : List ℕ) (k : ℕ) (x : Interval) (w : Said) → finish v k (out x w) ≡ finish (putAt v k x) (k + 1) w
-unfolding finish out lay
+unfolding finish out layIntervals
 finish-out v k x conflict = refl
-finish-out v k x (laid xs) = ap (held (lay (putAt v k x) (k + 1) xs)) (omega arith)
+finish-out v k x (laid xs) = ap (held (layIntervals (putAt v k x) (k + 1) xs)) (omega arith)
 
 -- a step of the walk, as code takes it
 unfoldable pub onStep : List ℕ → ℕ → ℕ → List ℕ → ℕ → ℕ → List ℕ → ℕ → Step → Ended
-onStep a i ie b j je v k Clash = clashed
+onStep a i ie b j je v k Conflicting = conflicted
 onStep a i ie b j je v k (Out x p q) = finish (putAt v k x) (k + 1) (walk (rest a (i + p) ie) (rest b (j + q) je))
 
 module _ (a : List ℕ) (i ie : ℕ) (b : List ℕ) (j je : ℕ) (v : List ℕ) (k : ℕ) (h : i < ie) (g : j < je) where
@@ -66,7 +66,7 @@ module _ (a : List ℕ) (i ie : ℕ) (b : List ℕ) (j je : ℕ) (v : List ℕ) 
   unfolding agreed agreedStep onStep finish
   agreed-law x = go (eqb (intervalAt a i .symbol) (intervalAt b j .symbol))
     where
-      go : (t : Bool) → finish v k (cond t (out x (walk (rest a (i + 1) ie) (rest b (j + 1) je))) conflict) ≡ onStep a i ie b j je v k (cond t (Out x 1 1) Clash)
+      go : (t : Bool) → finish v k (cond t (out x (walk (rest a (i + 1) ie) (rest b (j + 1) je))) conflict) ≡ onStep a i ie b j je v k (cond t (Out x 1 1) Conflicting)
       go true = finish-out v k x (walk (rest a (i + 1) ie) (rest b (j + 1) je))
       go false = refl
 
@@ -108,7 +108,7 @@ pub record Counts (p q : ℕ) : Type 0 where
   pub some : 1 ≤ p + q
 
 abbrev pub CountsOf : Step → Type 0
-CountsOf Clash = Unit {0}
+CountsOf Conflicting = Unit {0}
 CountsOf (Out x p q) = Counts p q
 
 agreed-counts : (a b x : Interval) → CountsOf (agreedStep a b x)
@@ -128,9 +128,9 @@ step-counts a b x p q e = subst CountsOf (sym e) (counts-on a b (ordering a b))
 
 -- one turn of the walk's loop
 module _ (a : List ℕ) (i ie : ℕ) (b : List ℕ) (j je : ℕ) (v : List ℕ) (k : ℕ) (h : i < ie) (g : j < je) (x y : Interval) (p : x ≡ intervalAt a i) (q : y ≡ intervalAt b j) where
-  pub turn-clash : Clash ≡ stepOf x y → clashed ≡ finish v k (walk (rest a i ie) (rest b j je))
+  pub turn-conflict : Conflicting ≡ stepOf x y → conflicted ≡ finish v k (walk (rest a i ie) (rest b j je))
   unfolding onStep
-  turn-clash e =
+  turn-conflict e =
       sym (step-law a i ie b j je v k h g
       ∙ ap (onStep a i ie b j je v k) (ap (λ (u : Interval). stepOf u (intervalAt b j)) (sym p) ∙ ap (stepOf x) (sym q) ∙ sym e))
 
@@ -143,13 +143,13 @@ module _ (a : List ℕ) (i ie : ℕ) (b : List ℕ) (j je : ℕ) (v : List ℕ) 
       ∙ ap (onStep a i ie b j je v k) (ap (λ (u : Interval). stepOf u (intervalAt b j)) (sym p) ∙ ap (stepOf x) (sym q) ∙ sym e))
 
 -- one list is used up
-pub end-left : (a : List ℕ) (i ie : ℕ) (b : List ℕ) (j je : ℕ) (v w : List ℕ) (k : ℕ) → je ≤ j → w ≡ lay v k (rest a i ie)
+pub end-left : (a : List ℕ) (i ie : ℕ) (b : List ℕ) (j je : ℕ) (v w : List ℕ) (k : ℕ) → je ≤ j → w ≡ layIntervals v k (rest a i ie)
     → held w (k + (ie - i)) ≡ finish v k (walk (rest a i ie) (rest b j je))
 unfolding finish
 end-left a i ie b j je v w k h e =
     rw (rest-nil b j je h, walk-left (rest a i ie), rest-length a i ie) (ap (λ (u : List ℕ). held u (k + (ie - i))) e)
 
-pub end-right : (a : List ℕ) (i ie : ℕ) (b : List ℕ) (j je : ℕ) (v w : List ℕ) (k : ℕ) → ie ≤ i → w ≡ lay v k (rest b j je)
+pub end-right : (a : List ℕ) (i ie : ℕ) (b : List ℕ) (j je : ℕ) (v w : List ℕ) (k : ℕ) → ie ≤ i → w ≡ layIntervals v k (rest b j je)
     → held w (k + (je - j)) ≡ finish v k (walk (rest a i ie) (rest b j je))
 unfolding finish walk
 end-right a i ie b j je v w k h e =

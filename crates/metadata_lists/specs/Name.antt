@@ -9,11 +9,11 @@ use Rattle.metadata_rules.specs.declared.Interval.{Interval}
 use Rattle.metadata_rules.specs.Walk.{Walked, conflict, laid, walk, walkAll}
 use Rattle.metadata_lists.specs.declared.heads.Walked.the-variants.{Conflict, Laid}
 use Rattle.metadata_rules.specs.Words.{stretch}
-use Rattle.metadata_form.specs.Words.{rest, rest-length, lay, laid-length}
-use Rattle.metadata_lists.specs.Heads.{finish, endOf, held, clashed}
+use Rattle.metadata_form.specs.Words.{rest, rest-length, layIntervals, laid-length}
+use Rattle.metadata_lists.specs.Heads.{finish, endedOf, held, conflicted}
 use Rattle.metadata_rules.specs.Words.{nameAt, countAt}
 use Rattle.metadata_lists.specs.Flat.{listAt, listsFrom, First, Linked, sumLen, lists-here, lists-first, lists-end}
-use Rattle.metadata_lists.specs.NameHeld.{Gathered, first-list, more-clash, more-laid, gathered-end}
+use Rattle.metadata_lists.specs.NameHeld.{Gathered, first-list, more-conflict, more-laid, gathered-end}
 
 unfoldable pub outcomeAt : List ℕ → List ℕ → List ℕ → ℕ → ℕ → Walked
 outcomeAt m v off e i = walkAll [] (listsFrom m v off (nameAt m i) i e)
@@ -54,7 +54,7 @@ module _ (m : List ℕ) (e : ℕ) (v off nx : List ℕ) (i lt lo k : ℕ) (r : R
 
   -- nothing is laid yet
   pub start-going : (v₀ : List ℕ) → lo ≡ length v₀ → Going m v off e i v₀ v₀ lt k i 0
-  unfolding outcomeAt lay
+  unfolding outcomeAt layIntervals
   start-going v₀ z =
       let a = r .room in
       let b = r .space in
@@ -69,7 +69,7 @@ module _ (m : List ℕ) (e : ℕ) (v off nx : List ℕ) (i lt lo k : ℕ) (r : R
       }
 
   module _ (out₀ out : List ℕ) (j n : ℕ) (g : Going m v off e i out₀ out lt k j n) (h : j < e)
-      (t u : List ℕ) (z : lt ≡ length t) (copied : u ≡ lay t 0 (rest out k (k + n))) (p d : ℕ) (hp : p ≡ getD off j 0) (hd : d ≡ countAt m j) where
+      (t u : List ℕ) (z : lt ≡ length t) (copied : u ≡ layIntervals t 0 (rest out k (k + n))) (p d : ℕ) (hp : p ≡ getD off j 0) (hd : d ≡ countAt m j) where
     abbrev ls : List (List Interval)
     ls = listsFrom m v off (nameAt m i) (j + 1) e
 
@@ -92,13 +92,13 @@ module _ (m : List ℕ) (e : ℕ) (v off nx : List ℕ) (i lt lo k : ℕ) (r : R
     pub turn-needs : (3 * (k + n + countAt m j) ≤ length out₀) × (3 * (n + countAt m j) ≤ length t)
     turn-needs = let a = g .room in let b = g .space in let c = total in (omega arith, omega arith)
 
-    pub turn-clashed : (x : List ℕ) → endOf Conflict x ≡ finish out k (walk (rest u 0 n) (rest v p (p + d))) → clashed ≡ finish out₀ k (outcomeAt m v off e i)
+    pub turn-conflict : (x : List ℕ) → endedOf Conflict x ≡ finish out k (walk (rest u 0 n) (rest v p (p + d))) → conflicted ≡ finish out₀ k (outcomeAt m v off e i)
     unfolding finish
-    turn-clashed x w =
-        sym (ap (finish out₀ k) (more-clash (listAt m v off j) ls (outcomeAt m v off e i) out₀ out k n before t u copied fits small x
+    turn-conflict x w =
+        sym (ap (finish out₀ k) (more-conflict (listAt m v off j) ls (outcomeAt m v off e i) out₀ out k n before t u copied fits small x
         (w ∙ ap (λ (l : List Interval). finish out k (walk (rest u 0 n) l)) (rest-list m v off j p d hp hd))))
 
-    pub turn-going : (x : List ℕ) (a s : ℕ) → endOf (Laid a) x ≡ finish out k (walk (rest u 0 n) (rest v p (p + d))) → length x ≡ length out → s ≡ getD nx j 0
+    pub turn-going : (x : List ℕ) (a s : ℕ) → endedOf (Laid a) x ≡ finish out k (walk (rest u 0 n) (rest v p (p + d))) → length x ≡ length out → s ≡ getD nx j 0
         → Going m v off e i out₀ x lt k s (a - k) × (k ≤ a)
     turn-going x a s w y hs =
         let o = more-laid (listAt m v off j) ls (outcomeAt m v off e i) out₀ out k n before t u copied fits small x a

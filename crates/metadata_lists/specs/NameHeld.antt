@@ -15,8 +15,8 @@ use Rattle.metadata_rules.specs.Cases.{eqb-case}
 use Rattle.metadata_lists.specs.declared.heads.Walked.{Walked as Answer}
 use Rattle.metadata_lists.specs.declared.heads.Walked.the-variants.{Conflict, Laid}
 use Rattle.metadata_rules.specs.Words.{intervalAt, stretch}
-use Rattle.metadata_form.specs.Words.{putAt, rest, lay, length-put, lay-length}
-use Rattle.metadata_lists.specs.Heads.{Ended, clashed, held, finish, endOf}
+use Rattle.metadata_form.specs.Words.{putAt, rest, layIntervals, length-put, lay-length}
+use Rattle.metadata_lists.specs.Heads.{Ended, conflicted, held, finish, endedOf}
 use Rattle.metadata_lists.specs.Flat.{sumLen}
 
 -- ---- a walk's length: at least the longer list's, at most both together
@@ -94,28 +94,28 @@ module _ (v : List ℕ) (k : ℕ) (x : Interval) where
   unfolding putAt two
   put-symbol h = getD-set-same two (3 * k + 2) (x .symbol) 0 (simp length-set (omega arith))
 
-lay-below : (xs : List Interval) (v : List ℕ) (k t : ℕ) → t < 3 * k → getD (lay v k xs) t 0 ≡ getD v t 0
-unfolding lay
+lay-below : (xs : List Interval) (v : List ℕ) (k t : ℕ) → t < 3 * k → getD (layIntervals v k xs) t 0 ≡ getD v t 0
+unfolding layIntervals
 lay-below [] v k t h = refl
 lay-below (x ∷ xs) v k t h =
     lay-below xs (putAt v k x) (k + 1) t (omega arith) ∙ put-other v k x t (λ e. omega arith) (λ e. omega arith) (λ e. omega arith)
 
-lay-head : (x : Interval) (xs : List Interval) (v : List ℕ) (k : ℕ) → 3 * k + 3 ≤ length v → intervalAt (lay (putAt v k x) (k + 1) xs) k ≡ x
+lay-head : (x : Interval) (xs : List Interval) (v : List ℕ) (k : ℕ) → 3 * k + 3 ≤ length v → intervalAt (layIntervals (putAt v k x) (k + 1) xs) k ≡ x
 unfolding intervalAt
 lay-head x xs v k h =
-    let a : getD (lay (putAt v k x) (k + 1) xs) (3 * k) 0 ≡ x .start = lay-below xs (putAt v k x) (k + 1) (3 * k) (omega arith) ∙ put-start v k x h in
-    let b : getD (lay (putAt v k x) (k + 1) xs) (3 * k + 1) 0 ≡ x .end = lay-below xs (putAt v k x) (k + 1) (3 * k + 1) (omega arith) ∙ put-end v k x h in
-    let c : getD (lay (putAt v k x) (k + 1) xs) (3 * k + 2) 0 ≡ x .symbol = lay-below xs (putAt v k x) (k + 1) (3 * k + 2) (omega arith) ∙ put-symbol v k x h in
+    let a : getD (layIntervals (putAt v k x) (k + 1) xs) (3 * k) 0 ≡ x .start = lay-below xs (putAt v k x) (k + 1) (3 * k) (omega arith) ∙ put-start v k x h in
+    let b : getD (layIntervals (putAt v k x) (k + 1) xs) (3 * k + 1) 0 ≡ x .end = lay-below xs (putAt v k x) (k + 1) (3 * k + 1) (omega arith) ∙ put-end v k x h in
+    let c : getD (layIntervals (putAt v k x) (k + 1) xs) (3 * k + 2) 0 ≡ x .symbol = lay-below xs (putAt v k x) (k + 1) (3 * k + 2) (omega arith) ∙ put-symbol v k x h in
     rw (a, b, c) refl
 
-stretch-lay : (xs : List Interval) (v : List ℕ) (k : ℕ) → 3 * (k + length xs) ≤ length v → stretch (lay v k xs) k (length xs) ≡ xs
-unfolding stretch lay
+stretch-lay : (xs : List Interval) (v : List ℕ) (k : ℕ) → 3 * (k + length xs) ≤ length v → stretch (layIntervals v k xs) k (length xs) ≡ xs
+unfolding stretch layIntervals
 stretch-lay [] v k h = refl
 stretch-lay (x ∷ xs) v k h =
     let l : length (putAt v k x) ≡ length v = length-put v k x in
     rw (lay-head x xs v k (omega arith)) (ap (λ (r : List Interval). x ∷ r) (stretch-lay xs (putAt v k x) (k + 1) (omega arith)))
 
-pub rest-laid : (v w : List ℕ) (k n : ℕ) (xs : List Interval) → w ≡ lay v k xs → n ≡ length xs → 3 * (k + n) ≤ length v → rest w k (k + n) ≡ xs
+pub rest-laid : (v w : List ℕ) (k n : ℕ) (xs : List Interval) → w ≡ layIntervals v k xs → n ≡ length xs → 3 * (k + n) ≤ length v → rest w k (k + n) ≡ xs
 unfolding rest
 rest-laid v w k n xs e d h =
     let z : (k + n) - k ≡ length xs = omega arith in
@@ -153,19 +153,19 @@ put-put v k x y = go (3 * k) (3 * k + 1) (3 * k + 2) (λ e. omega arith) (λ e. 
         (set-comm (set (set v p d) q b) r q c e o ∙ ap (λ (w : List ℕ). set w r c) (set-set (set v p d) q b e))
         ∙ set-set (set (set v p d) q e) r c f
 
-lay-put : (xs : List Interval) (v : List ℕ) (k j : ℕ) (y : Interval) → j < k → putAt (lay v k xs) j y ≡ lay (putAt v j y) k xs
-unfolding lay
+lay-put : (xs : List Interval) (v : List ℕ) (k j : ℕ) (y : Interval) → j < k → putAt (layIntervals v k xs) j y ≡ layIntervals (putAt v j y) k xs
+unfolding layIntervals
 lay-put [] v k j y h = refl
 lay-put (x ∷ xs) v k j y h =
-    lay-put xs (putAt v k x) (k + 1) j y (omega arith) ∙ ap (λ (w : List ℕ). lay w (k + 1) xs) (put-comm v k j x y h)
+    lay-put xs (putAt v k x) (k + 1) j y (omega arith) ∙ ap (λ (w : List ℕ). layIntervals w (k + 1) xs) (put-comm v k j x y h)
 
-pub lay-over : (xs ys : List Interval) (v : List ℕ) (k : ℕ) → length xs ≤ length ys → lay (lay v k xs) k ys ≡ lay v k ys
-unfolding lay
+pub lay-over : (xs ys : List Interval) (v : List ℕ) (k : ℕ) → length xs ≤ length ys → layIntervals (layIntervals v k xs) k ys ≡ layIntervals v k ys
+unfolding layIntervals
 lay-over [] ys v k h = refl
 lay-over (x ∷ xs) [] v k h = absurd (omega arith)
 lay-over (x ∷ xs) (y ∷ ys) v k h =
-    ap (λ (w : List ℕ). lay w (k + 1) ys)
-    (lay-put xs (putAt v k x) (k + 1) k y (omega arith) ∙ ap (λ (w : List ℕ). lay w (k + 1) xs) (put-put v k x y))
+    ap (λ (w : List ℕ). layIntervals w (k + 1) ys)
+    (lay-put xs (putAt v k x) (k + 1) k y (omega arith) ∙ ap (λ (w : List ℕ). layIntervals w (k + 1) xs) (put-put v k x y))
     ∙ lay-over xs ys (putAt v k y) (k + 1) (omega arith)
 
 -- ---- gathering
@@ -173,46 +173,46 @@ lay-over (x ∷ xs) (y ∷ ys) v k h =
 -- `out` holds from the place k on n intervals, and walked on with the lists ls they give the goal
 pub record Gathered (ls : List (List Interval)) (goal : Walked) (v w : List ℕ) (k n : ℕ) : Type 0 where
   pub cur : List Interval
-  pub there : w ≡ lay v k cur
+  pub there : w ≡ layIntervals v k cur
   pub size : n ≡ length cur
   pub on : walkAll cur ls ≡ goal
 
 pub held-finish : (w : List ℕ) (e : ℕ) (v : List ℕ) (k : ℕ) (r : Walked) → held w e ≡ finish v k r
-    → (xs : List Interval) × (r ≡ laid xs) × (w ≡ lay v k xs) × (e ≡ k + length xs)
+    → (xs : List Interval) × (r ≡ laid xs) × (w ≡ layIntervals v k xs) × (e ≡ k + length xs)
 unfolding finish
 held-finish w e v k conflict d = let z : _≡_ {A = ℕ} 0 1 = cc in absurd (omega arith)
 held-finish w e v k (laid xs) d = (xs, refl, (cc), (cc))
 
-pub clash-finish : (v : List ℕ) (k : ℕ) (r : Walked) → clashed ≡ finish v k r → r ≡ conflict
+pub conflict-finish : (v : List ℕ) (k : ℕ) (r : Walked) → conflicted ≡ finish v k r → r ≡ conflict
 unfolding finish
-clash-finish v k conflict d = refl
-clash-finish v k (laid xs) d = let z : _≡_ {A = ℕ} 0 1 = cc in absurd (omega arith)
+conflict-finish v k conflict d = refl
+conflict-finish v k (laid xs) d = let z : _≡_ {A = ℕ} 0 1 = cc in absurd (omega arith)
 
-pub first-list : (l : List Interval) (ls : List (List Interval)) (v w : List ℕ) (k n : ℕ) → w ≡ lay v k l → n ≡ length l → Gathered ls (walkAll l ls) v w k n
+pub first-list : (l : List Interval) (ls : List (List Interval)) (v w : List ℕ) (k n : ℕ) → w ≡ layIntervals v k l → n ≡ length l → Gathered ls (walkAll l ls) v w k n
 first-list l ls v w k n e d = record { cur = l; there = e; size = d; on = refl }
 
 module _ (l : List Interval) (ls : List (List Interval)) (goal : Walked) (v w : List ℕ) (k n : ℕ) (g : Gathered (l ∷ ls) goal v w k n)
-    (t u : List ℕ) (copied : u ≡ lay t 0 (rest w k (k + n))) (room : 3 * (k + n) ≤ length v) (space : 3 * n ≤ length t) where
+    (t u : List ℕ) (copied : u ≡ layIntervals t 0 (rest w k (k + n))) (room : 3 * (k + n) ≤ length v) (space : 3 * n ≤ length t) where
   seen : rest w k (k + n) ≡ g .cur
   seen = rest-laid v w k n (g .cur) (g .there) (g .size) room
 
   back : rest u 0 n ≡ g .cur
   back =
       let z : 0 + n ≡ n = omega arith in
-      ap (rest u 0) (sym z) ∙ rest-laid t u 0 n (g .cur) (copied ∙ ap (lay t 0) seen) (g .size) (omega arith)
+      ap (rest u 0) (sym z) ∙ rest-laid t u 0 n (g .cur) (copied ∙ ap (layIntervals t 0) seen) (g .size) (omega arith)
 
-  pub more-clash : (x : List ℕ) → endOf Conflict x ≡ finish w k (walk (rest u 0 n) l) → goal ≡ conflict
-  unfolding endOf walkAll thenAll
-  more-clash x d =
-      let e : walk (g .cur) l ≡ conflict = ap (λ (r : List Interval). walk r l) (sym back) ∙ clash-finish w k (walk (rest u 0 n) l) d in
+  pub more-conflict : (x : List ℕ) → endedOf Conflict x ≡ finish w k (walk (rest u 0 n) l) → goal ≡ conflict
+  unfolding endedOf walkAll thenAll
+  more-conflict x d =
+      let e : walk (g .cur) l ≡ conflict = ap (λ (r : List Interval). walk r l) (sym back) ∙ conflict-finish w k (walk (rest u 0 n) l) d in
       sym (g .on) ∙ ap (thenAll (λ r. walkAll r ls)) e
 
-  pub more-laid : (x : List ℕ) (e : ℕ) → endOf (Laid e) x ≡ finish w k (walk (rest u 0 n) l)
+  pub more-laid : (x : List ℕ) (e : ℕ) → endedOf (Laid e) x ≡ finish w k (walk (rest u 0 n) l)
       → Gathered ls goal v x k (e - k) × (k ≤ e) × (e ≤ k + n + length l)
-  unfolding endOf walkAll thenAll
+  unfolding endedOf walkAll thenAll
   more-laid x e d = go (held-finish x e w k (walk (rest u 0 n) l) d)
     where
-      go : (xs : List Interval) × (walk (rest u 0 n) l ≡ laid xs) × (x ≡ lay w k xs) × (e ≡ k + length xs)
+      go : (xs : List Interval) × (walk (rest u 0 n) l ≡ laid xs) × (x ≡ layIntervals w k xs) × (e ≡ k + length xs)
           → Gathered ls goal v x k (e - k) × (k ≤ e) × (e ≤ k + n + length l)
       go h =
           let f : walk (g .cur) l ≡ laid (h .0) = ap (λ (r : List Interval). walk r l) (sym back) ∙ h .1 in
@@ -220,7 +220,7 @@ module _ (l : List Interval) (ls : List (List Interval)) (goal : Walked) (v w : 
           let z = g .size in (
             record {
               cur = h .0;
-              there = h .2 ∙ ap (λ (r : List ℕ). lay r k (h .0)) (g .there) ∙ lay-over (g .cur) (h .0) v k (s .0);
+              there = h .2 ∙ ap (λ (r : List ℕ). layIntervals r k (h .0)) (g .there) ∙ lay-over (g .cur) (h .0) v k (s .0);
               size = omega (arith, h .3);
               on = ap (thenAll (λ r. walkAll r ls)) (sym f) ∙ g .on;
             },
@@ -231,4 +231,4 @@ module _ (l : List Interval) (ls : List (List Interval)) (goal : Walked) (v w : 
 pub gathered-end : (goal : Walked) (v w : List ℕ) (k n : ℕ) → Gathered [] goal v w k n → held w (k + n) ≡ finish v k goal
 unfolding finish walkAll
 gathered-end goal v w k n g =
-    ap (λ (r : List ℕ). held r (k + n)) (g .there) ∙ ap (λ (m : ℕ). held (lay v k (g .cur)) (k + m)) (g .size) ∙ ap (finish v k) (g .on)
+    ap (λ (r : List ℕ). held r (k + n)) (g .there) ∙ ap (λ (m : ℕ). held (layIntervals v k (g .cur)) (k + m)) (g .size) ∙ ap (finish v k) (g .on)

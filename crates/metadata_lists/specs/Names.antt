@@ -8,31 +8,31 @@ use lib.ListN.{length, getD, set, length-set}
 use lib.Dec.{eqb}
 use Rattle.metadata_rules.specs.declared.Interval.{Interval}
 use Rattle.metadata_rules.specs.Walk.{Walked, conflict, laid, walk, walkAll, thenAll}
-use Rattle.metadata_rules.specs.Metadata.{Mapping, mapping, Merged, clash, merged, under, inFront}
+use Rattle.metadata_rules.specs.Metadata.{Mapping, mapping, Merged, conflicting, merged, under, inFront}
 use Rattle.metadata_rules.specs.Cases.{cond-eq, cond-ne}
 use Rattle.metadata_lists.specs.declared.heads.Walked.the-variants.{Conflict, Laid}
-use Rattle.metadata_form.specs.Words.{putMapping, lay, lay-length}
-use Rattle.metadata_lists.specs.Heads.{finish, endOf, held, clashed}
+use Rattle.metadata_form.specs.Words.{putMapping, layIntervals, lay-length}
+use Rattle.metadata_lists.specs.Heads.{finish, endedOf, held, conflicted}
 use Rattle.metadata_rules.specs.Words.{nameAt}
 use Rattle.metadata_lists.specs.Flat.{listsFrom, sumLen}
-use Rattle.metadata_lists.specs.NameHeld.{walk-length, held-finish, clash-finish}
+use Rattle.metadata_lists.specs.NameHeld.{walk-length, held-finish, conflict-finish}
 use Rattle.metadata_lists.specs.Name.{outcomeAt, Ready}
 use Rattle.metadata_lists.specs.declared.names.Names.{Names}
-use Rattle.metadata_lists.specs.declared.names.Names.the-variants.{Clash, Done}
+use Rattle.metadata_lists.specs.declared.names.Names.the-variants.{Conflicting, Done}
 
 pub data Final : Type 0 where
   failed : Final
   placed : List ℕ → ℕ → List ℕ → ℕ → Final
 
 unfoldable pub endNames : Names → List ℕ → List ℕ → Final
-endNames Clash om o = failed
+endNames Conflicting om o = failed
 endNames (Done q k) om o = placed om q o k
 
 -- the outcome w of the name n is laid
 unfoldable pub finishOne : List ℕ → ℕ → List ℕ → ℕ → ℕ → Walked → Final
 unfolding putMapping
 finishOne om q o k n conflict = failed
-finishOne om q o k n (laid s) = placed (putMapping om q n (length s)) (q + 1) (lay o k s) (k + length s)
+finishOne om q o k n (laid s) = placed (putMapping om q n (length s)) (q + 1) (layIntervals o k s) (k + length s)
 
 -- the place i: its name's outcome where it is the name's first
 unfoldable pub stepAt : List ℕ → List ℕ → List ℕ → List ℕ → ℕ → ℕ → List ℕ → ℕ → List ℕ → ℕ → Final
@@ -63,11 +63,11 @@ sumsTo m v off head e i = sumsFrom m v off head e i (e - i)
 unfoldable pub layAll : List ℕ → ℕ → List ℕ → ℕ → List Mapping → Final
 unfolding putMapping
 layAll om q o k [] = placed om q o k
-layAll om q o k (m ∷ ms) = layAll (putMapping om q (m .name) (length (m .intervals))) (q + 1) (lay o k (m .intervals)) (k + length (m .intervals)) ms
+layAll om q o k (m ∷ ms) = layAll (putMapping om q (m .name) (length (m .intervals))) (q + 1) (layIntervals o k (m .intervals)) (k + length (m .intervals)) ms
 
 unfoldable pub finishNames : List ℕ → ℕ → List ℕ → ℕ → Merged → Final
 unfolding layAll
-finishNames om q o k clash = failed
+finishNames om q o k conflicting = failed
 finishNames om q o k (merged ms) = layAll om q o k ms
 
 -- after a step: the rest r
@@ -91,7 +91,7 @@ walkAll-length (l ∷ ls) xs zs e = go (walk xs l) refl e (λ u. walkAll-length 
 one-onward : (om : List ℕ) (q : ℕ) (o : List ℕ) (k n : ℕ) (w : Walked) (r : Merged) → onward r (finishOne om q o k n w) ≡ finishNames om q o k (under n w r)
 unfolding onward finishOne finishNames under inFront layAll
 one-onward om q o k n conflict r = refl
-one-onward om q o k n (laid s) clash = refl
+one-onward om q o k n (laid s) conflicting = refl
 one-onward om q o k n (laid s) (merged ms) = refl
 
 pub collect-end : (m v off head : List ℕ) (e i : ℕ) (om : List ℕ) (q : ℕ) (o : List ℕ) (k : ℕ) → e ≤ i
@@ -131,29 +131,29 @@ pub place-skip : (m v off head : List ℕ) (e i : ℕ) (om : List ℕ) (q : ℕ)
 unfolding stepAt
 place-skip m v off head e i om q o k n z d = sym (cond-ne (getD head (nameAt m i) 0) i _ _ (λ x. d (ap (λ (y : ℕ). getD head y 0) z ∙ x)))
 
-pub place-clash : (m v off head : List ℕ) (e i : ℕ) (om : List ℕ) (q : ℕ) (o x : List ℕ) (k n : ℕ) → n ≡ nameAt m i → getD head n 0 ≡ i
-    → endOf Conflict x ≡ finish o k (outcomeAt m v off e i) → failed ≡ stepAt m v off head e i om q o k
-unfolding stepAt finishOne endOf
-place-clash m v off head e i om q o x k n z d w =
-    ap (finishOne om q o k (nameAt m i)) (sym (clash-finish o k (outcomeAt m v off e i) w))
+pub place-conflict : (m v off head : List ℕ) (e i : ℕ) (om : List ℕ) (q : ℕ) (o x : List ℕ) (k n : ℕ) → n ≡ nameAt m i → getD head n 0 ≡ i
+    → endedOf Conflict x ≡ finish o k (outcomeAt m v off e i) → failed ≡ stepAt m v off head e i om q o k
+unfolding stepAt finishOne endedOf
+place-conflict m v off head e i om q o x k n z d w =
+    ap (finishOne om q o k (nameAt m i)) (sym (conflict-finish o k (outcomeAt m v off e i) w))
     ∙ sym (cond-eq (getD head (nameAt m i) 0) i _ _ (ap (λ (y : ℕ). getD head y 0) (sym z) ∙ d))
 
-pub laid-bound : (m v off : List ℕ) (e i : ℕ) (o x : List ℕ) (k t : ℕ) → endOf (Laid t) x ≡ finish o k (outcomeAt m v off e i)
+pub laid-bound : (m v off : List ℕ) (e i : ℕ) (o x : List ℕ) (k t : ℕ) → endedOf (Laid t) x ≡ finish o k (outcomeAt m v off e i)
     → (k ≤ t) × (t ≤ k + sumLen (listsFrom m v off (nameAt m i) i e))
-unfolding endOf outcomeAt
+unfolding endedOf outcomeAt
 laid-bound m v off e i o x k t w =
     let f = held-finish x t o k (walkAll [] (listsFrom m v off (nameAt m i) i e)) w in
     let b = walkAll-length (listsFrom m v off (nameAt m i) i e) [] (f .0) (f .1) in
     (omega (arith, f .3), omega (arith, f .3))
 
 pub place-laid : (m v off head : List ℕ) (e i : ℕ) (om om' : List ℕ) (q : ℕ) (o x : List ℕ) (k n t c : ℕ) → n ≡ nameAt m i → getD head n 0 ≡ i
-    → endOf (Laid t) x ≡ finish o k (outcomeAt m v off e i) → c ≡ t - k → om' ≡ putMapping om q n c → placed om' (q + 1) x t ≡ stepAt m v off head e i om q o k
-unfolding stepAt finishOne endOf
+    → endedOf (Laid t) x ≡ finish o k (outcomeAt m v off e i) → c ≡ t - k → om' ≡ putMapping om q n c → placed om' (q + 1) x t ≡ stepAt m v off head e i om q o k
+unfolding stepAt finishOne endedOf
 place-laid m v off head e i om om' q o x k n t c z d w y u =
     let f = held-finish x t o k (outcomeAt m v off e i) w in
     let l : c ≡ length (f .0) = omega (arith, f .3) in
     ap (λ (a : List ℕ). placed a (q + 1) x t) (u ∙ ap (λ (b : ℕ). putMapping om q b c) z ∙ ap (putMapping om q (nameAt m i)) l)
     ∙ ap (λ (a : List ℕ). placed (putMapping om q (nameAt m i) (length (f .0))) (q + 1) a t) (f .2)
-    ∙ ap (placed (putMapping om q (nameAt m i) (length (f .0))) (q + 1) (lay o k (f .0))) (f .3)
+    ∙ ap (placed (putMapping om q (nameAt m i) (length (f .0))) (q + 1) (layIntervals o k (f .0))) (f .3)
     ∙ ap (finishOne om q o k (nameAt m i)) (sym (f .1))
     ∙ sym (cond-eq (getD head (nameAt m i) 0) i _ _ (ap (λ (b : ℕ). getD head b 0) (sym z) ∙ d))

@@ -12,7 +12,7 @@ use Rattle.metadata_rules.specs.Words.{nameAt, countAt}
 use Rattle.metadata_lists.specs.Flat.{listsFrom, sumLen, Linked}
 use Rattle.metadata_lists.specs.Name.{outcomeAt, Ready}
 use Rattle.metadata_lists.specs.declared.names.Names.{Names}
-use Rattle.metadata_lists.specs.declared.names.Names.the-variants.{Clash, Done}
+use Rattle.metadata_lists.specs.declared.names.Names.the-variants.{Conflicting, Done}
 use Rattle.metadata_lists.specs.Names.{Final, failed, placed, endNames, finishOne, stepAt, collectTo, sumsTo, finishNames, onward, walkAll-length, collect-end, sums-first, sums-skip, step-onward}
 
 pub record AllReady (m : List ℕ) (e : ℕ) (v off nx head : List ℕ) (lt lm lo : ℕ) : Type 0 where
@@ -82,7 +82,7 @@ module _ (m : List ℕ) (e : ℕ) (v off nx head : List ℕ) (lt lm lo : ℕ) (r
           let t = sums-skip m v off head e i h d in
           (omega arith, omega arith)
 
-  pub turn-fails : (om' o' : List ℕ) → endNames Clash om' o' ≡ stepAt m v off head e i om q o k → failed ≡ finishNames om₀ 0 o₀ 0 (collectTo m v off head e 0)
+  pub turn-fails : (om' o' : List ℕ) → endNames Conflicting om' o' ≡ stepAt m v off head e i om q o k → failed ≡ finishNames om₀ 0 o₀ 0 (collectTo m v off head e 0)
   unfolding endNames onward
   turn-fails om' o' w = ap (onward (collectTo m v off head e (i + 1))) w ∙ step-onward m v off head e i h om q o k ∙ g .on
 

@@ -9,7 +9,7 @@ use lib.Seq.{set-at, length-take-le}
 use Rattle.metadata_rules.specs.declared.Interval.{Interval}
 use Rattle.metadata_rules.specs.Metadata.{Mapping, countIntervals}
 use Rattle.metadata_rules.specs.Words.{wordsOf, mappingWords, intervalWords, words-length, interval-length, mapping-length}
-use Rattle.metadata_form.specs.Words.{putMapping, lay, lay-words}
+use Rattle.metadata_form.specs.Words.{putMapping, layIntervals, lay-words}
 use Rattle.metadata_lists.specs.Names.{Final, placed, layAll}
 
 put-words : (p r : List ℕ) (a b q n c : ℕ) → length p ≡ 2 * q → putMapping (p ++ a ∷ b ∷ r) q n c ≡ p ++ n ∷ c ∷ r
@@ -37,8 +37,8 @@ all-words (m ∷ ms) pm (a ∷ b ∷ wm) rm pv wv rv q k h i j l =
     let t = length-take-le (3 * length (m .intervals)) wv (omega arith) in
     let d = lib.ListN.length-drop (3 * length (m .intervals)) wv in
     let w = words-length (m .intervals) in
-    let e : lay (pv ++ (wv ++ rv)) k (m .intervals) ≡ (pv ++ wordsOf (m .intervals)) ++ (drop (3 * length (m .intervals)) wv ++ rv) =
-    ap (λ (x : List ℕ). lay (pv ++ x) k (m .intervals)) s
+    let e : layIntervals (pv ++ (wv ++ rv)) k (m .intervals) ≡ (pv ++ wordsOf (m .intervals)) ++ (drop (3 * length (m .intervals)) wv ++ rv) =
+    ap (λ (x : List ℕ). layIntervals (pv ++ x) k (m .intervals)) s
     ∙ lay-words (m .intervals) pv (take (3 * length (m .intervals)) wv) (drop (3 * length (m .intervals)) wv ++ rv) k j t
     ∙ sym (append-assoc pv (wordsOf (m .intervals)) (drop (3 * length (m .intervals)) wv ++ rv)) in
     let f : putMapping (pm ++ a ∷ b ∷ (wm ++ rm)) q (m .name) (length (m .intervals)) ≡ (pm ++ m .name ∷ length (m .intervals) ∷ []) ++ (wm ++ rm) =

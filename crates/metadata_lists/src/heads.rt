@@ -12,11 +12,11 @@ ghost use Rattle.metadata_rules.specs.Walk.{walk};
 ghost use Rattle.metadata_rules.specs.Walk.{ordering as orderingOf};
 ghost use Rattle.metadata_rules.specs.Walk.{joined as joinedOf};
 ghost use Rattle.metadata_form.specs.Words.{rest};
-ghost use Rattle.metadata_lists.specs.Heads.{finish, stepOf, endOf};
+ghost use Rattle.metadata_lists.specs.Heads.{finish, stepOf, endedOf};
 
 // What two heads give: a conflict, or an interval that goes out and how many of each list are consumed.
 pub enum Step {
-    Clash,
+    Conflicting,
     Out(Interval, usize, usize),
 }
 
@@ -79,7 +79,7 @@ fn turn(a: Interval, b: Interval) -> Step
             if a.symbol == b.symbol {
                 Step::Out(a, 1, 1)
             } else {
-                Step::Clash
+                Step::Conflicting
             }
         }
         IntervalOrdering::Less => Step::Out(a, 1, 0),
@@ -89,7 +89,7 @@ fn turn(a: Interval, b: Interval) -> Step
                 let x = joined(a, b);
                 Step::Out(x, 1, 1)
             } else {
-                Step::Clash
+                Step::Conflicting
             }
         }
     }
@@ -108,7 +108,7 @@ pub fn merge_intervals(
     at: usize,
 ) -> Walked
     requires { ⌜ (afrom ≤ ato) × (3 * ato ≤ length (now a)) × (bfrom ≤ bto) × (3 * bto ≤ length (now b)) × (3 * (at + (ato - afrom) + (bto - bfrom)) ≤ length (now out)) ⌝ }
-    ensures { λ r. ⌜ endOf r (now (out .exit)) ≡ finish (now (out .entry)) at (walk (rest (now (a .entry)) afrom ato) (rest (now (b .entry)) bfrom bto)) ⌝ }
+    ensures { λ r. ⌜ endedOf r (now (out .exit)) ≡ finish (now (out .entry)) at (walk (rest (now (a .entry)) afrom ato) (rest (now (b .entry)) bfrom bto)) ⌝ }
 {
     let mut i = afrom;
     let mut j = bfrom;
@@ -118,7 +118,7 @@ pub fn merge_intervals(
         let y = interval_at(b, j);
         let s = turn(x, y);
         match s {
-            Step::Clash => {
+            Step::Conflicting => {
                 return Walked::Conflict;
             }
             Step::Out(z, p, q) => {

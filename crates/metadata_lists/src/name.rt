@@ -6,7 +6,7 @@ use metadata_form::words::count_at;
 ghost use mathlib.Core.Path.{_≡_};
 ghost use Prim.Native.Nat.{_+_, _-_, _*_, _<_, _≤_};
 ghost use lib.ListN.{length, getD};
-ghost use Rattle.metadata_lists.specs.Heads.{finish, endOf};
+ghost use Rattle.metadata_lists.specs.Heads.{finish, endedOf};
 ghost use Rattle.metadata_lists.specs.Name.{outcomeAt, Ready};
 
 // The outcome of the name that the i-th mapping is the first of, laid in `out` from the place k on: its list, walked with
@@ -23,7 +23,7 @@ pub fn lay_name(
     k: usize,
 ) -> Walked
     requires { ⌜ Ready (now m) total (now v) (now off) (now nx) i (length (now temp)) (length (now out)) k ⌝ }
-    ensures { λ r. ⌜ endOf r (now (out .exit)) ≡ finish (now (out .entry)) k (outcomeAt (now (m .entry)) (now (v .entry)) (now (off .entry)) total i) ⌝ }
+    ensures { λ r. ⌜ endedOf r (now (out .exit)) ≡ finish (now (out .entry)) k (outcomeAt (now (m .entry)) (now (v .entry)) (now (off .entry)) total i) ⌝ }
 {
     let mut n = 0;
     let mut j = i;

@@ -14,7 +14,7 @@ ghost use Rattle.metadata_lists.specs.NamesLaying.{AllReady};
 
 // How far the outcome is laid: a conflict, or the mappings and the intervals laid.
 pub enum Names {
-    Clash,
+    Conflicting,
     Done(usize, usize),
 }
 
@@ -43,7 +43,7 @@ pub fn lay_place(
     }
     let w = lay_name(m, total, v, off, nx, i, temp, out, k);
     match w {
-        Walked::Conflict => Names::Clash,
+        Walked::Conflict => Names::Conflicting,
         Walked::Laid(t) => {
             let c = t - k;
             put_mapping(om, q, x, c);
@@ -74,8 +74,8 @@ pub fn lay_names(
     while i < total {
         let r = lay_place(m, total, v, off, nx, head, i, temp, om, q, out, k);
         match r {
-            Names::Clash => {
-                return Names::Clash;
+            Names::Conflicting => {
+                return Names::Conflicting;
             }
             Names::Done(a, b) => {
                 q = a;

@@ -31,23 +31,23 @@ use Rattle.metadata_merge.specs.Outcome.{given, Outcomes, Deciding, Deci
 use Rattle.metadata_merge.specs.Room.{names-length}
 use Rattle.metadata_merge.specs.declared.outcome.Verdict.{Verdict}
 use Rattle.metadata_merge.specs.declared.outcome.Verdict.the-variants as verdict
-use Rattle.metadata_merge.specs.declared.merger.Opened.{Opened}
-use Rattle.metadata_merge.specs.declared.merger.Opened.the-variants as opening
-use Rattle.metadata_merge.specs.declared.merger.Merged.{Merged}
-use Rattle.metadata_merge.specs.declared.merger.Merged.the-variants as merging
-use Rattle.metadata_merge.specs.declared.merger.Finished.{Finished}
-use Rattle.metadata_merge.specs.declared.merger.Finished.the-variants as finishing
+use Rattle.metadata_merge.specs.declared.merger.OpenedMetadata.{OpenedMetadata}
+use Rattle.metadata_merge.specs.declared.merger.OpenedMetadata.the-variants as opening
+use Rattle.metadata_merge.specs.declared.merger.MergedMetadata.{MergedMetadata}
+use Rattle.metadata_merge.specs.declared.merger.MergedMetadata.the-variants as merging
+use Rattle.metadata_merge.specs.declared.merger.FinishedMetadata.{FinishedMetadata}
+use Rattle.metadata_merge.specs.declared.merger.FinishedMetadata.the-variants as finishing
 
 -- what each answer says: done with the header's numbers, or a refusal
-abbrev pub openedOf : Opened → Answer
+abbrev pub openedOf : OpenedMetadata → Answer
 openedOf (opening.Done h) = answer 0 (numbersOf h)
 openedOf (opening.Refused r) = refused r
 
-abbrev pub mergedOf : Merged → Answer
+abbrev pub mergedOf : MergedMetadata → Answer
 mergedOf (merging.Done h) = answer 0 (numbersOf h)
 mergedOf (merging.Refused r) = refused r
 
-abbrev pub finishedOf : Finished → Answer
+abbrev pub finishedOf : FinishedMetadata → Answer
 finishedOf (finishing.Done h) = answer 0 (numbersOf h)
 finishedOf (finishing.Refused r) = refused r
 
@@ -89,7 +89,7 @@ unfoldable pub openLists : Header → Lists → Lists
 unfolding laidOver
 openLists h l = cond (sizedOf h (lengthsOf l) (l .mappings)) (laidOver h l (opened (metadataOf h l))) l
 
-pub record Open (h : Header) (l : Lists) (r : Opened) (l' : Lists) : Type 0 where
+pub record Open (h : Header) (l : Lists) (r : OpenedMetadata) (l' : Lists) : Type 0 where
   pub answers : openedOf r ≡ openAnswer h l
   pub holds : l' ≡ openLists h l
 
@@ -110,7 +110,7 @@ unfoldable pub mergeLists : ℕ → Header → Lists → Header → Lists → Li
 unfolding heldBy
 mergeLists names h l g r = cond (allSized names h l g r) (heldBy h l (merge (given names l) (metadataOf h l) (metadataOf g r))) l
 
-pub record Merge (names : ℕ) (h : Header) (l : Lists) (g : Header) (r : Lists) (a : Merged) (l' : Lists) : Type 0 where
+pub record Merge (names : ℕ) (h : Header) (l : Lists) (g : Header) (r : Lists) (a : MergedMetadata) (l' : Lists) : Type 0 where
   pub answers : mergedOf a ≡ mergeAnswer names h l g r
   pub holds : l' ≡ mergeLists names h l g r
 
@@ -145,7 +145,7 @@ module _ (names : ℕ) (h : Header) (l : Lists) (g : Header) (r : Lists) where
     sized-true : allSized names h l g r ≡ true
     sized-true = sym e ∙ d
 
-    merge-from : (a : Merged) (l' : Lists) (x : Outcome) → merge (given names l) (metadataOf h l) (metadataOf g r) ≡ x → mergedOf a ≡ answerOf x → l' ≡ heldBy h l x → Merge names h l g r a l'
+    merge-from : (a : MergedMetadata) (l' : Lists) (x : Outcome) → merge (given names l) (metadataOf h l) (metadataOf g r) ≡ x → mergedOf a ≡ answerOf x → l' ≡ heldBy h l x → Merge names h l g r a l'
     unfolding mergeAnswer mergeLists
     merge-from a l' x z y w =
         let f = sized-true in

@@ -14,7 +14,7 @@ use Rattle.leaves.specs.declared.refusal.Refusal.{Refusal}
 use Rattle.leaves.specs.declared.refusal.Refusal.the-variants.{Reversed, NoRoom, UnknownSymbol, Conflict, NoDate}
 use Rattle.metadata_rules.specs.declared.Interval.{Interval}
 use Rattle.metadata_rules.specs.Cases.{eqb-case}
-use Rattle.metadata_rules.specs.Metadata.{Metadata, Fields, Mapping, Merged, clash, merged, add, addAll, once, enterAll, opened, byName, every, everyInterval, datesKnown, mappingsKnown, restKnown, namesKnown, forwards, countIntervals, Rooms, Given, Outcome, done, together, fieldsOf, ifFits, ifMerged, agreedMerge, fits}
+use Rattle.metadata_rules.specs.Metadata.{Metadata, Fields, Mapping, Merged, conflicting, merged, add, addAll, once, enterAll, opened, byName, every, everyInterval, datesKnown, mappingsKnown, restKnown, namesKnown, forwards, countIntervals, Rooms, Given, Outcome, done, together, fieldsOf, ifFits, ifMerged, agreedMerge, fits}
 use Rattle.metadata_rules.specs.Metadata.{refused as stopped}
 use Rattle.metadata_rules.specs.Words.{mappingsFrom, mappingWords, intervalWords, before, every-append, mapping-length, interval-length}
 use Rattle.metadata_lists.specs.Names.{Final, placed, layAll}
@@ -258,7 +258,7 @@ module _ (names : ℕ) (h : Header) (l : Lists) (g : Header) (r : Lists) (ka : B
   merged-case : (p : Planned) (m : Merged) → byName (all names h l g r) ≡ m → endPlan p om' out' ≡ shownMerged om out m
       → Decided (ifMerged (roomsOf l) (left names h l g r) (right names h l g r) m) (fieldsOf (headerFields h) (headerFields g)) (lengthsOf l) (decideOf p ca cb cd (lengthsOf l)) ta tb tc om' out'
   unfolding shownMerged ifMerged ifFits endPlan decideOf refusalOf
-  merged-case p clash b e = faulted p 7 e (stopped (answer 7 [])) refl
+  merged-case p conflicting b e = faulted p 7 e (stopped (answer 7 [])) refl
   merged-case (Fault n) (merged ms) b e = let z : _≡_ {A = ℕ} 0 1 = cc in absurd (omega arith)
   merged-case (Laid q k) (merged ms) b e =
       let f : placed om' q out' k ≡ layAll om 0 out 0 ms = cc in

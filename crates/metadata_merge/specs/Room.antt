@@ -6,7 +6,7 @@ use mathlib.Core.List.{List, [], _∷_, _++_}
 use lib.ListN.{length}
 use Rattle.metadata_rules.specs.declared.Interval.{Interval}
 use Rattle.metadata_rules.specs.Walk.{Walked, conflict, laid, walkAll}
-use Rattle.metadata_rules.specs.Metadata.{Mapping, mapping, Merged, clash, merged, once, namesOf, listsOf, under, inFront, collect, outcome, byName, countIntervals}
+use Rattle.metadata_rules.specs.Metadata.{Mapping, mapping, Merged, conflicting, merged, once, namesOf, listsOf, under, inFront, collect, outcome, byName, countIntervals}
 use Rattle.metadata_rules.specs.Names.{merged-names, once-once}
 use Rattle.metadata_lists.specs.Flat.{sumLen}
 use Rattle.metadata_lists.specs.Names.{walkAll-length}
@@ -26,16 +26,16 @@ merged-few ms r e =
     let c = names-length ms in
     omega arith
 
-clash-none : (r : List Mapping) → clash ≡ merged r → _≡_ {A = ℕ} 0 1
-clash-none r e = cc
+conflict-none : (r : List Mapping) → conflicting ≡ merged r → _≡_ {A = ℕ} 0 1
+conflict-none r e = cc
 
-under-clash : (n : ℕ) (q : Merged) → clash ≡ under n conflict q
+under-conflict : (n : ℕ) (q : Merged) → conflicting ≡ under n conflict q
 unfolding under
-under-clash n q = refl
+under-conflict n q = refl
 
-front-clash : (n : ℕ) (s : List Interval) → clash ≡ under n (laid s) clash
+front-conflict : (n : ℕ) (s : List Interval) → conflicting ≡ under n (laid s) conflicting
 unfolding under inFront
-front-clash n s = refl
+front-conflict n s = refl
 
 front-same : (n : ℕ) (s : List Interval) (t r : List Mapping) → under n (laid s) (merged t) ≡ merged r → mapping n s ∷ t ≡ r
 unfolding under inFront
@@ -55,8 +55,8 @@ collect-short ms (n ∷ ns) r e = go (walkAll [] (listsOf n ms)) refl (collect n
     go conflict a q d ih = let z : _≡_ {A = ℕ} 0 1 = none d in absurd (omega arith)
       where
         none : under n conflict q ≡ merged r → _≡_ {A = ℕ} 0 1
-        none d = clash-none r (under-clash n q ∙ d)
-    go (laid s) a clash d ih = let z : _≡_ {A = ℕ} 0 1 = clash-none r (front-clash n s ∙ d) in absurd (omega arith)
+        none d = conflict-none r (under-conflict n q ∙ d)
+    go (laid s) a conflicting d ih = let z : _≡_ {A = ℕ} 0 1 = conflict-none r (front-conflict n s ∙ d) in absurd (omega arith)
     go (laid s) a (merged t) d ih =
         let z : mapping n s ∷ t ≡ r = front-same n s t r d in
         let b = ih t refl in

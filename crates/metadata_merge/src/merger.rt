@@ -10,7 +10,7 @@ use metadata_form::header::Header;
 use metadata_form::header::Lengths;
 use metadata_form::header::counted;
 use metadata_form::header::differs;
-use metadata_form::header::merged;
+use metadata_form::header::merged_header;
 use metadata_form::header::sized;
 use metadata_form::header::total;
 use metadata_gather::sets::alone;
@@ -22,19 +22,19 @@ ghost use Rattle.metadata_form.specs.Header.{lists, lengthsOf};
 ghost use Rattle.metadata_merge.specs.Merger.{finishedOf, finishAnswer, bothSized, lengthsBy, Merge, Open};
 
 // What opening answers: the header with the counts that are left, or 15.
-pub enum Opened {
+pub enum OpenedMetadata {
     Done(Header),
     Refused(Refusal),
 }
 
 // What a merge answers: the header of both together, or 15, 6, 11, 3, 1, 7, 2.
-pub enum Merged {
+pub enum MergedMetadata {
     Done(Header),
     Refused(Refusal),
 }
 
 // What finishing answers: the header as it was, or 15.
-pub enum Finished {
+pub enum FinishedMetadata {
     Done(Header),
     Refused(Refusal),
 }
@@ -106,7 +106,7 @@ pub fn open(
     not_found: &mut [u32],
     mappings: &mut [u32],
     intervals: &mut [u32],
-) -> Opened
+) -> OpenedMetadata
     ensures { λ r. ⌜ Open h (lists (now (symbols .entry)) (now (partial .entry)) (now («not_found» .entry)) (now (mappings .entry)) (now (intervals .entry))) r (lists (now (symbols .exit)) (now (partial .exit)) (now («not_found» .exit)) (now (mappings .exit)) (now (intervals .exit))) ⌝ }
 {
     let l = lengths(
@@ -117,7 +117,7 @@ pub fn open(
         intervals.len(),
     );
     if !sized(h, l, mappings) {
-        return Opened::Refused(Refusal::BadMemory);
+        return OpenedMetadata::Refused(Refusal::BadMemory);
     }
     let mut s = [0u32; ENTRIES];
     let mut p = [0u32; ENTRIES];
@@ -152,7 +152,7 @@ pub fn open(
         &v,
     );
     let r = counted(h, counts);
-    Opened::Done(r)
+    OpenedMetadata::Done(r)
 }
 
 // One more metadata is merged into a gathered one, which loses its repeats first where it was never opened. `names` is how many
@@ -171,7 +171,7 @@ pub fn merge(
     added_not_found: &[u32],
     added_mappings: &[u32],
     added_intervals: &[u32],
-) -> Merged
+) -> MergedMetadata
     ensures { λ r. ⌜ Merge names h (lists (now (symbols .entry)) (now (partial .entry)) (now («not_found» .entry)) (now (mappings .entry)) (now (intervals .entry))) g (lists (now («added_symbols» .entry)) (now («added_partial» .entry)) (now («added_not_found» .entry)) (now («added_mappings» .entry)) (now («added_intervals» .entry))) r (lists (now (symbols .exit)) (now (partial .exit)) (now («not_found» .exit)) (now (mappings .exit)) (now (intervals .exit))) ⌝ }
 {
     let l = lengths(
@@ -189,11 +189,11 @@ pub fn merge(
         added_intervals.len(),
     );
     if !both_sized(names, h, l, mappings, g, e, added_mappings) {
-        return Merged::Refused(Refusal::BadMemory);
+        return MergedMetadata::Refused(Refusal::BadMemory);
     }
     let field = differs(h, g);
     if field != 0 {
-        return Merged::Refused(Refusal::Differ(field));
+        return MergedMetadata::Refused(Refusal::Differ(field));
     }
     let mut s = [0u32; BOTH_ENTRIES];
     let mut p = [0u32; BOTH_ENTRIES];
@@ -222,7 +222,7 @@ pub fn merge(
         &mut v,
     );
     match verdict {
-        Verdict::Refused(why) => Merged::Refused(why),
+        Verdict::Refused(why) => MergedMetadata::Refused(why),
         Verdict::Fits(c) => {
             let used = total(mappings, h.mappings);
             commit(
@@ -240,8 +240,8 @@ pub fn merge(
                 &m,
                 &v,
             );
-            let r = merged(h, g, c);
-            Merged::Done(r)
+            let r = merged_header(h, g, c);
+            MergedMetadata::Done(r)
         }
     }
 }
@@ -254,7 +254,7 @@ pub fn finish(
     not_found: &[u32],
     mappings: &[u32],
     intervals: &[u32],
-) -> Finished
+) -> FinishedMetadata
     ensures { λ r. ⌜ finishedOf r ≡ finishAnswer h (lists (now (symbols .entry)) (now (partial .entry)) (now («not_found» .entry)) (now (mappings .entry)) (now (intervals .entry))) ⌝ }
 {
     let l = lengths(
@@ -265,7 +265,7 @@ pub fn finish(
         intervals.len(),
     );
     if !sized(h, l, mappings) {
-        return Finished::Refused(Refusal::BadMemory);
+        return FinishedMetadata::Refused(Refusal::BadMemory);
     }
-    Finished::Done(h)
+    FinishedMetadata::Done(h)
 }

@@ -1,6 +1,4 @@
 // The outcome of a merge in scratch, or its refusal, and the outcome laid over the lent lists.
-use metadata_gather::plan::Planned;
-use metadata_gather::plan::plan;
 use leaves::refusal::Refusal;
 use metadata_form::header::Counts;
 use metadata_form::header::Header;
@@ -8,6 +6,8 @@ use metadata_form::header::Lengths;
 use metadata_form::header::fits;
 use metadata_form::over::lay_over;
 use metadata_form::words::wide;
+use metadata_gather::plan::Planned;
+use metadata_gather::plan::plan;
 use metadata_gather::sets::unite;
 ghost use mathlib.Core.Path.{_≡_};
 ghost use Prim.Native.Nat.{_+_, _*_, _<_, _≤_};

@@ -8,7 +8,7 @@ use mathlib.Core.List.{List, [], _∷_, _++_, append-assoc}
 use lib.Dec.{eqb}
 use Rattle.metadata_rules.specs.declared.Interval.{Interval}
 use Rattle.metadata_rules.specs.Walk.{Walked, conflict, laid, walk, thenAll, walkAll}
-use Rattle.metadata_rules.specs.Metadata.{Mapping, mapping, add, addAll, once, namesOf, enterAll, Merged, clash, merged, inFront, under, collect, byName, outcome, listsOf}
+use Rattle.metadata_rules.specs.Metadata.{Mapping, mapping, add, addAll, once, namesOf, enterAll, Merged, conflicting, merged, inFront, under, collect, byName, outcome, listsOf}
 use Rattle.metadata_rules.specs.Metadata.{foldOne, andThen, foldIn}
 use Rattle.theory.specs.Runs.{Mem}
 use Rattle.metadata_rules.specs.Cases.{Once, eqb-case, cond-eq, cond-ne}
@@ -40,7 +40,7 @@ table-upd ns f n s h = table-cong ns (upd f n s) f (λ k m. upd-other f n s k (�
 
 -- one more mapping, whose walk with what its name has gives w
 unfoldable pub entered : List ℕ → (ℕ → List Interval) → ℕ → Walked → Merged
-entered ns f n conflict = clash
+entered ns f n conflict = conflicting
 entered ns f n (laid s) = merged (table (add ns n) (upd f n s))
 
 fold-here : (y : ℕ) (ns : List ℕ) (f : ℕ → List Interval) (n : ℕ) (w : Walked) → y ≡ n → (Mem n ns → ⊥)
@@ -87,16 +87,16 @@ unfolding collect table under inFront
 collect-table [] f = refl
 collect-table (n ∷ ns) f = ap (inFront (mapping n (f n))) (collect-table ns f)
 
-under-clash : (n : ℕ) (w : Walked) → under n w clash ≡ clash
+under-conflict : (n : ℕ) (w : Walked) → under n w conflicting ≡ conflicting
 unfolding under inFront
-under-clash n conflict = refl
-under-clash n (laid s) = refl
+under-conflict n conflict = refl
+under-conflict n (laid s) = refl
 
-collect-clash : (ns : List ℕ) (f : ℕ → Walked) (n : ℕ) → Mem n ns → f n ≡ conflict → collect ns f ≡ clash
+collect-conflict : (ns : List ℕ) (f : ℕ → Walked) (n : ℕ) → Mem n ns → f n ≡ conflict → collect ns f ≡ conflicting
 unfolding collect under
-collect-clash [] f n m e = absurd m
-collect-clash (y ∷ ns) f n (inl d) e = ap (λ (w : Walked). under y w (collect ns f)) (rw d at e)
-collect-clash (y ∷ ns) f n (inr m) e = ap (under y (f y)) (collect-clash ns f n m e) ∙ under-clash y (f y)
+collect-conflict [] f n m e = absurd m
+collect-conflict (y ∷ ns) f n (inl d) e = ap (λ (w : Walked). under y w (collect ns f)) (rw d at e)
+collect-conflict (y ∷ ns) f n (inr m) e = ap (under y (f y)) (collect-conflict ns f n m e) ∙ under-conflict y (f y)
 
 -- the first list of a name is walked with what it has
 walkAll-here : (f : ℕ → List Interval) (m : Mapping) (ms : List Mapping) (n : ℕ) (w : Walked) → walk (f (m .name)) (m .intervals) ≡ w → m .name ≡ n
@@ -131,7 +131,7 @@ fold-from (m ∷ ms) ns f o h =
         → foldIn (table (add ns (m .name)) (upd f (m .name) s)) ms ≡ byFrom (add ns (m .name)) (upd f (m .name) s) ms)
         → andThen (λ r. foldIn r ms) (entered ns f (m .name) w) ≡ byFrom ns f (m ∷ ms)
     go conflict e ih =
-        sym (collect-clash (addAll (add ns (m .name)) (namesOf ms)) _ (m .name)
+        sym (collect-conflict (addAll (add ns (m .name)) (namesOf ms)) _ (m .name)
         (addAll-old (namesOf ms) (add ns (m .name)) (m .name) (add-new ns (m .name)))
         (walkAll-here f m ms (m .name) conflict e refl))
     go (laid s) e ih =
@@ -154,7 +154,7 @@ fold-append (x ∷ xs) ys ls = go (foldOne ls x) (fold-append xs ys)
   where
     go : (q : Merged) → ((r : List Mapping) → foldIn r (xs ++ ys) ≡ andThen (λ t. foldIn t ys) (foldIn r xs))
         → andThen (λ r. foldIn r (xs ++ ys)) q ≡ andThen (λ t. foldIn t ys) (andThen (λ r. foldIn r xs) q)
-    go clash f = refl
+    go conflicting f = refl
     go (merged r) f = f r
 
 not-before : (xs : List Mapping) (m : Mapping) (ys : List Mapping) → Once (namesOf (xs ++ m ∷ ys)) → Mem (m .name) (namesOf xs) → ⊥

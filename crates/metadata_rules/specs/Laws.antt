@@ -12,7 +12,7 @@ use Rattle.theory.specs.Runs.{Mem}
 use Rattle.metadata_rules.specs.declared.Interval.{Interval}
 use Rattle.metadata_rules.specs.Cases.{Once, eqb-case, cond-eq, cond-ne}
 use Rattle.metadata_rules.specs.Walk.{Walked, conflict, laid, walkAll}
-use Rattle.metadata_rules.specs.Metadata.{Metadata, Mapping, mapping, Merged, clash, merged, addAll, once, namesOf, enterAll, opened, listsOf, under, inFront, collect, outcome, byName, Rooms, Given, Outcome, refused, done, together, fits, ifFits, ifMerged, agreedMerge, ifSame, mergeOpened, merge, differsAt, datesKnown, namesKnown, forwards}
+use Rattle.metadata_rules.specs.Metadata.{Metadata, Mapping, mapping, Merged, conflicting, merged, addAll, once, namesOf, enterAll, opened, listsOf, under, inFront, collect, outcome, byName, Rooms, Given, Outcome, refused, done, together, fits, ifFits, ifMerged, agreedMerge, ifSame, mergeOpened, merge, differsAt, datesKnown, namesKnown, forwards}
 use Rattle.metadata_rules.specs.Names.{addAll-old, addAll-new, addAll-only, addAll-once, once-once, once-same, names-append, enterAll-names, merged-names}
 use Rattle.metadata_rules.specs.Cover.{Covered, CoveredAny, walkAll-covers}
 
@@ -33,7 +33,7 @@ fitted false x a r e = let z : _≡_ {A = ℕ} 0 1 = cc in absurd (omega arith)
 
 merged-done : (rm : Rooms) (m k r : Metadata) (g : Merged) → ifMerged rm m k g ≡ done r → (ms : List Mapping) × (g ≡ merged ms) × (r ≡ together m k ms)
 unfolding ifMerged ifFits
-merged-done rm m k r clash e = let z : _≡_ {A = ℕ} 0 1 = cc in absurd (omega arith)
+merged-done rm m k r conflicting e = let z : _≡_ {A = ℕ} 0 1 = cc in absurd (omega arith)
 merged-done rm m k r (merged ms) e = (ms, refl, fitted (fits rm (together m k ms)) (together m k ms) (answer 2 []) r e)
 
 agreed-together : (w : Given) (m k r : Metadata) → agreedMerge w (opened m) k ≡ done r → Together m k r
@@ -112,9 +112,9 @@ no-conflict : (y : ℕ) (q : Merged) (ms : List Mapping) → under y conflict q 
 unfolding under
 no-conflict y q ms e = let z : _≡_ {A = ℕ} 0 1 = cc in omega arith
 
-no-clash : (y : ℕ) (c : List Interval) (ms : List Mapping) → under y (laid c) clash ≡ merged ms → ⊥
+no-conflict : (y : ℕ) (c : List Interval) (ms : List Mapping) → under y (laid c) conflicting ≡ merged ms → ⊥
 unfolding under inFront
-no-clash y c ms e = let z : _≡_ {A = ℕ} 0 1 = cc in omega arith
+no-conflict y c ms e = let z : _≡_ {A = ℕ} 0 1 = cc in omega arith
 
 in-front : (y : ℕ) (c : List Interval) (t ms : List Mapping) → under y (laid c) (merged t) ≡ merged ms → mapping y c ∷ t ≡ ms
 unfolding under inFront
@@ -131,7 +131,7 @@ collect-walks (y ∷ ns) f ms e n h a = go (f y) refl (collect ns f) refl e h (�
 
     go : (w : Walked) → f y ≡ w → (q : Merged) → collect ns f ≡ q → under y w q ≡ merged ms → (n ≡ y) ⊎ Mem n ns → ((t : List Mapping) → collect ns f ≡ merged t → Mem n ns → ⊥) → ⊥
     go conflict b q c g k ih = no-conflict y q ms g
-    go (laid xs) b clash c g k ih = no-clash y xs ms g
+    go (laid xs) b conflicting c g k ih = no-conflict y xs ms g
     go (laid xs) b (merged t) c g (inl k) ih = let z : laid xs ≡ conflict = sym b ∙ ap f (sym k) ∙ a in not-laid xs z
     go (laid xs) b (merged t) c g (inr k) ih = ih t c k
 
@@ -200,7 +200,7 @@ module _ (d s : ℕ) where
       go : (w : Walked) → f y ≡ w → (q : Merged) → under y w q ≡ merged ms → ((t : List Mapping) → q ≡ merged t → CoveredAny d s (listsOf n t) ↔ (Mem n ns × By d s (f n)))
           → CoveredAny d s (listsOf n ms) ↔ (((n ≡ y) ⊎ Mem n ns) × By d s (f n))
       go conflict a q g ih = absurd (no-conflict y q ms g)
-      go (laid c) a clash g ih = absurd (no-clash y c ms g)
+      go (laid c) a conflicting g ih = absurd (no-conflict y c ms g)
       go (laid c) a (merged t) g ih = subst (λ (l : List Mapping). CoveredAny d s (listsOf n l) ↔ (((n ≡ y) ⊎ Mem n ns) × By d s (f n))) (in-front y c t ms g) (step c t a (ih t refl))
 
   -- a merge by name covers, under each name, what the mappings cover

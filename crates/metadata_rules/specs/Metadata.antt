@@ -93,17 +93,17 @@ listsOf n (m ∷ ms) = cond (eqb (m .name) n) (m .intervals ∷ listsOf n ms) (l
 
 -- what merging mappings gives: that intervals conflict, or the mappings
 pub data Merged : Type 0 where
-  clash : Merged
+  conflicting : Merged
   merged : List Mapping → Merged
 
 unfoldable pub inFront : Mapping → Merged → Merged
-inFront m clash = clash
+inFront m conflicting = conflicting
 inFront m (merged ms) = merged (m ∷ ms)
 
 -- the name n with its outcome, and then the rest
 unfoldable pub under : ℕ → Walked → Merged → Merged
 unfolding inFront
-under n conflict r = clash
+under n conflict r = conflicting
 under n (laid s) r = inFront (mapping n s) r
 
 -- each name with its outcome
@@ -131,7 +131,7 @@ foldOne [] m = merged (m ∷ [])
 foldOne (l ∷ ls) m = cond (eqb (l .name) (m .name)) (under (l .name) (walk (l .intervals) (m .intervals)) (merged ls)) (inFront l (foldOne ls m))
 
 unfoldable pub andThen : (List Mapping → Merged) → Merged → Merged
-andThen go clash = clash
+andThen go conflicting = conflicting
 andThen go (merged ms) = go ms
 
 unfoldable pub foldIn : List Mapping → List Mapping → Merged
@@ -264,7 +264,7 @@ ifFits r m = cond (fits r m) (done m) (refused (answer 2 []))
 
 unfoldable pub ifMerged : Rooms → Metadata → Metadata → Merged → Outcome
 unfolding ifFits together
-ifMerged r m k clash = refused (answer 7 [])
+ifMerged r m k conflicting = refused (answer 7 [])
 ifMerged r m k (merged ms) = ifFits r (together m k ms)
 
 -- the six fields agree: 11, 3, 1, 7, 2, each over both sides whole before the next

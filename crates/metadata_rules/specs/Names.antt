@@ -8,7 +8,7 @@ use mathlib.Core.List.{List, [], _∷_, _++_}
 use lib.Dec.{eqb}
 use Rattle.metadata_rules.specs.declared.Interval.{Interval}
 use Rattle.metadata_rules.specs.Walk.{Walked, conflict, laid}
-use Rattle.metadata_rules.specs.Metadata.{Mapping, mapping, add, addAll, once, namesOf, enter, enterAll, Merged, clash, merged, inFront, under, collect, byName, outcome}
+use Rattle.metadata_rules.specs.Metadata.{Mapping, mapping, add, addAll, once, namesOf, enter, enterAll, Merged, conflicting, merged, inFront, under, collect, byName, outcome}
 use Rattle.theory.specs.Runs.{Mem}
 use Rattle.metadata_rules.specs.Cases.{Once, eqb-case, cond-eq, cond-ne}
 
@@ -124,11 +124,11 @@ enterAll-names (m ∷ ms) ls = enterAll-names ms (enter ls m) ∙ ap (λ (r : Li
 under-names : (n : ℕ) (w : Walked) (q : Merged) (r : List Mapping) → under n w q ≡ merged r
     → (ns : List ℕ) → ((t : List Mapping) → q ≡ merged t → namesOf t ≡ ns) → namesOf r ≡ n ∷ ns
 unfolding under inFront namesOf
-under-names n conflict q r e ns f = let z : _≡_ {A = ℕ} 0 1 = cc in absurd (clash-not r e)
+under-names n conflict q r e ns f = let z : _≡_ {A = ℕ} 0 1 = cc in absurd (conflict-not r e)
   where
-    clash-not : (r : List Mapping) → clash ≡ merged r → ⊥
-    clash-not r e = let z : _≡_ {A = ℕ} 0 1 = cc in omega native.Mathlib.Omega.arith
-under-names n (laid s) clash r e ns f = let z : namesOf r ≡ n ∷ ns = cc in z
+    conflict-not : (r : List Mapping) → conflicting ≡ merged r → ⊥
+    conflict-not r e = let z : _≡_ {A = ℕ} 0 1 = cc in omega native.Mathlib.Omega.arith
+under-names n (laid s) conflicting r e ns f = let z : namesOf r ≡ n ∷ ns = cc in z
 under-names n (laid s) (merged t) r e ns f = let h : mapping n s ∷ t ≡ r = cc in rw (← h) (ap (λ (l : List ℕ). n ∷ l) (f t refl))
 
 pub collect-names : (ns : List ℕ) (f : ℕ → Walked) (r : List Mapping) → collect ns f ≡ merged r → namesOf r ≡ ns

@@ -23,8 +23,8 @@ use Rattle.leaves_names.specs.declared.names.Checked.{Checked}
 use Rattle.leaves_names.specs.declared.names.Checked.the-variants as checked
 use Rattle.leaves_names.specs.declared.names.Named.{Named}
 use Rattle.leaves_names.specs.declared.names.Named.the-variants as named
-use Rattle.leaves_names.specs.declared.names.Placed.{Placed}
-use Rattle.leaves_names.specs.declared.names.Placed.the-variants as placed
+use Rattle.leaves_names.specs.declared.names.NamePlace.{NamePlace}
+use Rattle.leaves_names.specs.declared.names.NamePlace.the-variants as placed
 
 -- no refusal is done
 pub done-or-refused : {vs : List ℕ} (r : Refusal) → answer 0 vs ≡ refused r → ⊥
@@ -66,7 +66,7 @@ named-one (named.Number a b c) (named.Refused q) e = absurd (done-or-refused q e
 named-one (named.Refused r) (named.Number d f g) e = absurd (done-or-refused r (sym e))
 named-one (named.Refused r) (named.Refused q) e = ap named.Refused (refused-one r q e)
 
-pub placed-one : (x y : Placed) → placedOf x ≡ placedOf y → x ≡ y
+pub placed-one : (x y : NamePlace) → placedOf x ≡ placedOf y → x ≡ y
 placed-one (placed.At a b) (placed.At c d) e = cc
 placed-one (placed.At a b) (placed.Refused q) e = absurd (done-or-refused q e)
 placed-one (placed.Refused r) (placed.At c d) e = absurd (done-or-refused r (sym e))

@@ -11,12 +11,12 @@ use Rattle.metadata_form.specs.declared.header.Header.{Header}
 use Rattle.theory.specs.Answer.{bit}
 use Rattle.metadata_form.specs.Header.{numbersOf}
 use Rattle.metadata_merge.specs.Merger.{openedOf, mergedOf, finishedOf}
-use Rattle.metadata_merge.specs.declared.merger.Opened.{Opened}
-use Rattle.metadata_merge.specs.declared.merger.Opened.the-variants as opening
-use Rattle.metadata_merge.specs.declared.merger.Merged.{Merged}
-use Rattle.metadata_merge.specs.declared.merger.Merged.the-variants as merging
-use Rattle.metadata_merge.specs.declared.merger.Finished.{Finished}
-use Rattle.metadata_merge.specs.declared.merger.Finished.the-variants as finishing
+use Rattle.metadata_merge.specs.declared.merger.OpenedMetadata.{OpenedMetadata}
+use Rattle.metadata_merge.specs.declared.merger.OpenedMetadata.the-variants as opening
+use Rattle.metadata_merge.specs.declared.merger.MergedMetadata.{MergedMetadata}
+use Rattle.metadata_merge.specs.declared.merger.MergedMetadata.the-variants as merging
+use Rattle.metadata_merge.specs.declared.merger.FinishedMetadata.{FinishedMetadata}
+use Rattle.metadata_merge.specs.declared.merger.FinishedMetadata.the-variants as finishing
 use Rattle.one_answer.specs.Leaves.{done-or-refused}
 
 -- the header with these numbers
@@ -51,19 +51,19 @@ header-back h = ap (headerBy (numbersOf h)) (bit-back (h .«ts_out»))
 header-one : (h k : Header) → answer 0 (numbersOf h) ≡ answer 0 (numbersOf k) → h ≡ k
 header-one h k e = let z : numbersOf h ≡ numbersOf k = cc in sym (header-back h) ∙ ap headerOf z ∙ header-back k
 
-pub opened-one : (x y : Opened) → openedOf x ≡ openedOf y → x ≡ y
+pub opened-one : (x y : OpenedMetadata) → openedOf x ≡ openedOf y → x ≡ y
 opened-one (opening.Done h) (opening.Done k) e = ap opening.Done (header-one h k e)
 opened-one (opening.Done h) (opening.Refused q) e = absurd (done-or-refused q e)
 opened-one (opening.Refused r) (opening.Done k) e = absurd (done-or-refused r (sym e))
 opened-one (opening.Refused r) (opening.Refused q) e = ap opening.Refused (refused-one r q e)
 
-pub merged-one : (x y : Merged) → mergedOf x ≡ mergedOf y → x ≡ y
+pub merged-one : (x y : MergedMetadata) → mergedOf x ≡ mergedOf y → x ≡ y
 merged-one (merging.Done h) (merging.Done k) e = ap merging.Done (header-one h k e)
 merged-one (merging.Done h) (merging.Refused q) e = absurd (done-or-refused q e)
 merged-one (merging.Refused r) (merging.Done k) e = absurd (done-or-refused r (sym e))
 merged-one (merging.Refused r) (merging.Refused q) e = ap merging.Refused (refused-one r q e)
 
-pub finished-one : (x y : Finished) → finishedOf x ≡ finishedOf y → x ≡ y
+pub finished-one : (x y : FinishedMetadata) → finishedOf x ≡ finishedOf y → x ≡ y
 finished-one (finishing.Done h) (finishing.Done k) e = ap finishing.Done (header-one h k e)
 finished-one (finishing.Done h) (finishing.Refused q) e = absurd (done-or-refused q e)
 finished-one (finishing.Refused r) (finishing.Done k) e = absurd (done-or-refused r (sym e))

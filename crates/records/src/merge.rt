@@ -4,7 +4,7 @@
 use crate::heap::heapify;
 use crate::heap::sift_down;
 use crate::heap::slot;
-use crate::opening::lay;
+use crate::opening::lay_streams;
 use crate::opening::streams_right;
 use crate::state::EMPTY;
 use crate::state::GONE;
@@ -24,7 +24,7 @@ ghost use Rattle.theory.specs.Answer.{answer};
 ghost use Rattle.records_rules.specs.Machine.{says, record-at, damage-at};
 ghost use Rattle.records_rules.specs.Bytes.{streamsOf};
 ghost use Rattle.records_rules.specs.View.{packed, recIn};
-ghost use Rattle.records_rules.specs.State.{answerOf, rightMemory, Room, Untouched, rightStreams, opening, gotOf, StateOk, Says, Opened};
+ghost use Rattle.records_rules.specs.State.{answerOf, rightMemory, Room, Untouched, rightStreams, opening, gotOf, StateOk, Says, StreamsOpened};
 ghost use Rattle.records.specs.Merge.{turnOf, openingOf};
 
 // What a read found: the end is 0, damage its reason, a record 4.
@@ -59,7 +59,7 @@ pub struct Turned {
 
 // What an opening answers: the streams, and how many of them the heap holds.
 pub enum Opening {
-    Opened { streams: usize, held: usize },
+    StreamsOpened { streams: usize, held: usize },
     Refused(Refusal),
 }
 
@@ -264,7 +264,7 @@ pub fn open(
         → Untouched (now (marks .entry)) (now (times .entry)) (now (places .entry)) (now (heads .entry)) (now (heap .entry)) (now (marks .exit)) (now (times .exit)) (now (places .exit)) (now (heads .exit)) (now (heap .exit))) ⌝ }
     ensures { λ r. ⌜ ((rightMemory 0 (length (now (marks .entry))) (length (now (times .entry))) (length (now (places .entry))) (length (now (heads .entry))) (length (now (heap .entry)))
         && rightStreams (length (now (buffer .entry))) (now (cuts .entry)) (length (now (hints .entry)))) ≡ true
-        → Opened (length (now (cuts .entry)) - 1) (now (hints .entry)) (now (marks .exit)) (now (times .exit)) (now (places .exit)) (now (heads .exit)) (now (heap .exit))) ⌝ }
+        → StreamsOpened (length (now (cuts .entry)) - 1) (now (hints .entry)) (now (marks .exit)) (now (times .exit)) (now (places .exit)) (now (heads .exit)) (now (heap .exit))) ⌝ }
 {
     if memory(
         0,
@@ -284,9 +284,9 @@ pub fn open(
         return Opening::Refused(refusal);
     }
     let n = cuts.len() - 1;
-    lay(n, hints, marks, times, places, heads, heap);
+    lay_streams(n, hints, marks, times, places, heads, heap);
     heapify(times, heap, n);
-    Opening::Opened {
+    Opening::StreamsOpened {
         streams: n,
         held: n,
     }

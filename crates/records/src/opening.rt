@@ -91,7 +91,7 @@ fn number_at(i: usize, n: usize) -> u8
 }
 
 // Each of n streams waits at its hint, from its first byte on; the other places are empty.
-pub fn lay(
+pub fn lay_streams(
     n: usize,
     hints: &[u64],
     marks: &mut [u8],

@@ -8,7 +8,7 @@ use Rattle.theory.specs.Answer.{Answer}
 use Rattle.records_rules.specs.Machine.{Stream, Status, start}
 use Rattle.records_rules.specs.Machine as machine
 use Rattle.records_rules.specs.View.{statusesOf}
-use Rattle.records_rules.specs.State.{answerOf, padded, Says, Opened}
+use Rattle.records_rules.specs.State.{answerOf, padded, Says, StreamsOpened}
 
 -- what the caller lends, and how much of the heap is in use
 pub record Lent : Type 0 where
@@ -52,6 +52,6 @@ equal-for-ever {b} {n} {s} {t} {xs} {ys} e x y l =
     ∙ sym (calls-are y)
 
 -- from an opening on they are the machine's from the hints on
-pub opened-calls : {b : ℕ → Stream} {n : ℕ} {hints : List ℕ} {s : Lent} {xs : List Answer} → Opened n hints (s .marks) (s .times) (s .places) (s .heads) (s .heap)
+pub opened-calls : {b : ℕ → Stream} {n : ℕ} {hints : List ℕ} {s : Lent} {xs : List Answer} → StreamsOpened n hints (s .marks) (s .times) (s .places) (s .heads) (s .heap)
     → Calls b n s xs → xs ≡ map answerOf (answersF (length xs) b (start (padded n hints)))
 opened-calls {b} {xs = xs} o x = calls-are x ∙ ap (λ (ss : List Status). map answerOf (answersF (length xs) b ss)) (o .starts)

@@ -8,7 +8,7 @@ use Rattle.leaves.specs.Frame.{frameAt}
 use Rattle.records_rules.specs.Machine.{rec, Stream, record-at, damage-at, Answer, says, end}
 use Rattle.records_rules.specs.Bytes.{bytesOf, streamsOf}
 use Rattle.records_rules.specs.Whole.{run}
-use Rattle.records_rules.specs.Literal.{told}
+use Rattle.records_rules.specs.Literal.{literalRun}
 
 -- a record of 16 bytes: kind 1, instrument 7, the time t below 256
 unfoldable pub short : ℕ → List ℕ
@@ -43,8 +43,8 @@ unfolding run streams bytesOf frameAt short out field
 hint-above = refl
 
 -- after a damage report no stream is read on in: times 1,9 | one stray byte | time 4, with hints 0, 3, 4
-pub after-damage : told (streams ((short 1 ++ short 9) ∷ (1 ∷ []) ∷ short 4 ∷ [])) (0 ∷ 3 ∷ 4 ∷ []) ≡ out 0 0 1 ∷ says 1 (damage-at 0 1) ∷ out 2 0 4 ∷ out 0 16 9 ∷ end ∷ []
-unfolding told streams bytesOf frameAt short out field
+pub after-damage : literalRun (streams ((short 1 ++ short 9) ∷ (1 ∷ []) ∷ short 4 ∷ [])) (0 ∷ 3 ∷ 4 ∷ []) ≡ out 0 0 1 ∷ says 1 (damage-at 0 1) ∷ out 2 0 4 ∷ out 0 16 9 ∷ end ∷ []
+unfolding literalRun streams bytesOf frameAt short out field
 after-damage = refl
 
 -- one empty stream: the end at once

@@ -252,16 +252,16 @@ calls-start f b hs = calls-same f b (start hs) none tt
 
 -- ---- so the theorems hold of the document's machine
 
-unfoldable pub told : (ℕ → Stream) → List ℕ → List Answer
+unfoldable pub literalRun : (ℕ → Stream) → List ℕ → List Answer
 unfolding callsF start bytes
-told b hs = callsF (suc (bytes b (length hs))) b (start hs) none
+literalRun b hs = callsF (suc (bytes b (length hs))) b (start hs) none
 
-pub told-run : (b : ℕ → Stream) (hs : List ℕ) → told b hs ≡ run b hs
-unfolding told run
+pub told-run : (b : ℕ → Stream) (hs : List ℕ) → literalRun b hs ≡ run b hs
+unfolding literalRun run
 told-run b hs = calls-start (suc (bytes b (length hs))) b hs
 
-pub told-keeps : (b : ℕ → Stream) (hs : List ℕ) (p : ℕ) → p < length hs → mine p (told b hs) ≡ own (b p) 0
+pub told-keeps : (b : ℕ → Stream) (hs : List ℕ) (p : ℕ) → p < length hs → mine p (literalRun b hs) ≡ own (b p) 0
 told-keeps b hs p h = ap (mine p) (told-run b hs) ∙ run-keeps b hs p h
 
-pub told-sorted : (b : ℕ → Stream) (hs : List ℕ) → ((p : ℕ) → p < length hs → Rising (getD hs p 0) (own (b p) 0)) → Sorted (told b hs)
+pub told-sorted : (b : ℕ → Stream) (hs : List ℕ) → ((p : ℕ) → p < length hs → Rising (getD hs p 0) (own (b p) 0)) → Sorted (literalRun b hs)
 told-sorted b hs h = rw told-run (run-sorted b hs h)

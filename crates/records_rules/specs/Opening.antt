@@ -16,7 +16,7 @@ use Rattle.records_rules.specs.View.{tab, statusOf, statusesOf}
 use Rattle.records_rules.specs.Sift.{Heaped}
 use Rattle.records_rules.specs.Holds.{Holds, holds-moved}
 use Rattle.theory.specs.Answer.{bit}
-use Rattle.records_rules.specs.State.{rightMemory, rightStreams, Room, riseTo, padded, Opened}
+use Rattle.records_rules.specs.State.{rightMemory, rightStreams, Room, riseTo, padded, StreamsOpened}
 
 -- ---- each place of the 256 is laid
 
@@ -118,7 +118,7 @@ module _ {n : ℕ} {hints ms ts cs hs hp : List ℕ} (few : n ≤ 256) (given : 
     once = λ p q h i e. sym (number-is p h) ∙ e ∙ number-is q i;
   }
 
-  pub opened : {hq : List ℕ} → Heaped ts n hp hq 0 → Opened n hints ms ts cs hs hq
+  pub opened : {hq : List ℕ} → Heaped ts n hp hq 0 → StreamsOpened n hints ms ts cs hs hq
   unfolding statusesOf statusOf start padded
   opened x =
       record {

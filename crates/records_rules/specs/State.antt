@@ -6,7 +6,7 @@ use mathlib.Core.List.{List, [], _∷_}
 use lib.ListN.{length, getD}
 use lib.Dec.{eqb, leb}
 use Rattle.theory.specs.Answer.{Answer, answer}
-use Rattle.leaves.specs.Frame.{Read, whole, foundOf}
+use Rattle.leaves.specs.Frame.{Read, whole, readFound}
 use Rattle.records_rules.specs.Machine.{Stream, record-at, damage-at, says, end, start}
 use Rattle.records_rules.specs.Machine as machine
 use Rattle.records_rules.specs.View.{tab, statusesOf}
@@ -68,8 +68,8 @@ opening memory streams n = cond memory (cond streams (answer 0 (n ∷ n ∷ []))
 
 -- a read in numbers: what was found, the time, and length, kind and instrument in one
 unfoldable pub gotOf : ℕ → ℕ → ℕ → Read
-unfolding foundOf
-gotOf found t h = foundOf found (whole (h % 65536) (h / 65536 % 65536) (h / 4294967296) t)
+unfolding readFound
+gotOf found t h = readFound found (whole (h % 65536) (h / 65536 % 65536) (h / 4294967296) t)
 
 -- the place behind a record fits
 abbrev pub Small : ℕ → List ℕ → List ℕ → Type 0
@@ -87,7 +87,7 @@ pub record Says (b : ℕ → Stream) (n : ℕ) (ms ts cs hs : List ℕ) (x : Ans
   pub sound : StateOk n held ms' ts' cs' hs' hp'
 
 -- what an accepted opening of n streams leaves: each waits at its hint, every other place is empty, and the state is sound
-pub record Opened (n : ℕ) (hints ms ts cs hs hp : List ℕ) : Type 0 where
+pub record StreamsOpened (n : ℕ) (hints ms ts cs hs hp : List ℕ) : Type 0 where
   pub starts : statusesOf n ms ts cs hs ≡ start (padded n hints)
   pub sound : StateOk n n ms ts cs hs hp
   pub places : (q : ℕ) → q < 256 → (getD cs q 0 ≡ 0) × (getD hs q 0 ≡ 0)

@@ -8,7 +8,7 @@ use mathlib.Core.Option.{some}
 use mathlib.Core.List.{List}
 use lib.ListN.{length, getD, set}
 use lib.Seq.{set-getD, getD-set-same, getD-set-other}
-use Rattle.leaves.specs.Frame.{whole, ended, damaged, foundOf}
+use Rattle.leaves.specs.Frame.{whole, ended, damaged, readFound}
 use Rattle.leaves.specs.FrameLaws.{found-ended, found-damaged, found-whole}
 use Rattle.records_rules.specs.Machine.{Rec, Fits, Stream, record-at, damage-at, Status, waiting, standing, gone, key, turn, says, end}
 use Rattle.records_rules.specs.Machine as machine
@@ -32,10 +32,10 @@ unfolding gotOf
 got-whole k t l h = found-whole k (whole (l % 65536) (l / 65536 % 65536) (l / 4294967296) t) h
 
 -- what a read says, with its length, kind and instrument in one number
-pub got-packed : (k size kind instrument t : ℕ) → size < 65536 → kind < 65536 → gotOf k t (packed size kind instrument) ≡ foundOf k (whole size kind instrument t)
+pub got-packed : (k size kind instrument t : ℕ) → size < 65536 → kind < 65536 → gotOf k t (packed size kind instrument) ≡ readFound k (whole size kind instrument t)
 unfolding gotOf recIn
 got-packed k size kind instrument t below-size below-kind =
-    ap (λ (r : Rec). foundOf k (whole (r .size) (r .kind) (r .instrument) (r .time))) (recIn-packed size kind instrument t below-size below-kind)
+    ap (λ (r : Rec). readFound k (whole (r .size) (r .kind) (r .instrument) (r .time))) (recIn-packed size kind instrument t below-size below-kind)
 
 -- ---- a store at p, whoever is chosen
 module _ (n : ℕ) (ms ts cs hs : List ℕ) (p : ℕ) where

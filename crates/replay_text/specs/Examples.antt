@@ -4,7 +4,7 @@ use Prim.Native.Nat.{ℕ}
 use mathlib.Core.List.{List, [], _∷_, _++_}
 use Rattle.theory.specs.Fields.{field}
 use Rattle.leaves.specs.Frame.{frameAt}
-use Rattle.records_rules.specs.Literal.{told}
+use Rattle.records_rules.specs.Literal.{literalRun}
 use Rattle.lines.specs.Lines.{badLine, endLine}
 use Rattle.replay_text.specs.Replay.{replayText}
 
@@ -28,7 +28,7 @@ printed-text =
     ∷ 10 ∷ []
 
 pub printed : replayText printed-bundle ≡ printed-text
-unfolding replayText printed-bundle printed-text told frameAt field
+unfolding replayText printed-bundle printed-text literalRun frameAt field
 printed = refl
 
 -- no input is bad; one empty stream ends at once; with a byte more, with kind 2, or with a length below 6 it is bad
@@ -37,5 +37,5 @@ pub smallest : (replayText [] ≡ badLine)
     × (replayText (head 6 1 ++ (0 ∷ [])) ≡ badLine)
     × (replayText (head 6 2) ≡ badLine)
     × (replayText (head 5 1) ≡ badLine)
-unfolding replayText head told frameAt field badLine endLine
+unfolding replayText head literalRun frameAt field badLine endLine
 smallest = (refl, refl, refl, refl, refl)

@@ -10,7 +10,7 @@ use Rattle.theory.specs.Answer as theory
 use Rattle.leaves.specs.Refusal.{refused}
 use Rattle.records_rules.specs.Machine.{Stream, record-at, damage-at, Answer, says, end}
 use Rattle.records_rules.specs.Bytes.{bytesOf}
-use Rattle.records_rules.specs.Literal.{told}
+use Rattle.records_rules.specs.Literal.{literalRun}
 use Rattle.replay_text.specs.declared.replay.Replayed.{Replayed}
 use Rattle.replay_text.specs.declared.replay.Replayed.the-variants.{Text, Refused}
 use Rattle.lines.specs.Sections.{streamsIn}
@@ -36,9 +36,9 @@ linesOf (x ∷ xs) = lineOf x ++ linesOf xs
 
 -- the text of a bundle's streams, all hints 0; a bad bundle's
 unfoldable pub textOf : Option (List (List ℕ)) → List ℕ
-unfolding linesOf among told badLine
+unfolding linesOf among literalRun badLine
 textOf none = badLine
-textOf (some ss) = linesOf (told (among ss) (replicate (length ss) 0))
+textOf (some ss) = linesOf (literalRun (among ss) (replicate (length ss) 0))
 
 -- the text of a bundle's replay
 unfoldable pub replayText : List ℕ → List ℕ

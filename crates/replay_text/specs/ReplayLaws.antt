@@ -15,7 +15,7 @@ use Rattle.leaves.specs.Frame.{Read, whole, ended, damaged, judged, recordAt, f
 use Rattle.records_rules.specs.Machine.{Fits, Stream, Said, ownOn, ownF, own}
 use Rattle.records_rules.specs.Machine.{Status, Answer, says, end, Turn, turn, next, answer, rest, upTo, runF, start}
 use Rattle.records_rules.specs.Bytes.{bytesOf, frame-fits, streamsOf}
-use Rattle.records_rules.specs.Literal.{told, told-run}
+use Rattle.records_rules.specs.Literal.{literalRun, told-run}
 use Rattle.records_rules.specs.Least.{cond-case}
 use Rattle.records_rules.specs.Kept.{size, leftOf, sumBy, total, TurnOk, next-ok}
 use Rattle.records_rules.specs.Whole.{bytes, run, own-short}
@@ -222,9 +222,9 @@ apart-text bundle buffer cuts n bytes a h =
     let b = take bytes buffer in
     let c = take (n + 1) cuts in
     ap textOf (a .streams)
-    ∙ ap (λ (ss : List (List ℕ)). linesOf (told (among ss) (replicate (length ss) 0))) (sym (cut-down buffer cuts n bytes (a .cut)))
-    ∙ ap (λ (k : ℕ). linesOf (told (among (cutOut b c n)) (replicate k 0))) (length-cutOut b c n)
-    ∙ ap (λ (f : ℕ → Stream). linesOf (told f (replicate n 0))) (among-cuts b c n (length-take-le (n + 1) cuts h))
+    ∙ ap (λ (ss : List (List ℕ)). linesOf (literalRun (among ss) (replicate (length ss) 0))) (sym (cut-down buffer cuts n bytes (a .cut)))
+    ∙ ap (λ (k : ℕ). linesOf (literalRun (among (cutOut b c n)) (replicate k 0))) (length-cutOut b c n)
+    ∙ ap (λ (f : ℕ → Stream). linesOf (literalRun f (replicate n 0))) (among-cuts b c n (length-take-le (n + 1) cuts h))
     ∙ ap linesOf (told-run (streamsOf b c) (replicate n 0))
     ∙ sym (left-start (streamsOf b c) (replicate n 0))
 

@@ -12,7 +12,7 @@ use Rattle.records_rules.specs.Machine.{Stream, record-at, damage-at, Status, A
 use Rattle.records_rules.specs.Bytes.{streamsOf}
 use Rattle.records_rules.specs.Kept.{total}
 use Rattle.records_rules.specs.View.{tab, statusesOf}
-use Rattle.records_rules.specs.State.{answerOf, rightMemory, rightStreams, padded, opening, StateOk, Opened}
+use Rattle.records_rules.specs.State.{answerOf, rightMemory, rightStreams, padded, opening, StateOk, StreamsOpened}
 use Rattle.lines.specs.Lines.{recordLine, damageLine, endLine, Lays}
 use Rattle.replay_text.specs.Replay.{lineOf}
 use Rattle.replay_text.specs.ReplayLaws.{linesLeft, left-says, Writing, writing-start, writing-says, writing-end}
@@ -184,7 +184,7 @@ module _ {buffer cuts ms₀ ts₀ cs₀ hs₀ hp₀ text : List ℕ} (m : Mergea
   opening-done e = let d = done in cc
 
   -- and what it leaves is ready to be stepped through, from the machine's start
-  module _ {ms ts cs hs hp : List ℕ} (o : Opened (length cuts - 1) [] ms ts cs hs hp) where
+  module _ {ms ts cs hs hp : List ℕ} (o : StreamsOpened (length cuts - 1) [] ms ts cs hs hp) where
     pub opened-starts : statusesOf (length cuts - 1) ms ts cs hs ≡ start (replicate (length cuts - 1) 0)
     opened-starts = o .starts ∙ ap start (no-hints (length cuts - 1))
 

@@ -1,5 +1,5 @@
 // The whole text of a bundle's replay (document 01, "Merging records"), laid in lent bytes.
-use crate::telling::told;
+use crate::telling::tell_streams;
 use leaves::refusal::Refusal;
 use lines::lines::word;
 use lines::sections::Parted;
@@ -27,14 +27,14 @@ pub enum Replayed {
 }
 
 // Takes a bundle apart and writes its replay, or only the line that says that it is bad.
-fn written(bundle: &[u8], buffer: &mut [u8], cuts: &mut [u64], text: &mut [u8]) -> usize
+fn write_replay(bundle: &[u8], buffer: &mut [u8], cuts: &mut [u64], text: &mut [u8]) -> usize
     requires { ⌜ (60000 ≤ length (now buffer)) × (257 ≤ length (now cuts)) × (getD (now cuts) 0 0 ≡ 0) × (252441 ≤ length (now text)) ⌝ }
     ensures { λ r. ⌜ Lays (now (text .entry)) 0 (replayText (now (bundle .entry))) r (now (text .exit)) ⌝ }
 {
     match part(bundle, buffer, cuts) {
         Parted::Streams { count, bytes } => {
             let ends = count + 1;
-            told(&buffer[..bytes], &cuts[..ends], text)
+            tell_streams(&buffer[..bytes], &cuts[..ends], text)
         }
         Parted::Bad => word(text, 0, b"bad bundle\n"),
     }
@@ -73,6 +73,6 @@ pub fn replay(bundle: &[u8], text: &mut [u8]) -> Replayed
     }
     let mut buffer = bytes_space();
     let mut cuts = cuts_space();
-    let n = written(bundle, &mut buffer, &mut cuts, text);
+    let n = write_replay(bundle, &mut buffer, &mut cuts, text);
     Replayed::Text(n)
 }

@@ -138,7 +138,7 @@ fn steps(
 }
 
 // Opens the streams, with no hints, and writes their replay.
-fn merged(
+fn tell_opened(
     buffer: &[u8],
     cuts: &[u64],
     marks: &mut [u8],
@@ -172,7 +172,7 @@ fn merged(
 }
 
 // Writes the replay of the streams of a buffer between its cuts.
-pub fn told(buffer: &[u8], cuts: &[u64], text: &mut [u8]) -> usize
+pub fn tell_streams(buffer: &[u8], cuts: &[u64], text: &mut [u8]) -> usize
     requires { ⌜ Cut (now buffer) (now cuts) (now text) ⌝ }
     ensures { λ r. ⌜ Lays (now (text .entry)) 0 (linesLeft (streamsOf (now (buffer .entry)) (now (cuts .entry))) (machine.start (replicate (length (now (cuts .entry)) - 1) 0))) r (now (text .exit)) ⌝ }
 {
@@ -181,7 +181,7 @@ pub fn told(buffer: &[u8], cuts: &[u64], text: &mut [u8]) -> usize
     let mut places = empty_numbers();
     let mut heads = empty_numbers();
     let mut heap = empty_bytes();
-    merged(
+    tell_opened(
         buffer,
         cuts,
         &mut marks,

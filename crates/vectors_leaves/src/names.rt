@@ -1,7 +1,7 @@
 // Cases of names, each a call: full lists, bad names, bad lists, memory over its limits.
 use leaves_names::names::Checked;
+use leaves_names::names::NamePlace;
 use leaves_names::names::Named;
-use leaves_names::names::Placed;
 use vectors_text::Tally;
 use vectors_text::tried;
 ghost use mathlib.Core.Path.{_≡_};
@@ -50,11 +50,11 @@ fn lies(
     end: usize,
 ) -> bool {
     match leaves_names::names::place_of_name(bytes, ends, names, used, n) {
-        Placed::At {
+        NamePlace::At {
             first: from,
             end: to,
         } => from == first && to == end,
-        Placed::Refused(r) => end < first && leaves::refusal::number(r) as usize == first,
+        NamePlace::Refused(r) => end < first && leaves::refusal::number(r) as usize == first,
     }
 }
 

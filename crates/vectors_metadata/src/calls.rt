@@ -2,9 +2,9 @@
 // 0, of a refused one with the side that it was handed. The side that is merged in must be as it was, whatever the answer.
 use leaves::refusal::Refusal;
 use metadata_form::header::Header;
-use metadata_merge::merger::Finished;
-use metadata_merge::merger::Merged;
-use metadata_merge::merger::Opened;
+use metadata_merge::merger::FinishedMetadata;
+use metadata_merge::merger::MergedMetadata;
+use metadata_merge::merger::OpenedMetadata;
 use vectors_side::Side;
 use vectors_side::is_side;
 use vectors_side::side_at;
@@ -65,24 +65,24 @@ fn refused(refusal: Refusal, header: Header) -> Said {
     }
 }
 
-fn opened_says(opened: Opened, before: Header) -> Said {
+fn opened_says(opened: OpenedMetadata, before: Header) -> Said {
     match opened {
-        Opened::Done(h) => done(h),
-        Opened::Refused(r) => refused(r, before),
+        OpenedMetadata::Done(h) => done(h),
+        OpenedMetadata::Refused(r) => refused(r, before),
     }
 }
 
-fn merged_says(merged: Merged, before: Header) -> Said {
+fn merged_says(merged: MergedMetadata, before: Header) -> Said {
     match merged {
-        Merged::Done(h) => done(h),
-        Merged::Refused(r) => refused(r, before),
+        MergedMetadata::Done(h) => done(h),
+        MergedMetadata::Refused(r) => refused(r, before),
     }
 }
 
-fn finished_says(finished: Finished, before: Header) -> Said {
+fn finished_says(finished: FinishedMetadata, before: Header) -> Said {
     match finished {
-        Finished::Done(h) => done(h),
-        Finished::Refused(r) => refused(r, before),
+        FinishedMetadata::Done(h) => done(h),
+        FinishedMetadata::Refused(r) => refused(r, before),
     }
 }
 

@@ -3,7 +3,7 @@ use mathlib.Core.Path.{refl, sym, ap, _∙_}
 use Rattle.map_rules.specs.Looks.{numberIn as looked-number}
 use Rattle.map_look.specs.declared.lookup.Found.{Found}
 use Rattle.map_look.specs.Lookup.{foundOf}
-use Rattle.door_answers.specs.AnswersLaws.{told, done-number, done-value, done-given, not-number, not-value, not-given}
+use Rattle.door_answers.specs.AnswersLaws.{answer-same, done-number, done-value, done-given, not-number, not-value, not-given}
 use borrow.Author.Needs.{needs}
 use Rattle.door_map.proofs.map.desk_get_for_ts.Statement.{statement}
 use Rattle.door_map.proofs.map.desk_get_for_ts.Tie as tie
@@ -27,7 +27,7 @@ returns : tie.Need-returns
 returns c =
     let a = c .before .before .before .before .before .before .args in (
       λ t.
-          let e = told (λ (x : Found). foundOf x (c .before .before .before .get-for-ts .result .hint)) (c .before .before .before .get-for-ts .ensures .0 t .0) (c .before .answer .given .1) in
+          let e = answer-same (λ (x : Found). foundOf x (c .before .before .before .get-for-ts .result .hint)) (c .before .before .before .get-for-ts .ensures .0 t .0) (c .before .answer .given .1) in
           (done-number e, done-value (a .hint .now) 0 e, done-given (a .found .now) 1 e, done-value (a .symbol .now) 1 e),
       λ w. refl,
     )
@@ -36,7 +36,7 @@ returns-2 : tie.Need-returns-2
 returns-2 c =
     let a = c .before .before .before .before .before .args in (
       λ t.
-          let e = told (λ (x : Found). foundOf x (c .before .before .get-for-ts .result .hint)) (c .before .before .get-for-ts .ensures .0 t .0) (c .enum-told .given .1) in
+          let e = answer-same (λ (x : Found). foundOf x (c .before .before .get-for-ts .result .hint)) (c .before .before .get-for-ts .ensures .0 t .0) (c .enum-told .given .1) in
           (done-number e, done-value (a .hint .now) 0 e, done-given (a .found .now) 1 e, done-value (a .symbol .now) 1 e),
       λ w. refl,
     )
@@ -46,7 +46,7 @@ returns-3 c =
     let a = c .before .before .before .before .before .before .before .args in
     let r = c .before .before .answer2 .given .0 .0 in (
       λ t.
-          let e = told (λ (x : Found). foundOf x (c .before .before .before .before .get-for-ts .result .hint)) (c .before .before .before .before .get-for-ts .ensures .0 t .0) (c .before .before .answer2 .given .1) in
+          let e = answer-same (λ (x : Found). foundOf x (c .before .before .before .before .get-for-ts .result .hint)) (c .before .before .before .before .get-for-ts .ensures .0 t .0) (c .before .before .answer2 .given .1) in
           (not-number r (c .number .ensures) e, not-value r (a .hint .now) 0 e, not-given r (a .found .now) 1 e, not-value r (a .symbol .now) 1 e),
       λ w.
           c .number .ensures ∙ sym (ap (λ (x : Found). looked-number (foundOf x (c .before .before .before .before .get-for-ts .result .hint))) (c .before .before .answer2 .given .1)) ∙ c .before .before .before .before .get-for-ts .ensures .1 w,

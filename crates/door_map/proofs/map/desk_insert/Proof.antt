@@ -1,6 +1,6 @@
 -- Each arm of the match is what its case says. Assumes nothing.
 use Rattle.map_time.specs.Insert.{insertedOf}
-use Rattle.door_answers.specs.AnswersLaws.{told, done-number, done-value, not-number, not-value}
+use Rattle.door_answers.specs.AnswersLaws.{answer-same, done-number, done-value, not-number, not-value}
 use borrow.Author.Needs.{needs}
 use Rattle.door_map.proofs.map.desk_insert.Statement.{statement}
 use Rattle.door_map.proofs.map.desk_insert.Tie as tie
@@ -22,7 +22,7 @@ same-length c = search needs
 
 returns : tie.Need-returns
 returns c =
-    let e = told insertedOf (c .before .before .before .before .before .insert .ensures .answers) (c .before .inserted .given .1) in
+    let e = answer-same insertedOf (c .before .before .before .before .before .insert .ensures .answers) (c .before .inserted .given .1) in
     (done-number e, (done-value (c .before .before .before .before .before .before .before .before .before .args .used .now) 0 e, c .before .before .before .before .before .insert .ensures .memory))
 
 same-length-2 : tie.Need-same-length-2
@@ -30,7 +30,7 @@ same-length-2 c = search needs
 
 returns-2 : tie.Need-returns-2
 returns-2 c =
-    let e = told insertedOf (c .before .before .before .before .before .before .insert .ensures .answers) (c .before .before .inserted2 .given .1) in
+    let e = answer-same insertedOf (c .before .before .before .before .before .before .insert .ensures .answers) (c .before .before .inserted2 .given .1) in
     let r = c .before .before .inserted2 .given .0 .0 in
     (not-number r (c .number .ensures) e, (not-value r (c .before .before .before .before .before .before .before .before .before .before .args .used .now) 0 e, c .before .before .before .before .before .before .insert .ensures .memory))
 

@@ -1,6 +1,6 @@
 -- Each arm of the match is what its case says. Assumes nothing.
 use Rattle.leaves_names.specs.Names.{namedOf}
-use Rattle.door_answers.specs.AnswersLaws.{told, done-number, done-value, not-number, not-value}
+use Rattle.door_answers.specs.AnswersLaws.{answer-same, done-number, done-value, not-number, not-value}
 use borrow.Author.Needs.{needs}
 use Rattle.door_map.proofs.names.desk_number_of.Statement.{statement}
 use Rattle.door_map.proofs.names.desk_number_of.Tie as tie
@@ -25,7 +25,7 @@ same-length-2 c = search needs
 
 returns : tie.Need-returns
 returns c =
-    let e = told namedOf (c .before .before .before .before .before .before .before .number-of .ensures .0) (c .before .named .given .1) in (
+    let e = answer-same namedOf (c .before .before .before .before .before .before .before .number-of .ensures .0) (c .before .named .given .1) in (
       done-number e,
       (
         done-value (c .before .before .before .before .before .before .before .before .before .before .before .before .before .before .before .args .symbol .now) 0 e,
@@ -44,7 +44,7 @@ same-length-4 c = search needs
 
 returns-2 : tie.Need-returns-2
 returns-2 c =
-    let e = told namedOf (c .before .before .before .before .before .before .before .before .number-of .ensures .0) (c .before .before .named2 .given .1) in
+    let e = answer-same namedOf (c .before .before .before .before .before .before .before .before .number-of .ensures .0) (c .before .before .named2 .given .1) in
     let r = c .before .before .named2 .given .0 .0 in (
       not-number r (c .number .ensures) e,
       (

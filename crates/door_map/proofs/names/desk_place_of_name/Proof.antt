@@ -1,6 +1,6 @@
 -- Each arm of the match is what its case says. Assumes nothing.
 use Rattle.leaves_names.specs.Names.{placedOf}
-use Rattle.door_answers.specs.AnswersLaws.{told, done-number, done-value, not-number, not-value}
+use Rattle.door_answers.specs.AnswersLaws.{answer-same, done-number, done-value, not-number, not-value}
 use borrow.Author.Needs.{needs}
 use Rattle.door_map.proofs.names.desk_place_of_name.Statement.{statement}
 use Rattle.door_map.proofs.names.desk_place_of_name.Tie as tie
@@ -19,12 +19,12 @@ number-requires c κs = search needs
 
 returns : tie.Need-returns
 returns c =
-    let e = told placedOf (c .before .before .before .place-of-name .ensures) (c .before .placed .given .1) in
+    let e = answer-same placedOf (c .before .before .before .place-of-name .ensures) (c .before .placed .given .1) in
     (done-number e, (done-value (c .before .before .before .before .before .before .args .first .now) 0 e, done-value (c .before .before .before .before .before .before .args .end .now) 1 e))
 
 returns-2 : tie.Need-returns-2
 returns-2 c =
-    let e = told placedOf (c .before .before .before .before .place-of-name .ensures) (c .before .before .placed2 .given .1) in
+    let e = answer-same placedOf (c .before .before .before .before .place-of-name .ensures) (c .before .before .placed2 .given .1) in
     let r = c .before .before .placed2 .given .0 .0 in
     (not-number r (c .number .ensures) e, (not-value r (c .before .before .before .before .before .before .before .args .first .now) 0 e, not-value r (c .before .before .before .before .before .before .before .args .end .now) 1 e))
 

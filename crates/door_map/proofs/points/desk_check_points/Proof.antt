@@ -1,6 +1,6 @@
 -- Each arm of the match is what its case says. Assumes nothing.
 use Rattle.map_time.specs.Table.{checkedOf}
-use Rattle.door_answers.specs.AnswersLaws.{told, done-number, not-number}
+use Rattle.door_answers.specs.AnswersLaws.{answer-same, done-number, not-number}
 use borrow.Author.Needs.{needs}
 use Rattle.door_map.proofs.points.desk_check_points.Statement.{statement}
 use Rattle.door_map.proofs.points.desk_check_points.Tie as tie
@@ -18,10 +18,10 @@ number-requires : tie.Need-number-requires
 number-requires c κs = search needs
 
 returns : tie.Need-returns
-returns c = done-number (told checkedOf (c .before .before .check-points .ensures) (c .enum-told .given .1))
+returns c = done-number (answer-same checkedOf (c .before .before .check-points .ensures) (c .enum-told .given .1))
 
 returns-2 : tie.Need-returns-2
-returns-2 c = not-number (c .before .before .checked .given .0 .0) (c .number .ensures) (told checkedOf (c .before .before .before .before .check-points .ensures) (c .before .before .checked .given .1))
+returns-2 c = not-number (c .before .before .checked .given .0 .0) (c .number .ensures) (answer-same checkedOf (c .before .before .before .before .check-points .ensures) (c .before .before .checked .given .1))
 
 pub desk-check-points-spec : {M : Type 1} → statement M
 desk-check-points-spec =

@@ -1,6 +1,6 @@
 -- Each arm of the match is what its case says. Assumes nothing.
 use Rattle.map_record.specs.Mapping.{recordedOf}
-use Rattle.door_answers.specs.AnswersLaws.{told, done-number, done-value, done-damage, not-number, not-value, not-damage}
+use Rattle.door_answers.specs.AnswersLaws.{answer-same, done-number, done-value, done-damage, not-number, not-value, not-damage}
 use borrow.Author.Needs.{needs}
 use Rattle.door_map.proofs.points.desk_on_record_point.Statement.{statement}
 use Rattle.door_map.proofs.points.desk_on_record_point.Tie as tie
@@ -33,7 +33,7 @@ returns : tie.Need-returns
 returns c =
     let a = c .before .before .before .before .before .before .before .before .before .before .before .before .before .before .before .before .before .before .before .before .args in
     let x = c .before .before .before .before .before .before .before .before .before .on-record-point .ensures in
-    let e = told recordedOf (x .0) (c .before .recorded .given .1) in (
+    let e = answer-same recordedOf (x .0) (c .before .recorded .given .1) in (
       done-number e,
       (
         done-value (a .used .now) 0 e,
@@ -60,7 +60,7 @@ returns-2 : tie.Need-returns-2
 returns-2 c =
     let a = c .before .before .before .before .before .before .before .before .before .before .before .before .before .before .before .before .before .before .before .before .before .before .before .args in
     let x = c .before .before .before .before .before .before .before .before .before .before .before .before .on-record-point .ensures in
-    let e = told recordedOf (x .0) (c .before .before .before .before .recorded2 .given .1) in
+    let e = answer-same recordedOf (x .0) (c .before .before .before .before .recorded2 .given .1) in
     let r = c .before .before .before .before .recorded2 .given .0 .0 in (
       not-number r (c .number .ensures) e,
       (

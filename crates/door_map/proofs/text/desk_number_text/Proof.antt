@@ -2,7 +2,7 @@
 use mathlib.Core.Path.{ap}
 use Rattle.leaves.specs.NumberText.{readingOf}
 use Rattle.door_answers.specs.Answers.{numberIn, valueIn}
-use Rattle.door_answers.specs.AnswersLaws.{told, done-number, done-value}
+use Rattle.door_answers.specs.AnswersLaws.{answer-same, done-number, done-value}
 use borrow.Author.Needs.{needs}
 use Rattle.door_map.proofs.text.desk_number_text.Statement.{statement}
 use Rattle.door_map.proofs.text.desk_number_text.Tie as tie
@@ -18,13 +18,13 @@ enum-told c = search needs
 
 returns : tie.Need-returns
 returns c =
-    let e = told readingOf (c .before .before .before .number .ensures) (c .before .reading .given .1) in
+    let e = answer-same readingOf (c .before .before .before .number .ensures) (c .before .reading .given .1) in
     (done-number e, done-value (c .before .before .before .before .before .args .value .now) 0 e)
 
 returns-2 : tie.Need-returns-2
 unfolding numberIn valueIn
 returns-2 c =
-    let e = told readingOf (c .before .before .number .ensures) (c .enum-told .given .1) in
+    let e = answer-same readingOf (c .before .before .number .ensures) (c .enum-told .given .1) in
     (ap numberIn e, ap (valueIn (c .before .before .before .before .args .value .now) 0) e)
 
 pub desk-number-text-spec : {M : Type 1} → statement M

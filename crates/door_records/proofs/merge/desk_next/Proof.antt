@@ -1,7 +1,7 @@
 -- Each arm of the match is what its case says. Assumes nothing.
 use mathlib.Core.Path.{refl}
 use Rattle.records.specs.Merge.{turnOf}
-use Rattle.door_answers.specs.AnswersLaws.{told}
+use Rattle.door_answers.specs.AnswersLaws.{answer-same}
 use Rattle.door_records.specs.MergeLaws.{handed-record, handed-end, handed-not}
 use borrow.Author.Needs.{needs}
 use Rattle.door_records.proofs.merge.desk_next.Statement.{statement}
@@ -51,10 +51,10 @@ returns c =
     let a = c .before .before .before .before .before .before .before .before .before .before .before .before .before .before .before .before .before .before .before .before .before .before .before .before .before .before .before .args in (
       λ w.
           let x = c .before .before .before .before .before .before .before .before .before .before .before .before .before .next .ensures .1 .0 w in
-          (handed-record (a .found .now) (a .stream .now) (a .place .now) (a .long .now) (a .kind .now) (a .instrument .now) (a .time .now) (a .reason .now) (told turnOf (x .0) (c .before .answer .given .1)), x .1, x .2),
+          (handed-record (a .found .now) (a .stream .now) (a .place .now) (a .long .now) (a .kind .now) (a .instrument .now) (a .time .now) (a .reason .now) (answer-same turnOf (x .0) (c .before .answer .given .1)), x .1, x .2),
       λ w n h s.
           let x = c .before .before .before .before .before .before .before .before .before .before .before .before .before .next .ensures .1 .1 w n h s in
-          (handed-record (a .found .now) (a .stream .now) (a .place .now) (a .long .now) (a .kind .now) (a .instrument .now) (a .time .now) (a .reason .now) (told turnOf (x .heard) (c .before .answer .given .1)), record { heard = refl; leaves = x .leaves; sound = x .sound }),
+          (handed-record (a .found .now) (a .stream .now) (a .place .now) (a .long .now) (a .kind .now) (a .instrument .now) (a .time .now) (a .reason .now) (answer-same turnOf (x .heard) (c .before .answer .given .1)), record { heard = refl; leaves = x .leaves; sound = x .sound }),
     )
 
 same-length-6 : tie.Need-same-length-6
@@ -77,10 +77,10 @@ returns-2 c =
     let a = c .before .before .before .before .before .before .before .before .before .before .before .before .before .before .before .before .before .before .before .before .before .before .before .before .before .before .args in (
       λ w.
           let x = c .before .before .before .before .before .before .before .before .before .before .before .before .next .ensures .1 .0 w in
-          (handed-end (a .found .now) (a .stream .now) (a .place .now) (a .long .now) (a .kind .now) (a .instrument .now) (a .time .now) (a .reason .now) (told turnOf (x .0) (c .enum-told .given .1)), x .1, x .2),
+          (handed-end (a .found .now) (a .stream .now) (a .place .now) (a .long .now) (a .kind .now) (a .instrument .now) (a .time .now) (a .reason .now) (answer-same turnOf (x .0) (c .enum-told .given .1)), x .1, x .2),
       λ w n h s.
           let x = c .before .before .before .before .before .before .before .before .before .before .before .before .next .ensures .1 .1 w n h s in
-          (handed-end (a .found .now) (a .stream .now) (a .place .now) (a .long .now) (a .kind .now) (a .instrument .now) (a .time .now) (a .reason .now) (told turnOf (x .heard) (c .enum-told .given .1)), record { heard = refl; leaves = x .leaves; sound = x .sound }),
+          (handed-end (a .found .now) (a .stream .now) (a .place .now) (a .long .now) (a .kind .now) (a .instrument .now) (a .time .now) (a .reason .now) (answer-same turnOf (x .heard) (c .enum-told .given .1)), record { heard = refl; leaves = x .leaves; sound = x .sound }),
     )
 
 same-length-11 : tie.Need-same-length-11
@@ -103,10 +103,10 @@ returns-3 c =
     let a = c .before .before .before .before .before .before .before .before .before .before .before .before .before .before .before .before .before .before .before .before .before .before .before .before .before .before .before .before .before .before .before .before .before .before .args in (
       λ w.
           let x = c .before .before .before .before .before .before .before .before .before .before .before .before .before .before .before .before .before .before .before .before .next .ensures .1 .0 w in
-          (handed-not (a .found .now) (a .stream .now) (a .place .now) (a .long .now) (a .kind .now) (a .instrument .now) (a .time .now) (a .reason .now) (c .before .before .before .before .before .before .before .before .answer2 .given .0 .0) (c .number .ensures) (c .before .before .before .before .before .stream-in .ensures) (c .before .before .before .place-in .ensures) (c .before .reason-in .ensures) (told turnOf (x .0) (c .before .before .before .before .before .before .before .before .answer2 .given .1)), x .1, x .2),
+          (handed-not (a .found .now) (a .stream .now) (a .place .now) (a .long .now) (a .kind .now) (a .instrument .now) (a .time .now) (a .reason .now) (c .before .before .before .before .before .before .before .before .answer2 .given .0 .0) (c .number .ensures) (c .before .before .before .before .before .stream-in .ensures) (c .before .before .before .place-in .ensures) (c .before .reason-in .ensures) (answer-same turnOf (x .0) (c .before .before .before .before .before .before .before .before .answer2 .given .1)), x .1, x .2),
       λ w n h s.
           let x = c .before .before .before .before .before .before .before .before .before .before .before .before .before .before .before .before .before .before .before .before .next .ensures .1 .1 w n h s in
-          (handed-not (a .found .now) (a .stream .now) (a .place .now) (a .long .now) (a .kind .now) (a .instrument .now) (a .time .now) (a .reason .now) (c .before .before .before .before .before .before .before .before .answer2 .given .0 .0) (c .number .ensures) (c .before .before .before .before .before .stream-in .ensures) (c .before .before .before .place-in .ensures) (c .before .reason-in .ensures) (told turnOf (x .heard) (c .before .before .before .before .before .before .before .before .answer2 .given .1)), record { heard = refl; leaves = x .leaves; sound = x .sound }),
+          (handed-not (a .found .now) (a .stream .now) (a .place .now) (a .long .now) (a .kind .now) (a .instrument .now) (a .time .now) (a .reason .now) (c .before .before .before .before .before .before .before .before .answer2 .given .0 .0) (c .number .ensures) (c .before .before .before .before .before .stream-in .ensures) (c .before .before .before .place-in .ensures) (c .before .reason-in .ensures) (answer-same turnOf (x .heard) (c .before .before .before .before .before .before .before .before .answer2 .given .1)), record { heard = refl; leaves = x .leaves; sound = x .sound }),
     )
 
 pub desk-next-spec : {M : Type 1} → statement M

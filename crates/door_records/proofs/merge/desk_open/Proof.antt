@@ -1,6 +1,6 @@
 -- Each arm of the match is what its case says. Assumes nothing.
 use Rattle.records.specs.Merge.{openingOf}
-use Rattle.door_answers.specs.AnswersLaws.{told, done-number, done-value, not-number, not-value}
+use Rattle.door_answers.specs.AnswersLaws.{answer-same, done-number, done-value, not-number, not-value}
 use borrow.Author.Needs.{needs}
 use Rattle.door_records.proofs.merge.desk_open.Statement.{statement}
 use Rattle.door_records.proofs.merge.desk_open.Tie as tie
@@ -34,7 +34,7 @@ same-length-5 c = search needs
 
 returns : tie.Need-returns
 returns c =
-    let e = told openingOf (c .before .before .before .before .before .before .before .before .before .before .before .before .before .«open» .ensures .0) (c .before .opened .given .1) in
+    let e = answer-same openingOf (c .before .before .before .before .before .before .before .before .before .before .before .before .before .«open» .ensures .0) (c .before .opened .given .1) in
     (done-number e, (done-value (c .before .before .before .before .before .before .before .before .before .before .before .before .before .before .before .before .before .before .before .before .before .before .before .before .before .before .before .args .streams .now) 0 e, (done-value (c .before .before .before .before .before .before .before .before .before .before .before .before .before .before .before .before .before .before .before .before .before .before .before .before .before .before .before .args .held .now) 1 e, c .before .before .before .before .before .before .before .before .before .before .before .before .before .«open» .ensures .1)))
 
 same-length-6 : tie.Need-same-length-6
@@ -54,7 +54,7 @@ same-length-10 c = search needs
 
 returns-2 : tie.Need-returns-2
 returns-2 c =
-    let e = told openingOf (c .before .before .before .before .before .before .before .before .before .before .before .before .before .before .«open» .ensures .0) (c .before .before .opened2 .given .1) in
+    let e = answer-same openingOf (c .before .before .before .before .before .before .before .before .before .before .before .before .before .before .«open» .ensures .0) (c .before .before .opened2 .given .1) in
     let r = c .before .before .opened2 .given .0 .0 in
     (not-number r (c .number .ensures) e, (not-value r (c .before .before .before .before .before .before .before .before .before .before .before .before .before .before .before .before .before .before .before .before .before .before .before .before .before .before .before .before .args .streams .now) 0 e, (not-value r (c .before .before .before .before .before .before .before .before .before .before .before .before .before .before .before .before .before .before .before .before .before .before .before .before .before .before .before .before .args .held .now) 1 e, c .before .before .before .before .before .before .before .before .before .before .before .before .before .before .«open» .ensures .1)))
 

@@ -71,8 +71,8 @@ returns-5 c =
 u64-at-requires : tie.Need-u64-at-requires
 u64-at-requires c κs = search needs
 
-start-of-requires : tie.Need-start-of-requires
-start-of-requires c κs = search needs
+mapping-start-requires : tie.Need-mapping-start-requires
+mapping-start-requires c κs = search needs
 
 u64-at-requires-2 : tie.Need-u64-at-requires-2
 u64-at-requires-2 c κs = search needs
@@ -84,7 +84,7 @@ returns-6 c =
     let r = c .before .before .before .before .before .before .before .before .before .before .read-within in
     let h = r .result in
     let m = mapping-symbol b (h .found) (h .length) (h .kind) (h .instrument) (h .time) (r .ensures) (search needs) (search needs) (search needs) (search needs) in
-    rw m (cc (c .before .before .u64-at .ensures, c .before .start-of .ensures, c .u64-at2 .ensures))
+    rw m (cc (c .before .before .u64-at .ensures, c .before .mapping-start .ensures, c .u64-at2 .ensures))
 
 pub read-mapping-spec : {M : Type 1} → statement M
 read-mapping-spec =
@@ -102,6 +102,6 @@ read-mapping-spec =
     not-one-record-requires-4
     returns-5
     u64-at-requires
-    start-of-requires
+    mapping-start-requires
     u64-at-requires-2
     returns-6)

@@ -3,7 +3,7 @@ use mathlib.Core.Path.{_≡_, sym}
 use Prim.Native.Nat.{_+_}
 use native.Mathlib.Omega.{arith}
 use Rattle.theory.specs.Fields.{field}
-use Rattle.leaves.specs.Frame.{headOf, foundOf}
+use Rattle.leaves.specs.Frame.{headOf, readFound}
 use Rattle.leaves.specs.FrameLaws.{within-ended, within-short, within-low, within-high, within-past, within-whole}
 use borrow.Author.Needs.{needs}
 use Rattle.leaves.proofs.frame.read_within.Statement.{statement}
@@ -16,7 +16,7 @@ no-record-requires : tie.Need-no-record-requires
 no-record-requires c κs = search needs
 
 returns : tie.Need-returns
-unfolding headOf foundOf
+unfolding headOf readFound
 returns c =
     let a = c .before .before .before .before .args in
     let l = c .before .before .left-of in
@@ -29,7 +29,7 @@ no-record-requires-2 : tie.Need-no-record-requires-2
 no-record-requires-2 c κs = search needs
 
 returns-2 : tie.Need-returns-2
-unfolding headOf foundOf
+unfolding headOf readFound
 returns-2 c =
     let a = c .before .before .before .before .before .args in
     let l = c .before .before .before .left-of in
@@ -45,7 +45,7 @@ no-record-requires-3 : tie.Need-no-record-requires-3
 no-record-requires-3 c κs = search needs
 
 returns-3 : tie.Need-returns-3
-unfolding headOf foundOf
+unfolding headOf readFound
 returns-3 c =
     let a = c .before .before .before .before .before .before .before .args in
     let l = c .before .before .before .before .before .left-of in
@@ -56,7 +56,7 @@ no-record-requires-4 : tie.Need-no-record-requires-4
 no-record-requires-4 c κs = search needs
 
 returns-4 : tie.Need-returns-4
-unfolding headOf foundOf
+unfolding headOf readFound
 returns-4 c =
     let a = c .before .before .before .before .before .before .before .before .args in
     let l = c .before .before .before .before .before .before .left-of in
@@ -70,7 +70,7 @@ no-record-requires-5 : tie.Need-no-record-requires-5
 no-record-requires-5 c κs = search needs
 
 returns-5 : tie.Need-returns-5
-unfolding headOf foundOf
+unfolding headOf readFound
 returns-5 c =
     let a = c .before .before .before .before .before .before .before .before .before .args in
     let l = c .before .before .before .before .before .before .before .left-of in
@@ -96,7 +96,7 @@ u64-at-requires : tie.Need-u64-at-requires
 u64-at-requires c κs = search needs
 
 returns-6 : tie.Need-returns-6
-unfolding headOf foundOf
+unfolding headOf readFound
 returns-6 c =
     let a = c .before .before .before .before .before .before .before .before .before .before .before .args in
     let l = c .before .before .before .before .before .before .before .before .before .left-of in

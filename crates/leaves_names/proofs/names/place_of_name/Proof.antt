@@ -7,7 +7,7 @@ use native.Mathlib.Omega.{arith}
 use borrow.Author.Tests.{lt-ltb, le-ltb}
 use borrow.Author.Needs.{needs}
 use Rattle.theory.specs.Answer.{answer}
-use Rattle.leaves_names.specs.Names.{startOf, endOf, placeOfName}
+use Rattle.leaves_names.specs.Names.{nameStart, nameEnd, placeOfName}
 use Rattle.leaves_names.specs.NamesLaws.{memory, holds, fails}
 use Rattle.leaves_names.proofs.names.place_of_name.Statement.{statement}
 use Rattle.leaves_names.proofs.names.place_of_name.Tie as tie
@@ -53,8 +53,8 @@ returns-4 c =
     let a = c .before .before .before .before .before .before .before .before .before .before .args in
     let e = c .before .before .before .place .ensures .0 in
     let l : a .number < a .names = omega (arith, e, c .before .before .if3 .left) in
-    let first = c .before .name-start .ensures ∙ ap (startOf (a .ends .now)) e in
-    let end = c .name-end .ensures ∙ ap (endOf (a .ends .now)) e in
+    let first = c .before .name-start .ensures ∙ ap (nameStart (a .ends .now)) e in
+    let end = c .name-end .ensures ∙ ap (nameEnd (a .ends .now)) e in
     rw (
       holds (c .before .before .before .before .before .before .before .is-memory .ensures) (c .before .before .before .before .before .before .if1 .left),
       holds (c .before .before .before .before .before .is-list .ensures) (c .before .before .before .before .if2 .left),

@@ -41,11 +41,11 @@ sub-total c = search needs
 add-total-4 : tie.Need-add-total-4
 add-total-4 c = search needs
 
-start-of-requires : tie.Need-start-of-requires
-start-of-requires c κs = search needs
+joined-start-requires : tie.Need-joined-start-requires
+joined-start-requires c κs = search needs
 
-end-of-requires : tie.Need-end-of-requires
-end-of-requires c κs = search needs
+joined-end-requires : tie.Need-joined-end-requires
+joined-end-requires c κs = search needs
 
 replace-requires : tie.Need-replace-requires
 replace-requires c κs = (search (needs, in-order), search needs, search needs, search needs, search needs, search needs)
@@ -83,7 +83,7 @@ returns-2 c =
     let entry = known .before in
     placed (entry .pre .2) (entry .pre .3) (low .find .ensures) (high .find2 .ensures)
     (firsting .first-of .ensures .0) (firsting .first-of .ensures .1) (lasting .last-of .ensures .0) (lasting .last-of .ensures .1)
-    (lefting .left-count .ensures .0) (righting .right-count .ensures .0) (starting .start-of .ensures) (ending .end-of .ensures)
+    (lefting .left-count .ensures .0) (righting .right-count .ensures .0) (starting .joined-start .ensures) (ending .joined-end .ensures)
     (λ x. omega (arith, known .slice-known .given x)) (λ x. omega (arith, c .slice-known3 .given x))
     (entry .pre .0) (clearing .clear .kept .0 ∙ replacing .replace .kept .0) (entry .pre .1) (fitting .if1 .left)
     (replacing .replace .ensures) (clearing .clear .ensures)
@@ -103,8 +103,8 @@ place-spec =
     add-total-3
     sub-total
     add-total-4
-    start-of-requires
-    end-of-requires
+    joined-start-requires
+    joined-end-requires
     replace-requires
     clear-requires
     same-length

@@ -3,13 +3,13 @@ use mathlib.Core.Path.{_≡_, refl, sym, ap, _∙_}
 use Prim.Native.Nat.{ℕ, _≤_, _<_, _+_, _-_, _*_}
 use native.Mathlib.Omega.{arith}
 use lib.ListN.{length}
-use Rattle.metadata_form.specs.Words.{lay, rest, rest-cons, rest-nil, put-length, lay-turn, lay-end}
+use Rattle.metadata_form.specs.Words.{layIntervals, rest, rest-cons, rest-nil, put-length, lay-turn, lay-end}
 use Rattle.metadata_form.proofs.words.copy_intervals.Statement.{statement}
 use Rattle.metadata_form.proofs.words.copy_intervals.Tie as tie
 
 abbrev Inv-loop : tie.InvT-loop
 Inv-loop a from to out₀ at i₀ k₀ out i k =
-    (i ≤ to) × (length out ≡ length out₀) × (3 * (k + (to - i)) ≤ length out) × (lay out k (rest a i to) ≡ lay out₀ at (rest a from to))
+    (i ≤ to) × (length out ≡ length out₀) × (3 * (k + (to - i)) ≤ length out) × (layIntervals out k (rest a i to) ≡ layIntervals out₀ at (rest a from to))
 
 abbrev μ-loop : tie.MeasureT-loop
 μ-loop a from to out₀ at i₀ k₀ out i k = to - i

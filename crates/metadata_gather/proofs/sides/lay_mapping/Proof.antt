@@ -5,7 +5,7 @@ use mathlib.Core.List.{List}
 use denote.Ref.{now}
 use Rattle.metadata_rules.specs.Words.{nameAt}
 use Rattle.metadata_rules.specs.declared.Interval.{Interval}
-use Rattle.metadata_form.specs.Words.{putMapping, lay}
+use Rattle.metadata_form.specs.Words.{putMapping, layIntervals}
 use Rattle.metadata_lists.specs.Name.{rest-list}
 use borrow.Author.Needs.{needs}
 use Rattle.metadata_gather.proofs.sides.lay_mapping.Statement.{statement}
@@ -45,7 +45,7 @@ returns : tie.Need-returns
 returns c = (
   c .before .before .before .before .before .before .put-mapping .ensures ∙ ap (λ (u : ℕ). putMapping (now (c .before .before .before .before .before .before .before .before .before .before .before .before .before .before .before .before .args .gm)) (c .before .before .before .before .before .before .before .before .before .before .before .before .before .before .before .before .args .q) u (c .before .before .before .before .before .before .before .before .before .count-at .result)) (c .before .before .before .before .before .before .before .before .before .before .name-at .ensures)
       ∙ ap (putMapping (now (c .before .before .before .before .before .before .before .before .before .before .before .before .before .before .before .before .args .gm)) (c .before .before .before .before .before .before .before .before .before .before .before .before .before .before .before .before .args .q) (nameAt (now (c .before .before .before .before .before .before .before .before .before .before .before .before .before .before .before .before .args .m)) (c .before .before .before .before .before .before .before .before .before .before .before .before .before .before .before .before .args .j))) (c .before .before .before .before .before .before .before .before .before .count-at .ensures),
-  c .before .before .copy-intervals .ensures ∙ ap (lay (now (c .before .before .before .before .before .before .before .before .before .before .before .before .before .before .before .before .args .gv)) (c .before .before .before .before .before .before .before .before .before .before .before .before .before .before .before .before .args .k)) (rest-list _ _ _ _ _ _ refl (c .before .before .before .before .before .before .before .before .before .count-at .ensures)),
+  c .before .before .copy-intervals .ensures ∙ ap (layIntervals (now (c .before .before .before .before .before .before .before .before .before .before .before .before .before .before .before .before .args .gv)) (c .before .before .before .before .before .before .before .before .before .before .before .before .before .before .before .before .args .k)) (rest-list _ _ _ _ _ _ refl (c .before .before .before .before .before .before .before .before .before .count-at .ensures)),
   ap (λ (u : ℕ). c .before .before .before .before .before .before .before .before .before .before .before .before .before .before .before .before .args .k + u) (c .before .before .before .before .before .before .before .before .before .count-at .ensures),
 )
 

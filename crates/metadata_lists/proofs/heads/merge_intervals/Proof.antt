@@ -8,8 +8,8 @@ use borrow.Author.Tests.{ltb-true, ltb-false}
 use mathlib.Core.Logic.{⊎-elim}
 use lib.ListN.{length}
 use Rattle.metadata_rules.specs.Walk.{walk}
-use Rattle.metadata_form.specs.Words.{lay, rest, put-length, laid-length}
-use Rattle.metadata_lists.specs.Heads.{finish, endOf, step-counts, turn-clash, turn-out, end-left, end-right}
+use Rattle.metadata_form.specs.Words.{layIntervals, rest, put-length, laid-length}
+use Rattle.metadata_lists.specs.Heads.{finish, endedOf, step-counts, turn-conflict, turn-out, end-left, end-right}
 use Rattle.metadata_lists.proofs.heads.merge_intervals.Statement.{statement}
 use Rattle.metadata_lists.proofs.heads.merge_intervals.Tie as tie
 
@@ -40,8 +40,8 @@ same-length : tie.Need-same-length Inv-loop μ-loop
 same-length c = c .before .before .before .before .before .before .before .loop .inv .2
 
 returns : tie.Need-returns Inv-loop μ-loop
-unfolding endOf
-returns c = turn-clash _ _ _ _ _ _ _ _ (omega arith) (omega (arith, ltb-true)) _ _ (c .before .before .before .before .interval-at .ensures) (c .before .before .before .interval-at2 .ensures) (sym (c .enum-told .given .1) ∙ c .before .before .turn .ensures) ∙ c .before .before .before .before .before .before .before .loop .inv .4
+unfolding endedOf
+returns c = turn-conflict _ _ _ _ _ _ _ _ (omega arith) (omega (arith, ltb-true)) _ _ (c .before .before .before .before .interval-at .ensures) (c .before .before .before .interval-at2 .ensures) (sym (c .enum-told .given .1) ∙ c .before .before .turn .ensures) ∙ c .before .before .before .before .before .before .before .loop .inv .4
 
 enum-known-s : tie.Need-enum-known-s Inv-loop μ-loop
 enum-known-s c = search needs
@@ -85,7 +85,7 @@ same-length-2 : tie.Need-same-length-2 Inv-loop μ-loop
 same-length-2 c = laid-length _ _ _ _ (c .before .before .copy-intervals .ensures) ∙ c .before .before .before .before .before .before .loop .inv .2
 
 returns-2 : tie.Need-returns-2 Inv-loop μ-loop
-unfolding endOf
+unfolding endedOf
 returns-2 c = end-left _ _ _ _ _ _ _ _ _ (⊎-elim (λ w. ltb-false _ _ (w .1 .left)) (λ w. absurd (omega arith)) (c .before .before .before .before .before .loop-test .came)) (c .before .before .copy-intervals .ensures) ∙ c .before .before .before .before .before .before .loop .inv .4
 
 copy-intervals-requires-2 : tie.Need-copy-intervals-requires-2 Inv-loop μ-loop
@@ -101,7 +101,7 @@ same-length-3 : tie.Need-same-length-3 Inv-loop μ-loop
 same-length-3 c = laid-length _ _ _ _ (c .before .before .copy-intervals2 .ensures) ∙ c .before .before .before .before .before .before .loop .inv .2
 
 returns-3 : tie.Need-returns-3 Inv-loop μ-loop
-unfolding endOf
+unfolding endedOf
 returns-3 c = end-right _ _ _ _ _ _ _ _ _ (omega arith) (c .before .before .copy-intervals2 .ensures) ∙ c .before .before .before .before .before .before .loop .inv .4
 
 pub merge-intervals-spec : {M : Type 1} → statement M

@@ -7,8 +7,8 @@ use borrow.Author.Needs.{needs}
 use lib.ListN.{length, getD}
 use Rattle.metadata_lists.specs.declared.heads.Walked.{Walked}
 use Rattle.metadata_form.specs.Words.{laid-length}
-use Rattle.metadata_lists.specs.Heads.{endOf}
-use Rattle.metadata_lists.specs.Name.{Going, Ready, start-going, turn-needs, turn-clashed, turn-going, turn-further, going-end}
+use Rattle.metadata_lists.specs.Heads.{endedOf}
+use Rattle.metadata_lists.specs.Name.{Going, Ready, start-going, turn-needs, turn-conflict, turn-going, turn-further, going-end}
 use Rattle.metadata_lists.proofs.name.lay_name.Statement.{statement}
 use Rattle.metadata_lists.proofs.name.lay_name.Tie as tie
 
@@ -67,10 +67,10 @@ same-length-2 : tie.Need-same-length-2 Inv-loop μ-loop
 same-length-2 c = c .before .before .before .before .merge-intervals .kept .1 .1 .1 .1 .1 .1 .0 ∙ c .before .before .before .before .before .before .before .before .before .before .before .before .before .before .before .loop .inv .0 .same
 
 returns : tie.Need-returns Inv-loop μ-loop
-unfolding endOf
+unfolding endedOf
 returns c =
-    turn-clashed _ _ _ _ _ _ _ _ _ (c .before .before .before .before .before .before .before .before .before .before .before .before .before .before .before .before .before .before .before .before .before .before .pre) _ _ _ _ (c .before .before .before .before .before .before .before .before .before .before .before .before .before .before .before .loop .inv .0) (c .before .before .before .before .before .before .before .before .before .before .before .before .before .before .loop-test .taken) _ _ (sym (c .before .before .before .before .before .before .before .before .before .before .before .before .before .before .before .loop .inv .1)) (c .before .before .before .before .before .before .before .before .before .before .before .copy-intervals .ensures) _ _ refl (c .before .before .before .before .before .before .before .count-at .ensures) (c .before .before .before .before .merge-intervals .last .1 .1 .1 .1 .1 .1 .0)
-    (ap (λ (q : Walked). endOf q (c .before .before .before .before .merge-intervals .last .1 .1 .1 .1 .1 .1 .0)) (sym (c .enum-told .given .1)) ∙ c .before .before .before .before .merge-intervals .ensures)
+    turn-conflict _ _ _ _ _ _ _ _ _ (c .before .before .before .before .before .before .before .before .before .before .before .before .before .before .before .before .before .before .before .before .before .before .pre) _ _ _ _ (c .before .before .before .before .before .before .before .before .before .before .before .before .before .before .before .loop .inv .0) (c .before .before .before .before .before .before .before .before .before .before .before .before .before .before .loop-test .taken) _ _ (sym (c .before .before .before .before .before .before .before .before .before .before .before .before .before .before .before .loop .inv .1)) (c .before .before .before .before .before .before .before .before .before .before .before .copy-intervals .ensures) _ _ refl (c .before .before .before .before .before .before .before .count-at .ensures) (c .before .before .before .before .merge-intervals .last .1 .1 .1 .1 .1 .1 .0)
+    (ap (λ (q : Walked). endedOf q (c .before .before .before .before .merge-intervals .last .1 .1 .1 .1 .1 .1 .0)) (sym (c .enum-told .given .1)) ∙ c .before .before .before .before .merge-intervals .ensures)
 
 enum-known-w : tie.Need-enum-known-w Inv-loop μ-loop
 enum-known-w c = search needs
@@ -78,7 +78,7 @@ enum-known-w c = search needs
 sub-n : tie.Need-sub-n Inv-loop μ-loop
 sub-n c =
     (turn-going _ _ _ _ _ _ _ _ _ (c .before .before .before .before .before .before .before .before .before .before .before .before .before .before .before .before .before .before .before .before .before .before .before .pre) _ _ _ _ (c .before .before .before .before .before .before .before .before .before .before .before .before .before .before .before .before .loop .inv .0) (c .before .before .before .before .before .before .before .before .before .before .before .before .before .before .before .loop-test .taken) _ _ (sym (c .before .before .before .before .before .before .before .before .before .before .before .before .before .before .before .before .loop .inv .1)) (c .before .before .before .before .before .before .before .before .before .before .before .before .copy-intervals .ensures) _ _ refl (c .before .before .before .before .before .before .before .before .count-at .ensures) _ _ _
-    (ap (λ (q : Walked). endOf q (c .before .before .before .before .before .merge-intervals .last .1 .1 .1 .1 .1 .1 .0)) (sym (c .before .w .given .1)) ∙ c .before .before .before .before .before .merge-intervals .ensures) (c .before .before .before .before .before .merge-intervals .kept .1 .1 .1 .1 .1 .1 .0) refl) .1
+    (ap (λ (q : Walked). endedOf q (c .before .before .before .before .before .merge-intervals .last .1 .1 .1 .1 .1 .1 .0)) (sym (c .before .w .given .1)) ∙ c .before .before .before .before .before .merge-intervals .ensures) (c .before .before .before .before .before .merge-intervals .kept .1 .1 .1 .1 .1 .1 .0) refl) .1
 
 mul-j : tie.Need-mul-j Inv-loop μ-loop
 mul-j c = let a = c .before .before .before .before .before .before .before .before .before .before .before .before .before .before .before .before .before .before .before .before .before .before .before .pre .links in omega (arith, c .before .before .before .before .before .before .before .before .before .before .before .before .before .before .before .before .before .before .before .before .before .before .before .good .1 .1 .1 .1 .0)
@@ -92,7 +92,7 @@ loop-less c = let f = turn-further _ _ _ _ _ _ _ _ _ (c .before .before .before 
 loop-again : tie.Need-loop-again Inv-loop μ-loop
 loop-again c = (
   (turn-going _ _ _ _ _ _ _ _ _ (c .before .before .before .before .before .before .before .before .before .before .before .before .before .before .before .before .before .before .before .before .before .before .before .before .pre) _ _ _ _ (c .before .before .before .before .before .before .before .before .before .before .before .before .before .before .before .before .before .loop .inv .0) (c .before .before .before .before .before .before .before .before .before .before .before .before .before .before .before .before .loop-test .taken) _ _ (sym (c .before .before .before .before .before .before .before .before .before .before .before .before .before .before .before .before .before .loop .inv .1)) (c .before .before .before .before .before .before .before .before .before .before .before .before .before .copy-intervals .ensures) _ _ refl (c .before .before .before .before .before .before .before .before .before .count-at .ensures) _ _ _
-      (ap (λ (q : Walked). endOf q (c .before .before .before .before .before .before .merge-intervals .last .1 .1 .1 .1 .1 .1 .0)) (sym (c .before .before .w .given .1)) ∙ c .before .before .before .before .before .before .merge-intervals .ensures) (c .before .before .before .before .before .before .merge-intervals .kept .1 .1 .1 .1 .1 .1 .0) refl) .0,
+      (ap (λ (q : Walked). endedOf q (c .before .before .before .before .before .before .merge-intervals .last .1 .1 .1 .1 .1 .1 .0)) (sym (c .before .before .w .given .1)) ∙ c .before .before .before .before .before .before .merge-intervals .ensures) (c .before .before .before .before .before .before .merge-intervals .kept .1 .1 .1 .1 .1 .1 .0) refl) .0,
   laid-length _ _ _ _ (c .before .before .before .before .before .before .before .before .before .before .before .before .before .copy-intervals .ensures) ∙ c .before .before .before .before .before .before .before .before .before .before .before .before .before .before .before .before .before .loop .inv .1,
 )
 
@@ -106,7 +106,7 @@ same-length-4 : tie.Need-same-length-4 Inv-loop μ-loop
 same-length-4 c = c .before .loop .inv .0 .same
 
 returns-2 : tie.Need-returns-2 Inv-loop μ-loop
-unfolding endOf
+unfolding endedOf
 returns-2 c = going-end _ _ _ _ _ _ _ _ _ (c .before .before .before .before .before .before .before .before .pre) _ _ _ _ (c .before .loop .inv .0) (c .loop-test .left)
 
 pub lay-name-spec : {M : Type 1} → statement M

@@ -4,8 +4,8 @@ use Prim.Native.Nat.{ℕ, _≤_, _<_, _+_, _-_, _*_}
 use native.Mathlib.Omega.{arith}
 use lib.ListN.{length, getD}
 use Rattle.metadata_lists.specs.declared.heads.Walked.{Walked}
-use Rattle.metadata_lists.specs.Heads.{endOf}
-use Rattle.metadata_lists.specs.Names.{endNames, place-skip, place-clash, place-laid, laid-bound}
+use Rattle.metadata_lists.specs.Heads.{endedOf}
+use Rattle.metadata_lists.specs.Names.{endNames, place-skip, place-conflict, place-laid, laid-bound}
 use borrow.Author.Needs.{needs}
 use Rattle.metadata_lists.proofs.names.lay_place.Statement.{statement}
 use Rattle.metadata_lists.proofs.names.lay_place.Tie as tie
@@ -36,11 +36,11 @@ enum-known-w : tie.Need-enum-known-w
 enum-known-w c = search needs
 
 sub-c : tie.Need-sub-c
-sub-c c = (laid-bound _ _ _ _ _ _ (c .before .before .before .before .before .before .before .lay-name .last .1 .1 .1 .1 .1 .1 .1 .0) _ _ (ap (λ (x : Walked). endOf x (c .before .before .before .before .before .before .before .lay-name .last .1 .1 .1 .1 .1 .1 .1 .0)) (sym (c .before .w .given .1)) ∙ c .before .before .before .before .before .before .before .lay-name .ensures)) .0
+sub-c c = (laid-bound _ _ _ _ _ _ (c .before .before .before .before .before .before .before .lay-name .last .1 .1 .1 .1 .1 .1 .1 .0) _ _ (ap (λ (x : Walked). endedOf x (c .before .before .before .before .before .before .before .lay-name .last .1 .1 .1 .1 .1 .1 .1 .0)) (sym (c .before .w .given .1)) ∙ c .before .before .before .before .before .before .before .lay-name .ensures)) .0
 
 put-mapping-requires : tie.Need-put-mapping-requires
 put-mapping-requires c κs =
-    let b = laid-bound _ _ _ _ _ _ (c .before .before .before .before .before .before .before .before .lay-name .last .1 .1 .1 .1 .1 .1 .1 .0) _ _ (ap (λ (x : Walked). endOf x (c .before .before .before .before .before .before .before .before .lay-name .last .1 .1 .1 .1 .1 .1 .1 .0)) (sym (c .before .before .w .given .1)) ∙ c .before .before .before .before .before .before .before .before .lay-name .ensures) in
+    let b = laid-bound _ _ _ _ _ _ (c .before .before .before .before .before .before .before .before .lay-name .last .1 .1 .1 .1 .1 .1 .1 .0) _ _ (ap (λ (x : Walked). endedOf x (c .before .before .before .before .before .before .before .before .lay-name .last .1 .1 .1 .1 .1 .1 .1 .0)) (sym (c .before .before .w .given .1)) ∙ c .before .before .before .before .before .before .before .before .lay-name .ensures) in
     let r = c .before .before .before .before .before .before .before .before .before .before .before .before .before .before .before .before .before .before .before .before .before .before .before .pre .5 (ap (λ (y : ℕ). getD (c .before .before .before .before .before .before .before .before .before .before .before .before .before .before .before .before .before .before .before .before .before .before .before .args .head .now) y 0) (sym (c .before .before .before .before .before .before .before .before .before .before .before .before .before .wide .ensures ∙ c .before .before .before .before .before .before .before .before .before .before .before .before .before .before .name-at .ensures)) ∙ c .before .before .before .before .before .before .before .before .before .before .before .if1 .left) .room in
     (omega (arith, c .before .before .before .before .before .before .before .before .before .before .before .before .before .before .before .before .before .before .before .before .before .before .before .pre .0), omega (arith, c .before .before .before .before .before .before .before .before .before .before .before .before .before .before .before .before .before .before .before .before .before .before .before .pre .4))
 
@@ -55,7 +55,7 @@ same-length-2 c = search needs
 
 returns-2 : tie.Need-returns-2
 unfolding endNames
-returns-2 c = place-clash _ _ _ _ _ _ _ _ _ (c .before .before .before .before .before .before .lay-name .last .1 .1 .1 .1 .1 .1 .1 .0) _ _ (c .before .before .before .before .before .before .before .before .before .before .before .wide .ensures ∙ c .before .before .before .before .before .before .before .before .before .before .before .before .name-at .ensures) (c .before .before .before .before .before .before .before .before .before .if1 .left) (ap (λ (x : Walked). endOf x (c .before .before .before .before .before .before .lay-name .last .1 .1 .1 .1 .1 .1 .1 .0)) (sym (c .enum-told .given .1)) ∙ c .before .before .before .before .before .before .lay-name .ensures)
+returns-2 c = place-conflict _ _ _ _ _ _ _ _ _ (c .before .before .before .before .before .before .lay-name .last .1 .1 .1 .1 .1 .1 .1 .0) _ _ (c .before .before .before .before .before .before .before .before .before .before .before .wide .ensures ∙ c .before .before .before .before .before .before .before .before .before .before .before .before .name-at .ensures) (c .before .before .before .before .before .before .before .before .before .if1 .left) (ap (λ (x : Walked). endedOf x (c .before .before .before .before .before .before .lay-name .last .1 .1 .1 .1 .1 .1 .1 .0)) (sym (c .enum-told .given .1)) ∙ c .before .before .before .before .before .before .lay-name .ensures)
 
 same-length-3 : tie.Need-same-length-3
 same-length-3 c = search needs
@@ -68,7 +68,7 @@ same-length-5 c = search needs
 
 returns-3 : tie.Need-returns-3
 unfolding endNames
-returns-3 c = place-laid _ _ _ _ _ _ _ _ _ _ (c .before .before .before .before .before .before .before .before .before .before .before .lay-name .last .1 .1 .1 .1 .1 .1 .1 .0) _ _ _ _ (c .before .before .before .before .before .before .before .before .before .before .before .before .before .before .before .before .before .name-at .ensures) (ap (λ (y : ℕ). getD (c .before .before .before .before .before .before .before .before .before .before .before .before .before .before .before .before .before .before .before .before .before .before .before .before .before .before .args .head .now) y 0) (sym (c .before .before .before .before .before .before .before .before .before .before .before .before .before .before .before .before .wide .ensures)) ∙ c .before .before .before .before .before .before .before .before .before .before .before .before .before .before .if1 .left) (ap (λ (x : Walked). endOf x (c .before .before .before .before .before .before .before .before .before .before .before .lay-name .last .1 .1 .1 .1 .1 .1 .1 .0)) (sym (c .before .before .before .before .before .w .given .1)) ∙ c .before .before .before .before .before .before .before .before .before .before .before .lay-name .ensures) refl (c .before .before .put-mapping .ensures)
+returns-3 c = place-laid _ _ _ _ _ _ _ _ _ _ (c .before .before .before .before .before .before .before .before .before .before .before .lay-name .last .1 .1 .1 .1 .1 .1 .1 .0) _ _ _ _ (c .before .before .before .before .before .before .before .before .before .before .before .before .before .before .before .before .before .name-at .ensures) (ap (λ (y : ℕ). getD (c .before .before .before .before .before .before .before .before .before .before .before .before .before .before .before .before .before .before .before .before .before .before .before .before .before .before .args .head .now) y 0) (sym (c .before .before .before .before .before .before .before .before .before .before .before .before .before .before .before .before .wide .ensures)) ∙ c .before .before .before .before .before .before .before .before .before .before .before .before .before .before .if1 .left) (ap (λ (x : Walked). endedOf x (c .before .before .before .before .before .before .before .before .before .before .before .lay-name .last .1 .1 .1 .1 .1 .1 .1 .0)) (sym (c .before .before .before .before .before .w .given .1)) ∙ c .before .before .before .before .before .before .before .before .before .before .before .lay-name .ensures) refl (c .before .before .put-mapping .ensures)
 
 pub lay-place-spec : {M : Type 1} → statement M
 lay-place-spec =

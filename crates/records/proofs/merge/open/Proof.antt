@@ -38,8 +38,8 @@ sub-n c =
     let count = right-count (length (a .buffer .now)) (a .cuts .now) (length (a .hints .now)) (bit-yes _ (c .before .streams-right .ensures) (c .if2 .left)) in
     omega (arith, count .0)
 
-lay-requires : tie.Need-lay-requires
-lay-requires c κs =
+lay-streams-requires : tie.Need-lay-streams-requires
+lay-streams-requires c κs =
     let a = c .before .before .before .before .before .before .before .before .before .before .before .before .before .before .before .before .before .args in
     let room = right-room 0 (a .marks .now) (a .times .now) (a .places .now) (a .heads .now) (a .heap .now) (bit-yes _ (c .before .before .before .before .before .before .before .before .memory .ensures) (c .before .before .before .before .before .before .before .if1 .left)) in
     let count = right-count (length (a .buffer .now)) (a .cuts .now) (length (a .hints .now)) (bit-yes _ (c .before .before .before .before .before .before .streams-right .ensures) (c .before .before .before .before .before .if2 .left)) in
@@ -50,7 +50,7 @@ heapify-requires c κs =
     let a = c .before .before .before .before .before .before .before .before .before .before .before .before .before .before .before .before .before .before .before .before .before .before .before .before .before .before .before .before .before .before .args in
     let room = right-room 0 (a .marks .now) (a .times .now) (a .places .now) (a .heads .now) (a .heap .now) (bit-yes _ (c .before .before .before .before .before .before .before .before .before .before .before .before .before .before .before .before .before .before .before .before .before .memory .ensures) (c .before .before .before .before .before .before .before .before .before .before .before .before .before .before .before .before .before .before .before .before .if1 .left)) in
     let count = right-count (length (a .buffer .now)) (a .cuts .now) (length (a .hints .now)) (bit-yes _ (c .before .before .before .before .before .before .before .before .before .before .before .before .before .before .before .before .before .before .before .streams-right .ensures) (c .before .before .before .before .before .before .before .before .before .before .before .before .before .before .before .before .before .before .if2 .left)) in
-    let kept = c .before .before .before .before .before .before .before .before .before .before .before .before .lay .kept .1 .1 in
+    let kept = c .before .before .before .before .before .before .before .before .before .before .before .before .lay-streams .kept .1 .1 in
     omega (arith, count .1, room, kept .0, kept .1 .0, kept .1 .1 .0, kept .1 .1 .1 .0, kept .1 .1 .1 .1 .0)
 
 same-length : tie.Need-same-length
@@ -76,7 +76,7 @@ returns-3 c =
     let count = right-count (length (a .buffer .now)) (a .cuts .now) (length (a .hints .now)) (bit-yes _ (c .before .before .before .before .before .before .before .before .before .before .before .before .before .before .before .before .before .before .before .before .before .before .streams-right .ensures) (c .before .before .before .before .before .before .before .before .before .before .before .before .before .before .before .before .before .before .before .before .before .if2 .left)) in
     let yes : rightMemory 0 (length (a .marks .now)) (length (a .times .now)) (length (a .places .now)) (length (a .heads .now)) (length (a .heap .now)) ≡ true = bit-yes _ (c .before .before .before .before .before .before .before .before .before .before .before .before .before .before .before .before .before .before .before .before .before .before .before .before .memory .ensures) (c .before .before .before .before .before .before .before .before .before .before .before .before .before .before .before .before .before .before .before .before .before .before .before .if1 .left) in
     let yes₂ : rightStreams (length (a .buffer .now)) (a .cuts .now) (length (a .hints .now)) ≡ true = bit-yes _ (c .before .before .before .before .before .before .before .before .before .before .before .before .before .before .before .before .before .before .before .before .before .before .streams-right .ensures) (c .before .before .before .before .before .before .before .before .before .before .before .before .before .before .before .before .before .before .before .before .before .if2 .left) in
-    rw (yes, yes₂) (refl, ((λ e. let z : _≡_ {A = ℕ} 0 1 = cc in absurd (omega arith)), (λ e. opened (omega (arith, count .1)) (count .2) (c .before .before .before .before .before .before .before .before .before .before .before .before .before .before .before .lay .ensures) (c .before .before .heapify .ensures))))
+    rw (yes, yes₂) (refl, ((λ e. let z : _≡_ {A = ℕ} 0 1 = cc in absurd (omega arith)), (λ e. opened (omega (arith, count .1)) (count .2) (c .before .before .before .before .before .before .before .before .before .before .before .before .before .before .before .lay-streams .ensures) (c .before .before .heapify .ensures))))
 
 pub open-spec : {M : Type 1} → statement M
 open-spec =
@@ -87,7 +87,7 @@ open-spec =
     streams-right-requires
     returns-2
     sub-n
-    lay-requires
+    lay-streams-requires
     heapify-requires
     same-length
     same-length-2

@@ -19,14 +19,14 @@ slice-aggregate-written c = search needs
 slice-aggregate-written-2 : tie.Need-slice-aggregate-written-2
 slice-aggregate-written-2 c = search needs
 
-written-requires : tie.Need-written-requires
-written-requires c κs = search needs
+write-replay-requires : tie.Need-write-replay-requires
+write-replay-requires c κs = search needs
 
 same-length : tie.Need-same-length
 same-length c = search needs
 
 returns-2 : tie.Need-returns-2
-returns-2 c = replay-laid _ (c .before .before .before .before .before .before .before .before .before .before .if1 .left) (c .before .before .before .before .written .ensures)
+returns-2 c = replay-laid _ (c .before .before .before .before .before .before .before .before .before .before .if1 .left) (c .before .before .before .before .write-replay .ensures)
 
 pub replay-spec : {M : Type 1} → statement M
 replay-spec =
@@ -37,6 +37,6 @@ replay-spec =
     cuts-space-requires
     slice-aggregate-written
     slice-aggregate-written-2
-    written-requires
+    write-replay-requires
     same-length
     returns-2)

@@ -4,8 +4,8 @@ use denote.Ref.{now}
 use Rattle.lines.specs.Lines.{badLine}
 use Rattle.replay_text.specs.ReplayCalls.{Taken, taken-bytes, taken-cuts, taken-cut, taken-lays, bad-lays}
 use borrow.Author.Needs.{needs}
-use Rattle.replay_text.proofs.replay.written.Statement.{statement}
-use Rattle.replay_text.proofs.replay.written.Tie as tie
+use Rattle.replay_text.proofs.replay.write_replay.Statement.{statement}
+use Rattle.replay_text.proofs.replay.write_replay.Tie as tie
 
 part-requires : tie.Need-part-requires
 part-requires c κs = search needs
@@ -40,8 +40,8 @@ slice-reshare-prefix-told-2 c = taken-cuts (taken (c .before)) .0
 slice-aggregate-told-2 : tie.Need-slice-aggregate-told-2
 slice-aggregate-told-2 c = taken-cuts (taken (c .before .before)) .1
 
-told-requires : tie.Need-told-requires
-told-requires c κs = taken-cut (taken (c .before .before .before))
+tell-streams-requires : tie.Need-tell-streams-requires
+tell-streams-requires c κs = taken-cut (taken (c .before .before .before))
 
 enum-told : tie.Need-enum-told
 enum-told c = search needs
@@ -62,7 +62,7 @@ same-length-3 : tie.Need-same-length-3
 same-length-3 c = search needs
 
 returns : tie.Need-returns
-returns c = taken-lays (taken (c .before .before .before .before .before .before)) (c .before .before .told .ensures)
+returns c = taken-lays (taken (c .before .before .before .before .before .before)) (c .before .before .tell-streams .ensures)
 
 same-length-4 : tie.Need-same-length-4
 same-length-4 c = search needs
@@ -78,8 +78,8 @@ unfolding badLine
 returns-2 c =
     bad-lays _ (rw (c .before .before .before .before .before .enum-told .given .1) at (c .before .before .before .before .before .before .before .before .before .before .before .part .ensures)) (c .before .before .word .ensures)
 
-pub written-spec : {M : Type 1} → statement M
-written-spec =
+pub write-replay-spec : {M : Type 1} → statement M
+write-replay-spec =
     tie.close
     (tie.spec
     part-requires
@@ -89,7 +89,7 @@ written-spec =
     slice-aggregate-told
     slice-reshare-prefix-told-2
     slice-aggregate-told-2
-    told-requires
+    tell-streams-requires
     enum-told
     slice-aggregate-word
     word-requires

@@ -3,8 +3,8 @@ use Prim.Native.Nat.{_-_}
 use native.Mathlib.Omega.{arith}
 use Rattle.records_rules.specs.Opening.{Laying, laying-start, laying-step}
 use borrow.Author.Needs.{needs}
-use Rattle.records.proofs.opening.lay.Statement.{statement}
-use Rattle.records.proofs.opening.lay.Tie as tie
+use Rattle.records.proofs.opening.lay_streams.Statement.{statement}
+use Rattle.records.proofs.opening.lay_streams.Tie as tie
 
 abbrev Inv-loop : tie.InvT-loop
 Inv-loop n hints marks₀ times₀ places₀ heads₀ heap₀ i₀ marks times places heads heap i = Laying n i hints marks₀ times₀ places₀ heads₀ heap₀ marks times places heads heap
@@ -76,8 +76,8 @@ same-length-5 c = search needs
 returns : tie.Need-returns Inv-loop μ-loop
 returns c = λ q h. c .before .loop .inv .laid q (omega arith)
 
-pub lay-spec : {M : Type 1} → statement M
-lay-spec =
+pub lay-streams-spec : {M : Type 1} → statement M
+lay-streams-spec =
     tie.close
     (tie.spec
     Inv-loop

@@ -4,8 +4,8 @@ use Rattle.leaves.specs.FrameLaws.{refused-not-done}
 use Rattle.records.specs.Merge.{openingOf}
 use Rattle.replay_text.specs.Telling.{opening-right, opening-held, opening-done, opened-starts, opened-ready}
 use borrow.Author.Needs.{needs}
-use Rattle.replay_text.proofs.telling.merged.Statement.{statement}
-use Rattle.replay_text.proofs.telling.merged.Tie as tie
+use Rattle.replay_text.proofs.telling.tell_opened.Statement.{statement}
+use Rattle.replay_text.proofs.telling.tell_opened.Tie as tie
 
 array-share-prefix-no-hint : tie.Need-array-share-prefix-no-hint
 array-share-prefix-no-hint c = search needs
@@ -72,8 +72,8 @@ returns-2 c =
     let m = c .before .before .before .before .before .before .before .before .before .before .before .before .before .before .before .before .before .before .before .before .before .before .before .before .before .before .before .pre in
     absurd (refused-not-done (c .enum-told .given .0 .0) (opening-done m (ap openingOf (sym (c .enum-told .given .1)) ∙ c .before .before .before .before .before .before .before .before .before .before .before .before .«open» .ensures .0)))
 
-pub merged-spec : {M : Type 1} → statement M
-merged-spec =
+pub tell-opened-spec : {M : Type 1} → statement M
+tell-opened-spec =
     tie.close
     (tie.spec
     array-share-prefix-no-hint

@@ -1,8 +1,8 @@
 -- Each way through the tests is one law. Assumes nothing.
 use Rattle.map_rules.specs.Pieces.{start-yes, start-not, start-ge}
 use borrow.Author.Needs.{needs}
-use Rattle.map_time.proofs.insert.start_of.Statement.{statement}
-use Rattle.map_time.proofs.insert.start_of.Tie as tie
+use Rattle.map_time.proofs.insert.joined_start.Statement.{statement}
+use Rattle.map_time.proofs.insert.joined_start.Tie as tie
 
 same-value-requires : tie.Need-same-value-requires
 same-value-requires c κs = search needs
@@ -16,5 +16,5 @@ returns-2 c = search (needs, start-yes, start-not, start-ge)
 returns-3 : tie.Need-returns-3
 returns-3 c = search (needs, start-yes, start-not, start-ge)
 
-pub start-of-spec : {M : Type 1} → statement M
-start-of-spec = tie.close (tie.spec same-value-requires returns returns-2 returns-3)
+pub joined-start-spec : {M : Type 1} → statement M
+joined-start-spec = tie.close (tie.spec same-value-requires returns returns-2 returns-3)

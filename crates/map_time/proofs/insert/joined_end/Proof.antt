@@ -1,8 +1,8 @@
 -- Each way through the tests is one law. Assumes nothing.
 use Rattle.map_rules.specs.Pieces.{end-yes, end-not, end-ge}
 use borrow.Author.Needs.{needs}
-use Rattle.map_time.proofs.insert.end_of.Statement.{statement}
-use Rattle.map_time.proofs.insert.end_of.Tie as tie
+use Rattle.map_time.proofs.insert.joined_end.Statement.{statement}
+use Rattle.map_time.proofs.insert.joined_end.Tie as tie
 
 same-value-requires : tie.Need-same-value-requires
 same-value-requires c κs = search needs
@@ -16,5 +16,5 @@ returns-2 c = search (needs, end-yes, end-not, end-ge)
 returns-3 : tie.Need-returns-3
 returns-3 c = search (needs, end-yes, end-not, end-ge)
 
-pub end-of-spec : {M : Type 1} → statement M
-end-of-spec = tie.close (tie.spec same-value-requires returns returns-2 returns-3)
+pub joined-end-spec : {M : Type 1} → statement M
+joined-end-spec = tie.close (tie.spec same-value-requires returns returns-2 returns-3)
