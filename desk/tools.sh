@@ -1,4 +1,4 @@
-# Sourced by desk/run and oracle/differential, from the repository's root: the door's archive, and C programs over it.
+# Sourced by desk/run, oracle/differential and bench/run, from the repository's root: the door's archive, and C programs over it.
 #
 # DESK_CC says how a C program is built. `cc`: by the machine's own compiler for x86-64, which on another machine is Debian's
 # x86_64-linux-gnu-gcc. `kit`: by the kit's clang and linker with the headers of desk/bare, which needs no package. Without it: cc
@@ -16,11 +16,16 @@ if [ "$machine" = x86_64 ]; then compiler=(cc) emulator=(); else
 fi
 if [ -n "${DESK_CC:-}" ]; then how=$DESK_CC; elif [ "$machine" = x86_64 ] && command -v cc >/dev/null; then how=cc; else how=kit; fi
 
-# the archive, unless it is newer than everything that it is made of
+# the archive of every door's exports, unless it is newer than everything that it is made of
 make_archive() {
     mkdir -p target/desk
     if [ -e "$archive" ] && [ -z "$(find crates crates.txt -newer "$archive" -print -quit)" ]; then return; fi
-    rt staticlib door_map >target/desk/staticlib.log 2>&1 || { tail -20 target/desk/staticlib.log; echo 'desk: the archive failed'; return 1; }
+    local door
+    for door in "${doors[@]}"; do
+        rt staticlib "$door" >target/desk/staticlib.log 2>&1 || { tail -20 target/desk/staticlib.log; echo "desk: the archive of $door failed"; return 1; }
+    done
+    rm -f "$archive"
+    { echo "create $archive"; printf 'addlib target/staticlib/lib%s.a\n' "${doors[@]}"; echo save; echo end; } | "$toolchain/bin/llvm-ar" -M
 }
 
 # desk/NAME.c to target/desk/NAME
