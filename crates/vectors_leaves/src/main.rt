@@ -1,9 +1,8 @@
 // Runs the cases that stand on standard input, one to a line, over the leaves, and prints a line for each group of them.
 // A case is of dates (m, d), UTF-8 (u), number text (n), frames (f) or single records (r); the data itself says what a line
-// means. A case that is answered otherwise than expected is printed. Names are tried by calls.
+// means. A case that is answered otherwise than expected is printed.
 mod dates;
 mod frames;
-mod names;
 mod texts;
 
 ghost use mathlib.Core.Path.{_≡_};
@@ -67,5 +66,4 @@ fn main() {
     run(b"number texts", text, b'n');
     run(b"frames", text, b'f');
     run(b"single records", text, b'r');
-    names::run();
 }
