@@ -48,7 +48,7 @@ pub extern "C" fn desk_open(
 {
     let opened = records::merge::open(buffer, cuts, hints, marks, times, places, heads, heap);
     match opened {
-        Opening::StreamsOpened {
+        Opening::Opened {
             streams: count,
             held: in_heap,
         } => {

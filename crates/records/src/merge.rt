@@ -59,7 +59,7 @@ pub struct Turned {
 
 // What an opening answers: the streams, and how many of them the heap holds.
 pub enum Opening {
-    StreamsOpened { streams: usize, held: usize },
+    Opened { streams: usize, held: usize },
     Refused(Refusal),
 }
 
@@ -286,7 +286,7 @@ pub fn open(
     let n = cuts.len() - 1;
     lay_streams(n, hints, marks, times, places, heads, heap);
     heapify(times, heap, n);
-    Opening::StreamsOpened {
+    Opening::Opened {
         streams: n,
         held: n,
     }
