@@ -1,5 +1,6 @@
 /* Every function of the C door on good and bad input: every refusal that it can give, lengths one off, numbers in use over their
- * room, the largest hints; and after each refusal every byte that was lent is compared with what it was. */
+ * room, the largest hints; and after each refusal every byte that was lent is compared with what it was. At the end each sentence
+ * of the header on what stands behind the pointers after an answer is read against the code. */
 #include "desk.h"
 
 #include <stdio.h>
@@ -44,9 +45,11 @@ static struct desk {
 
 #define DONE(call) is((call) == DESK_DONE, #call " is done", __LINE__)
 
+static uint8_t pattern = 0xA5;
+
 /* Everything holds something before it is set. */
 static void begin(void) {
-    memset(&d, 0xA5, sizeof d);
+    memset(&d, pattern, sizeof d);
     d.used = d.points_used = d.names = d.size = 0;
 }
 
@@ -857,6 +860,570 @@ static void test_builds(void) {
     BUILDS_REFUSE(DESK_OUTSIDE_QUERY, 0, 1, p.header[DESK_END] = (first + 1) * day);
 }
 
+/* ---- What stands behind the pointers afterwards. One function an export reads the header's sentences, first with one pattern, then
+ * with another: all that is lent holds the pattern before a call, and after it `d` whole is what it was but for what the sentence
+ * of that number says. */
+
+static uint32_t seen; /* the numbers that an export has returned, a bit each */
+
+/* What calls only read and does not stand in `d`. */
+static struct {
+    uint8_t record[sizeof record], buffer[sizeof buffer];
+    uint64_t header[DESK_HEADER_WORDS + 1];
+    uint32_t list[LISTS][LIST_ROOM];
+} only_read;
+
+/* The numbers that calls hand back hold the pattern, and everything is noted. */
+static void note(void) {
+    uint64_t n = UINT64_C(0x0101010101010101) * pattern;
+    d.hint = d.moment = d.reason = d.stream = d.place = d.time = n;
+    d.streams = d.first = d.end = (size_t)n;
+    d.found = d.symbol = d.day = d.date = d.value = d.instrument = d.field = (uint32_t)n;
+    d.length = d.kind = (uint16_t)n;
+    was = d;
+    memcpy(only_read.record, record, sizeof record);
+    memcpy(only_read.buffer, buffer, sizeof buffer);
+    memcpy(only_read.header, added_header, sizeof added_header);
+    memcpy(only_read.list, added_list, sizeof added_list);
+}
+
+static int as_noted(void) {
+    return memcmp(&d, &was, sizeof d) == 0 && memcmp(record, only_read.record, sizeof record) == 0 &&
+           memcmp(buffer, only_read.buffer, sizeof buffer) == 0 &&
+           memcmp(added_header, only_read.header, sizeof added_header) == 0 &&
+           memcmp(added_list, only_read.list, sizeof added_list) == 0;
+}
+
+static int returns(uint32_t number, uint32_t expected) {
+    if (number < 32) seen |= 1u << number;
+    return number == expected;
+}
+
+/* After the number all is as before, but for what the rest says of `was`. */
+#define AFTER(number, call, ...)                                                   \
+    do {                                                                           \
+        note();                                                                    \
+        is(returns((call), (number)), #call " is " #number, __LINE__);             \
+        __VA_ARGS__;                                                               \
+        is(as_noted(), #call ", after " #number ": " #__VA_ARGS__, __LINE__);      \
+    } while (0)
+#define ALL_AS_BEFORE (void)0
+
+/* The export has returned all of these numbers, and no other. */
+static void answered(const uint32_t *numbers, size_t len, int line) {
+    uint32_t expected = 0;
+    while (len-- != 0) expected |= 1u << *numbers++;
+    is(seen == expected, "each number that the header names, and no other", line);
+    seen = 0;
+}
+#define ANSWERED(...) answered((const uint32_t[]){__VA_ARGS__}, sizeof((const uint32_t[]){__VA_ARGS__}) / 4, __LINE__)
+
+static void after_check(void) {
+    begin();
+    put_interval(d.table, 0, 1, 0, 10, 20);
+    AFTER(DESK_DONE, desk_check(d.table, whole, 1, 1), ALL_AS_BEFORE);
+    AFTER(DESK_BAD_MEMORY, desk_check(d.table, whole - 1, 1, 1), ALL_AS_BEFORE);
+    AFTER(DESK_ILL_FORMED, desk_check(d.table, whole, 2, 1), ALL_AS_BEFORE);
+    ANSWERED(DESK_DONE, DESK_BAD_MEMORY, DESK_ILL_FORMED);
+}
+
+static void after_insert(void) {
+    begin();
+    AFTER(DESK_DONE, insert(1, 10, 30, 0), was.used = 1, put_interval(was.table, 0, 1, 0, 10, 30));
+    AFTER(DESK_DONE, insert(1, 15, 18, 1), was.used = 3, put_interval(was.table, 0, 1, 0, 10, 15),
+          put_interval(was.table, 1, 1, 1, 15, 18), put_interval(was.table, 2, 1, 0, 18, 30));
+    AFTER(DESK_DONE, insert(1, 15, 18, 0), was.used = 1, put_interval(was.table, 0, 1, 0, 10, 30), memset(was.table + 24, 0, 48));
+    AFTER(DESK_DONE, insert(1, 5, 5, 9), ALL_AS_BEFORE);
+    AFTER(DESK_BAD_MEMORY, desk_insert(d.table, whole - 1, &d.used, 2, 1, 5, 6, 1), ALL_AS_BEFORE);
+    AFTER(DESK_ILL_FORMED, desk_insert(d.table, whole, &d.used, 0, 1, 5, 6, 1), ALL_AS_BEFORE);
+    AFTER(DESK_REVERSED, insert(1, 6, 5, 1), ALL_AS_BEFORE);
+    AFTER(DESK_UNKNOWN_SYMBOL, insert(1, 5, 6, 2), ALL_AS_BEFORE);
+    AFTER(DESK_NO_ROOM, desk_insert(d.table, 24, &d.used, 2, 1, 15, 18, 1), ALL_AS_BEFORE);
+    ANSWERED(DESK_DONE, DESK_BAD_MEMORY, DESK_ILL_FORMED, DESK_REVERSED, DESK_UNKNOWN_SYMBOL, DESK_NO_ROOM);
+}
+
+static uint32_t look(size_t table_len, uint32_t instrument, uint64_t moment) {
+    return desk_get_for_ts(d.table, table_len, d.used, instrument, moment, &d.hint, &d.found, &d.symbol);
+}
+
+static void after_get_for_ts(void) {
+    begin();
+    put_interval(d.table, 0, 1, 5, 10, 20);
+    put_interval(d.table, 1, 1, 6, 30, 40);
+    d.used = 2;
+    AFTER(DESK_DONE, look(whole, 1, 30), was.found = 1, was.symbol = 6, was.hint = 1);
+    AFTER(DESK_DONE, look(whole, 1, 20), was.found = was.symbol = 0, was.hint = 0);
+    AFTER(DESK_DONE, look(whole, 1, 9), was.found = was.symbol = 0);  /* before the first interval */
+    AFTER(DESK_DONE, look(whole, 2, 30), was.found = was.symbol = 0); /* an unknown instrument */
+    AFTER(DESK_BAD_MEMORY, look(whole - 1, 1, 30), ALL_AS_BEFORE);
+    put_interval(d.table, 1, 1, 6, 15, 40); /* overlaps: 14 from the check, and the three say nothing */
+    AFTER(DESK_DONE, look(whole, 1, 30), was.found = d.found, was.symbol = d.symbol, was.hint = d.hint);
+    ANSWERED(DESK_DONE, DESK_BAD_MEMORY);
+}
+
+/* A name has joined the list. */
+static void joins(const char *text) {
+    size_t len = strlen(text);
+    memcpy(was.bytes + was.size, text, len);
+    was.size += len;
+    was.ends[was.names++] = (uint32_t)was.size;
+}
+
+#define AFTER_RECORD(number, made, ...)                   \
+    do {                                                  \
+        size_t len = (made);                              \
+        AFTER(number, record_on(len), __VA_ARGS__);       \
+    } while (0)
+
+/* What both mapping calls leave where they store nothing: two names and at least one row are in use. */
+static void after_records_that_store_nothing(void) {
+    int over_time = on == desk_on_record;
+    uint8_t *symbol = (over_time ? d.table : d.points) + 4, old = *symbol;
+    size_t full = over_time ? d.used * DESK_INTERVAL_BYTES : d.points_used * DESK_POINT_BYTES, lent = room;
+    AFTER_RECORD(DESK_DONE, mapping(3, 8, 10, 20, "NEW"), ALL_AS_BEFORE); /* another kind */
+    AFTER_RECORD(DESK_DAMAGED, (mapping(2, 8, 10, 20, "NEW"), 15), was.reason = DESK_SHORT);
+    AFTER_RECORD(DESK_DAMAGED, (mapping(2, 8, 10, 20, "NEW"), put(record, 2, 15), 35), was.reason = DESK_BAD_LENGTH);
+    AFTER_RECORD(DESK_DAMAGED, mapping(2, 8, 10, 20, "NEW") + 1, was.reason = DESK_PAST_END);
+    AFTER_RECORD(DESK_DAMAGED, (mapping(2, 8, 10, 20, ""), put(record, 2, 31), 31), was.reason = DESK_SHORT_BODY);
+    AFTER_RECORD(DESK_BAD_NAME, mapping(2, 8, 10, 20, "\xC3"), ALL_AS_BEFORE);
+    room = lent - 1;
+    AFTER_RECORD(DESK_BAD_MEMORY, mapping(2, 8, 10, 20, "NEW"), ALL_AS_BEFORE);
+    room = full;
+    AFTER_RECORD(DESK_NO_ROOM, mapping(2, 8, 10, 20, "NEW"), ALL_AS_BEFORE);
+    room = lent;
+    *symbol = 9;
+    AFTER_RECORD(DESK_ILL_FORMED, mapping(2, 8, 10, 20, "NEW"), ALL_AS_BEFORE);
+    *symbol = old;
+    d.size--;
+    AFTER_RECORD(DESK_ILL_FORMED, mapping(2, 8, 10, 20, "NEW"), ALL_AS_BEFORE);
+    d.size++;
+    DONE(name("a", 1));
+    DONE(name("b", 1));
+    AFTER_RECORD(DESK_NO_NAME_ROOM, mapping(2, 8, 10, 20, "NEW"), ALL_AS_BEFORE);
+}
+
+static void after_on_record(void) {
+    begin();
+    on = desk_on_record, room = whole;
+    AFTER_RECORD(DESK_DONE, mapping(2, 7, 10, 20, "ESZ4"), was.used = 1, put_interval(was.table, 0, 7, 0, 10, 20), joins("ESZ4"));
+    AFTER_RECORD(DESK_DONE, mapping(2, 7, 14, 16, "ESH5"), was.used = 3, put_interval(was.table, 0, 7, 0, 10, 14),
+                 put_interval(was.table, 1, 7, 1, 14, 16), put_interval(was.table, 2, 7, 0, 16, 20), joins("ESH5"));
+    AFTER_RECORD(DESK_DONE, mapping(2, 7, 14, 16, "ESZ4"), was.used = 1, put_interval(was.table, 0, 7, 0, 10, 20),
+                 memset(was.table + 24, 0, 48)); /* an old name */
+    AFTER_RECORD(DESK_DONE, mapping(2, 7, 5, 5, "NEW"), ALL_AS_BEFORE);
+    AFTER_RECORD(DESK_REVERSED, mapping(2, 7, 6, 5, "NEW"), ALL_AS_BEFORE);
+    after_records_that_store_nothing();
+    ANSWERED(DESK_DONE, DESK_BAD_MEMORY, DESK_ILL_FORMED, DESK_DAMAGED, DESK_BAD_NAME, DESK_REVERSED, DESK_NO_NAME_ROOM,
+             DESK_NO_ROOM);
+}
+
+static void put_point(uint8_t *points, size_t i, uint32_t instrument, uint32_t symbol) {
+    put(points + i * DESK_POINT_BYTES, 4, instrument);
+    put(points + i * DESK_POINT_BYTES + 4, 4, symbol);
+}
+
+static void after_check_points(void) {
+    begin();
+    put_point(d.points, 0, 7, 0);
+    AFTER(DESK_DONE, desk_check_points(d.points, 24, 1, 1), ALL_AS_BEFORE);
+    AFTER(DESK_BAD_MEMORY, desk_check_points(d.points, 23, 1, 1), ALL_AS_BEFORE);
+    AFTER(DESK_ILL_FORMED, desk_check_points(d.points, 24, 1, 0), ALL_AS_BEFORE);
+    ANSWERED(DESK_DONE, DESK_BAD_MEMORY, DESK_ILL_FORMED);
+}
+
+static void after_get_point(void) {
+    begin();
+    put_point(d.points, 0, 7, 5);
+    put_point(d.points, 1, 9, 6);
+    AFTER(DESK_DONE, desk_get_point(d.points, 24, 2, 9, &d.found, &d.symbol), was.found = 1, was.symbol = 6);
+    AFTER(DESK_DONE, desk_get_point(d.points, 24, 2, 8, &d.found, &d.symbol), was.found = was.symbol = 0);
+    AFTER(DESK_BAD_MEMORY, desk_get_point(d.points, 23, 2, 9, &d.found, &d.symbol), ALL_AS_BEFORE);
+    put_point(d.points, 0, 9, 5); /* an instrument twice: 14 from the check, and the two say nothing */
+    AFTER(DESK_DONE, desk_get_point(d.points, 24, 2, 9, &d.found, &d.symbol), was.found = d.found, was.symbol = d.symbol);
+    ANSWERED(DESK_DONE, DESK_BAD_MEMORY);
+}
+
+static void after_on_record_point(void) {
+    begin();
+    on = desk_on_record_point, room = POINTS * DESK_POINT_BYTES;
+    AFTER_RECORD(DESK_DONE, mapping(2, 7, 10, 20, "ESZ4"), was.points_used = 1, put_point(was.points, 0, 7, 0), joins("ESZ4"));
+    AFTER_RECORD(DESK_DONE, mapping(2, 5, 20, 10, "ESH5"), was.points_used = 2, put_point(was.points, 0, 5, 1),
+                 put_point(was.points, 1, 7, 0), joins("ESH5"));
+    AFTER_RECORD(DESK_DONE, mapping(2, 7, 5, 5, "ESH5"), put_point(was.points, 1, 7, 1)); /* an old name */
+    after_records_that_store_nothing();
+    ANSWERED(DESK_DONE, DESK_BAD_MEMORY, DESK_ILL_FORMED, DESK_DAMAGED, DESK_BAD_NAME, DESK_NO_NAME_ROOM, DESK_NO_ROOM);
+}
+
+static void after_check_names(void) {
+    begin();
+    DONE(name("ES", 2));
+    AFTER(DESK_DONE, desk_check_names(d.bytes, NAME_ROOM, d.ends, NAMES, 1, 2), ALL_AS_BEFORE);
+    AFTER(DESK_BAD_MEMORY, desk_check_names(d.bytes, NAME_ROOM, d.ends, 0, 1, 2), ALL_AS_BEFORE);
+    AFTER(DESK_ILL_FORMED, desk_check_names(d.bytes, NAME_ROOM, d.ends, NAMES, 1, 3), ALL_AS_BEFORE);
+    ANSWERED(DESK_DONE, DESK_BAD_MEMORY, DESK_ILL_FORMED);
+}
+
+static uint32_t name_within(size_t bytes_len) {
+    return desk_number_of(d.bytes, bytes_len, d.ends, NAMES, &d.names, &d.size, (const uint8_t *)"NEW", 3, &d.symbol);
+}
+
+static void after_number_of(void) {
+    begin();
+    AFTER(DESK_DONE, name("ES", 2), was.symbol = 0, joins("ES"));
+    AFTER(DESK_DONE, name("", 0), was.symbol = 1, joins(""));
+    AFTER(DESK_DONE, name("ES", 2), was.symbol = 0); /* an old name */
+    AFTER(DESK_BAD_MEMORY, name_within(1), ALL_AS_BEFORE);
+    AFTER(DESK_BAD_NAME, name("\xC3", 1), ALL_AS_BEFORE);
+    AFTER(DESK_NO_NAME_ROOM, name_within(4), ALL_AS_BEFORE);
+    d.size = 1;
+    AFTER(DESK_ILL_FORMED, name_within(NAME_ROOM), ALL_AS_BEFORE);
+    ANSWERED(DESK_DONE, DESK_BAD_MEMORY, DESK_ILL_FORMED, DESK_BAD_NAME, DESK_NO_NAME_ROOM);
+}
+
+static uint32_t place_of(uint32_t symbol, size_t size) {
+    return desk_place_of_name(d.bytes, NAME_ROOM, d.ends, NAMES, d.names, size, symbol, &d.first, &d.end);
+}
+
+static void after_place_of_name(void) {
+    begin();
+    DONE(name("ES", 2));
+    DONE(name("NQM", 3));
+    AFTER(DESK_DONE, place_of(1, 5), was.first = 2, was.end = 5);
+    AFTER(DESK_BAD_MEMORY, place_of(1, NAME_ROOM + 1), ALL_AS_BEFORE);
+    AFTER(DESK_ILL_FORMED, place_of(1, 4), ALL_AS_BEFORE);
+    AFTER(DESK_UNKNOWN_SYMBOL, place_of(2, 5), ALL_AS_BEFORE);
+    ANSWERED(DESK_DONE, DESK_BAD_MEMORY, DESK_ILL_FORMED, DESK_UNKNOWN_SYMBOL);
+}
+
+static void after_day_of(void) {
+    begin();
+    AFTER(DESK_DONE, desk_day_of(20000229, &d.day), was.day = 11016);
+    AFTER(DESK_NO_DATE, desk_day_of(21000229, &d.day), ALL_AS_BEFORE);
+    ANSWERED(DESK_DONE, DESK_NO_DATE);
+}
+
+static void after_date_of(void) {
+    begin();
+    AFTER(DESK_DONE, desk_date_of(11016, &d.date), was.date = 20000229);
+    AFTER(DESK_NO_DATE, desk_date_of(DESK_LAST_DAY + 1, &d.date), ALL_AS_BEFORE);
+    ANSWERED(DESK_DONE, DESK_NO_DATE);
+}
+
+static void after_day_start(void) {
+    begin();
+    AFTER(DESK_DONE, desk_day_start(1, &d.moment), was.moment = UINT64_C(86400000000000));
+    AFTER(DESK_NO_DATE, desk_day_start(DESK_LAST_DAY + 1, &d.moment), ALL_AS_BEFORE);
+    ANSWERED(DESK_DONE, DESK_NO_DATE);
+}
+
+static void after_number_text(void) {
+    begin();
+    AFTER(DESK_DONE, text("+7"), was.value = 7);
+    AFTER(DESK_NOT_NUMBER, text("7x"), ALL_AS_BEFORE);
+    ANSWERED(DESK_DONE, DESK_NOT_NUMBER);
+}
+
+static void after_utf8(void) {
+    begin();
+    memcpy(d.bytes, "\xE2\x82\xAC", 3);
+    AFTER(DESK_DONE, desk_utf8(d.bytes, 3), ALL_AS_BEFORE);
+    AFTER(DESK_BAD_NAME, desk_utf8(d.bytes, 2), ALL_AS_BEFORE);
+    ANSWERED(DESK_DONE, DESK_BAD_NAME);
+}
+
+static void after_metadata_open(void) {
+    struct side m = gathered();
+    put_header(d.header, 4, 1, 0, 3);
+    PUT(d.list[SYMBOLS], 2, 1, 2, 2);
+    PUT(d.list[MAPPINGS], 1, 1, 2, 1, 1, 0);
+    AFTER(DESK_DONE, open_side(m), was.header[DESK_SYMBOLS] = 2, was.header[DESK_MAPPINGS_USED] = 2,
+          PUT(was.list[SYMBOLS], 2, 1, 0, 0), PUT(was.list[MAPPINGS], 1, 0, 2, 1, 0, 0),
+          PUT(was.list[INTERVALS], D2, D3, 6, 0, 0, 0));
+    m.len[MAPPINGS]--;
+    AFTER(DESK_BAD_MEMORY, open_side(m), ALL_AS_BEFORE);
+    ANSWERED(DESK_DONE, DESK_BAD_MEMORY);
+}
+
+/* A merge of the two sides, changed. */
+#define AFTER_MERGE(number, change, ...)                         \
+    do {                                                         \
+        struct side m = gathered(), a = added();                 \
+        change;                                                  \
+        AFTER(number, merge_sides(9, m, a), __VA_ARGS__);        \
+    } while (0)
+
+static void after_metadata_merge(void) {
+    static const int compared[] = {DESK_VERSION, DESK_DATASET, DESK_STYPE_IN, DESK_STYPE_OUT, DESK_TS_OUT, DESK_SYMBOL_CSTR_LEN};
+    AFTER_MERGE(DESK_DONE, (void)0, was.header[DESK_SCHEMA] = DESK_NO_SCHEMA, was.header[DESK_START] = 40,
+                was.header[DESK_END] = 90, was.header[DESK_LIMIT] = 0, was.header[DESK_SYMBOLS] = 3,
+                was.header[DESK_NOT_FOUND] = 1, was.header[DESK_MAPPINGS_USED] = 3, PUT(was.list[SYMBOLS], 1, 2, 4),
+                PUT(was.list[NOT_FOUND], 3), PUT(was.list[MAPPINGS], 1, 2, 2, 1, 3, 1),
+                PUT(was.list[INTERVALS], D1, D2, 5, D2, D3, 5, D2, D3, 6, D1, D4, 6));
+    AFTER_MERGE(DESK_DONE, /* repeats of a side never opened, and nothing added: places are freed */
+                put_header(d.header, 4, 1, 0, 3); put_header(added_header, 0, 0, 0, 0); PUT(d.list[SYMBOLS], 2, 1, 2, 2);
+                PUT(d.list[MAPPINGS], 1, 1, 2, 1, 1, 0), was.header[DESK_LIMIT] = 0, was.header[DESK_SYMBOLS] = 2,
+                was.header[DESK_MAPPINGS_USED] = 2, PUT(was.list[SYMBOLS], 2, 1, 0, 0),
+                PUT(was.list[MAPPINGS], 1, 0, 2, 1, 0, 0), PUT(was.list[INTERVALS], D2, D3, 6, 0, 0, 0));
+    for (uint32_t f = 1; f <= 6; f++) AFTER_MERGE(DESK_DIFFER, added_header[compared[f - 1]] ^= 1, was.field = f);
+    AFTER_MERGE(DESK_BAD_MEMORY, m.header_len--, ALL_AS_BEFORE);
+    AFTER_MERGE(DESK_BAD_MEMORY, a.header_len--, ALL_AS_BEFORE);
+    AFTER_MERGE(DESK_NO_DATE, added_list[INTERVALS][0] = 20230229, ALL_AS_BEFORE);
+    AFTER_MERGE(DESK_UNKNOWN_SYMBOL, added_list[SYMBOLS][0] = 9, ALL_AS_BEFORE);
+    AFTER_MERGE(DESK_REVERSED, added_list[INTERVALS][0] = D4, ALL_AS_BEFORE);
+    AFTER_MERGE(DESK_CONFLICT, PUT(added_list[INTERVALS], D1, D3, 6), ALL_AS_BEFORE);
+    AFTER_MERGE(DESK_NO_ROOM, m.len[INTERVALS] = 9, ALL_AS_BEFORE);
+    ANSWERED(DESK_DONE, DESK_BAD_MEMORY, DESK_DIFFER, DESK_NO_DATE, DESK_UNKNOWN_SYMBOL, DESK_REVERSED, DESK_CONFLICT,
+             DESK_NO_ROOM);
+}
+
+static void after_metadata_finish(void) {
+    struct side m = gathered();
+    AFTER(DESK_DONE, finish_side(m), ALL_AS_BEFORE);
+    m.header_len--;
+    AFTER(DESK_BAD_MEMORY, finish_side(m), ALL_AS_BEFORE);
+    ANSWERED(DESK_DONE, DESK_BAD_MEMORY);
+}
+
+/* What a build is handed, all in `d`: A:[D1,D2) to 5 and [D2,D3) to nothing; tables and numbers in use hold the pattern. */
+static void lend_build(size_t table_len) {
+    begin();
+    room = table_len;
+    memset(&d.used, pattern, sizeof d.used);
+    memset(&d.points_used, pattern, sizeof d.points_used);
+    memcpy(d.bytes, build_bytes, sizeof build_bytes);
+    memcpy(d.ends, build_ends, sizeof build_ends);
+    d.names = BUILD_NAMES, d.size = sizeof build_bytes;
+    put_header(d.header, 0, 0, 0, 1);
+    PUT(d.list[MAPPINGS], A, 2);
+    PUT(d.list[INTERVALS], D1, D2, FIVE, D2, D3, NO_NAME);
+}
+
+static uint32_t build_lent(void) {
+    return desk_build(d.table, room, &d.used, d.header, DESK_HEADER_WORDS, d.list[0], 1, d.list[1], 1, d.list[2], 1, d.list[3], 4,
+                      d.list[4], 9, d.bytes, NAME_ROOM, d.ends, BUILD_NAMES, d.names, d.size);
+}
+
+static uint32_t build_points_lent(uint32_t date) {
+    return desk_build_points(d.points, room, &d.points_used, d.header, DESK_HEADER_WORDS, d.list[0], 1, d.list[1], 1, d.list[2], 1,
+                             d.list[3], 4, d.list[4], 9, d.bytes, NAME_ROOM, d.ends, BUILD_NAMES, d.names, d.size, date);
+}
+
+static void after_build(void) {
+    const uint64_t day = UINT64_C(86400000000000), first = 19781; /* D1 */
+#define AFTER_REFUSED(number, change)                                                     \
+    do {                                                                                  \
+        lend_build(whole);                                                                \
+        change;                                                                           \
+        AFTER(number, build_lent(), memset(was.table, 0, room), was.used = 0);            \
+    } while (0)
+    lend_build(whole);
+    AFTER(DESK_DONE, build_lent(), memset(was.table, 0, whole), was.used = 1,
+          put_interval(was.table, 0, 5, A, first * day, (first + 1) * day));
+    AFTER_REFUSED(DESK_BAD_MEMORY, room--);
+    AFTER_REFUSED(DESK_BAD_MEMORY, room++);
+    AFTER_REFUSED(DESK_BAD_MEMORY, d.header[DESK_VERSION] = 256);
+    AFTER_REFUSED(DESK_BAD_MEMORY, d.header[DESK_SYMBOLS] = 2);
+    AFTER_REFUSED(DESK_ILL_FORMED, d.size--);
+    AFTER_REFUSED(DESK_NO_INSTRUMENT_ID, d.header[DESK_STYPE_OUT] = 1);
+    AFTER_REFUSED(DESK_UNKNOWN_SYMBOL, d.list[INTERVALS][5] = UNKNOWN); /* after an insert, as the next ones */
+    AFTER_REFUSED(DESK_NOT_NUMBER, d.list[INTERVALS][5] = X);
+    AFTER_REFUSED(DESK_NO_DATE, PUT(d.list[INTERVALS] + 3, D2, 20230229, FIVE));
+    AFTER_REFUSED(DESK_REVERSED, PUT(d.list[INTERVALS] + 3, D3, D2, FIVE));
+    AFTER_REFUSED(DESK_NO_ROOM, PUT(d.list[INTERVALS] + 3, D3, D4, FIVE); room = DESK_INTERVAL_BYTES);
+    ANSWERED(DESK_DONE, DESK_BAD_MEMORY, DESK_ILL_FORMED, DESK_NO_INSTRUMENT_ID, DESK_UNKNOWN_SYMBOL, DESK_NOT_NUMBER,
+             DESK_NO_DATE, DESK_REVERSED, DESK_NO_ROOM);
+#undef AFTER_REFUSED
+}
+
+static void after_build_points(void) {
+#define AFTER_REFUSED(number, date, change)                                                            \
+    do {                                                                                               \
+        lend_build(POINTS * DESK_POINT_BYTES);                                                         \
+        change;                                                                                        \
+        AFTER(number, build_points_lent(date), memset(was.points, 0, room), was.points_used = 0);      \
+    } while (0)
+    lend_build(POINTS * DESK_POINT_BYTES);
+    AFTER(DESK_DONE, build_points_lent(D1), memset(was.points, 0, room), was.points_used = 1, put_point(was.points, 0, 5, A));
+    AFTER(DESK_DONE, build_points_lent(D2), memset(was.points, 0, room), was.points_used = 0); /* to nothing */
+    AFTER_REFUSED(DESK_BAD_MEMORY, D1, room--);
+    AFTER_REFUSED(DESK_BAD_MEMORY, D1, room++);
+    AFTER_REFUSED(DESK_BAD_MEMORY, D1, d.header[DESK_VERSION] = 256);
+    AFTER_REFUSED(DESK_BAD_MEMORY, D1, d.header[DESK_SYMBOLS] = 2);
+    AFTER_REFUSED(DESK_ILL_FORMED, D1, d.size--);
+    AFTER_REFUSED(DESK_NO_DATE, 20230229, (void)0);
+    AFTER_REFUSED(DESK_NO_INSTRUMENT_ID, D1, d.header[DESK_STYPE_OUT] = 1);
+    AFTER_REFUSED(DESK_OUTSIDE_QUERY, D1, d.header[DESK_END] = 1);
+    AFTER_REFUSED(DESK_NO_DATE, D1, d.list[INTERVALS][1] = 20230229);
+    AFTER_REFUSED(DESK_UNKNOWN_SYMBOL, D1, d.list[INTERVALS][2] = UNKNOWN);
+    AFTER_REFUSED(DESK_NOT_NUMBER, D1, d.list[INTERVALS][2] = X);
+    AFTER_REFUSED(DESK_NO_ROOM, D1, d.header[DESK_MAPPINGS_USED] = 2; d.bytes[1] = '7'; PUT(d.list[MAPPINGS], B, 1, B, 1);
+                  PUT(d.list[INTERVALS], D1, D2, FIVE, D1, D2, A); room = DESK_POINT_BYTES); /* the second of two entries */
+    ANSWERED(DESK_DONE, DESK_BAD_MEMORY, DESK_ILL_FORMED, DESK_NO_DATE, DESK_NO_INSTRUMENT_ID, DESK_OUTSIDE_QUERY,
+             DESK_UNKNOWN_SYMBOL, DESK_NOT_NUMBER, DESK_NO_ROOM);
+#undef AFTER_REFUSED
+}
+
+/* The heap's first places hold the streams that are not closed, each once, and none that comes after one below it. */
+static int heap_is_right(void) {
+    size_t not_closed = 0;
+    int held[DESK_STREAMS] = {0};
+    for (size_t p = 0; p < DESK_STREAMS; p++) not_closed += d.marks[p] != 0;
+    if (d.held != not_closed) return 0;
+    for (size_t i = 0; i < d.held; i++) {
+        uint8_t p = d.heap[i], above = d.heap[i == 0 ? 0 : (i - 1) / 2];
+        if (d.marks[p] == 0 || held[p]++) return 0;
+        if (d.times[p] < d.times[above] || (d.times[p] == d.times[above] && p < above)) return 0;
+    }
+    return 1;
+}
+
+/* What a state says of a stream. */
+static void closed(size_t p) { was.marks[p] = 0; }
+
+static void waits(size_t p, uint64_t time, uint64_t place) {
+    was.marks[p] = 1;
+    was.times[p] = time;
+    was.places[p] = place;
+}
+
+static void stands(size_t p, uint64_t time, uint64_t place, uint64_t length, uint64_t kind, uint64_t instrument) {
+    was.marks[p] = d.marks[p] > 1 ? d.marks[p] : 2;
+    was.times[p] = time;
+    was.places[p] = place;
+    was.heads[p] = length + kind * 65536 + instrument * 4294967296u;
+}
+
+/* So many streams are not closed; what a state does not say is taken as it is. */
+static void state_holds(size_t held) {
+    was.held = held;
+    for (size_t p = 0; p < DESK_STREAMS; p++) {
+        if (was.marks[p] == 0) was.times[p] = d.times[p], was.places[p] = d.places[p];
+        if (was.marks[p] <= 1) was.heads[p] = d.heads[p];
+    }
+    memcpy(was.heap, d.heap, DESK_STREAMS);
+    IS(heap_is_right());
+}
+
+static void opened(size_t streams, const uint64_t *hints) {
+    memset(was.marks, 0, DESK_STREAMS), memset(was.heap, 0, DESK_STREAMS);
+    for (size_t p = 0; p < DESK_STREAMS; p++) was.times[p] = was.places[p] = was.heads[p] = 0;
+    for (size_t p = 0; p < streams; p++) waits(p, hints[p], 0);
+    memcpy(was.heap, d.heap, streams);
+    was.streams = was.held = streams;
+    IS(heap_is_right());
+}
+
+/* A record of 16 bytes in the buffer. */
+static void put_record(size_t at, uint16_t kind, uint32_t instrument, uint64_t time) {
+    put(buffer + at, 2, DESK_RECORD_HEADER);
+    put(buffer + at + 2, 2, kind);
+    put(buffer + at + 4, 4, instrument);
+    put(buffer + at + 8, 8, time);
+}
+
+static void after_open(void) {
+    static const uint64_t cuts[] = {0, 16, 16, 35}, hints[] = {9, 3, 5}, none[3];
+    begin();
+    AFTER(DESK_BAD_STREAMS, open_whole(34, cuts, 4, hints, 3), ALL_AS_BEFORE);
+    AFTER(DESK_BAD_MEMORY, open_with(35, cuts, 4, hints, 3, 255, 256, 256, 256, 256), ALL_AS_BEFORE);
+    AFTER(DESK_DONE, open_whole(35, cuts, 4, hints, 3), opened(3, hints));
+    AFTER(DESK_DONE, open_whole(16, cuts, 3, none, 0), opened(2, none));
+    ANSWERED(DESK_DONE, DESK_BAD_STREAMS, DESK_BAD_MEMORY);
+}
+
+/* A record came, the end came, a stream is damaged. */
+static void comes(uint64_t stream, uint64_t place, uint16_t kind, uint32_t instrument, uint64_t time) {
+    was.found = 1;
+    was.stream = stream, was.place = place, was.length = DESK_RECORD_HEADER, was.kind = kind, was.instrument = instrument;
+    was.time = time;
+}
+
+static void ends(void) {
+    was.found = was.instrument = 0;
+    was.stream = was.place = was.time = 0;
+    was.length = was.kind = 0;
+}
+
+static void breaks_off(uint64_t stream, uint64_t place, uint64_t reason) {
+    was.stream = stream, was.place = place, was.reason = reason;
+}
+
+static void after_next(void) {
+    static const uint64_t cuts[] = {0, 19, 19, 35, 38}, one[] = {0, 16}, none[1];
+    begin();
+    memset(buffer, 0, sizeof buffer);
+    put_record(0, 9, 7, 5), put_record(19, 2, 8, 6);
+    DONE(open_whole(38, cuts, 5, none, 0));
+    AFTER(DESK_DAMAGED, next(38, cuts, 5, 0), breaks_off(3, 0, DESK_SHORT), stands(0, 5, 0, 16, 9, 7), closed(1),
+          stands(2, 6, 0, 16, 2, 8), closed(3), state_holds(2));
+    AFTER(DESK_DONE, next(38, cuts, 5, 0), comes(0, 0, 9, 7, 5), waits(0, 5, 16), state_holds(2));
+    AFTER(DESK_DAMAGED, next(38, cuts, 5, 0), breaks_off(0, 16, DESK_SHORT), closed(0), state_holds(1));
+    AFTER(DESK_BAD_MEMORY, next(38, cuts, 5, 1), ALL_AS_BEFORE);
+    AFTER(DESK_DONE, next(38, cuts, 5, 0), comes(2, 0, 2, 8, 6), waits(2, 6, 16), state_holds(1));
+    AFTER(DESK_DONE, next(38, cuts, 5, 0), ends(), closed(2), state_holds(0));
+    AFTER(DESK_DONE, next(38, cuts, 5, 0), ends(), state_holds(0));
+    d.held = DESK_STREAMS + 1;
+    AFTER(DESK_BAD_MEMORY, next(38, cuts, 5, 0), ALL_AS_BEFORE);
+    put(buffer, 2, 15);
+    DONE(open_whole(16, one, 2, none, 0));
+    AFTER(DESK_DAMAGED, next(16, one, 2, 0), breaks_off(0, 0, DESK_BAD_LENGTH), closed(0), state_holds(0));
+    put(buffer, 2, 17);
+    DONE(open_whole(16, one, 2, none, 0));
+    AFTER(DESK_DAMAGED, next(16, one, 2, 0), breaks_off(0, 0, DESK_PAST_END), closed(0), state_holds(0));
+    ANSWERED(DESK_DONE, DESK_DAMAGED, DESK_BAD_MEMORY);
+}
+
+/* Whether each record comes once, by its time, to a caller that goes on with *held as 13 left it, or with the one from before. */
+static int each_comes_once(int keeps_the_old) {
+    static const uint64_t cuts[] = {0, 1, 17, 49}, none[1];
+    unsigned came = 0, at[10] = {0};
+    begin();
+    memset(buffer, 0, sizeof buffer);
+    put_record(1, 9, 7, 5), put_record(17, 9, 8, 3), put_record(33, 9, 8, 9);
+    DONE(open_whole(49, cuts, 4, none, 0));
+    for (int calls = 0; calls < 20; calls++) {
+        size_t held = d.held;
+        if (next(49, cuts, 4, 0) == DESK_DAMAGED) {
+            if (keeps_the_old) d.held = held;
+        } else if (d.found) {
+            came++;
+            if (d.time < 10) at[d.time]++;
+        }
+    }
+    return came == 3 && at[3] == 1 && at[5] == 1 && at[9] == 1;
+}
+
+static void test_afterwards(void) {
+    static const uint8_t patterns[] = {0x5A, 0xA5};
+    for (size_t i = 0; i < sizeof patterns; i++) {
+        pattern = patterns[i];
+        after_check();
+        after_insert();
+        after_get_for_ts();
+        after_on_record();
+        after_check_points();
+        after_get_point();
+        after_on_record_point();
+        after_check_names();
+        after_number_of();
+        after_place_of_name();
+        after_day_of();
+        after_date_of();
+        after_day_start();
+        after_number_text();
+        after_utf8();
+        after_metadata_open();
+        after_metadata_merge();
+        after_metadata_finish();
+        after_build();
+        after_build_points();
+        after_open();
+        after_next();
+    }
+    IS(each_comes_once(0));
+    IS(!each_comes_once(1)); /* the reading that 13 leaves *held: a record comes twice */
+}
+
 int main(void) {
     test_check();
     test_limits();
@@ -873,6 +1440,7 @@ int main(void) {
     test_metadata_refusals();
     test_metadata_limits();
     test_builds();
+    test_afterwards();
     printf("%u tried, %u failed\n", tried, failed);
     return failed != 0;
 }

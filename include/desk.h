@@ -1,10 +1,12 @@
 /* The replay desk at the C door. "01" is document 01, "Exact rules and what to build".
  *
  * Every function returns document 01's number: DESK_DONE (0) or one of the refusals below. Further results come back through
- * pointers to single numbers. After a refusal everything behind every pointer is as it was at the call, except that a refused
- * build leaves an empty table, that 6 hands its field over, that 13 hands its stream, place and reason over where a function has
- * pointers for them, and that 13 from desk_next closes its stream and keeps what the same call read in others before it. Every
- * call ends, on any content of the memory.
+ * pointers to single numbers. Every call ends, on any content of the memory.
+ *
+ * What stands behind the pointers afterwards each function says by the number returned. "As before" is as it was at the call. What
+ * is not named there is as before, and what a pointer to const leads to always is. In short: a refusal leaves all as before, but a
+ * refused build leaves an empty table, 6 sets its field, 13 its reason, and 13 from desk_next its stream and place too, and it
+ * moves the state of the merge on as 0 does.
  *
  * What a caller owes. None of it can be seen from inside, so nothing tests it:
  *   - a pointer beside a length points to as many elements as the length says, one to a single number to that number;
@@ -82,41 +84,51 @@ enum desk_reason {
 /* ---- The map over time. A table is bytes, 24 an interval, of which `used` intervals from the front are in use. */
 
 /* Is the table well-formed? Sorted by instrument; for each instrument the intervals are non-empty, sorted by start, disjoint,
- * and two that touch have different symbols; every symbol is below `names`, the number of names handed out. 0, 15, 14. */
+ * and two that touch have different symbols; every symbol is below `names`, the number of names handed out. 0, 15, 14.
+ * After any answer: all as before. */
 uint32_t desk_check(const uint8_t *table, size_t table_len, size_t used, size_t names);
 
 /* From start to before end the instrument has the symbol, whatever it had. Intervals that touch with the same symbol are
- * joined; *used becomes the new number in use. Places that are freed hold 0, other unused ones keep what they held.
- * 15, 14, then 1; start = end is done and changes nothing; 3; 2, judged on the whole table after the insert. */
+ * joined. 15, 14, then 1; start = end is done and changes nothing; 3; 2, judged on the whole table after the insert.
+ * After 0: *used is the new number in use, and the table's first *used places hold the intervals; places that are freed hold 0,
+ * other unused ones are as before. After any other answer: all as before. */
 uint32_t desk_insert(uint8_t *table, size_t table_len, size_t *used, size_t names, uint32_t instrument, uint64_t start,
                      uint64_t end, uint32_t symbol);
 
-/* The instrument's symbol at the moment: *found is 1 and *symbol the symbol, or both are 0 where there is none. *hint may be
- * any number, and becomes the interval arrived at, counted from 0 within the instrument; with an unknown instrument or a moment
- * before the first interval it stays. Kept between lookups of one instrument it is a cursor; start it at 0. 15 only: on a table
- * that desk_check rejects the answer says nothing. */
+/* The instrument's symbol at the moment. *hint may be any number; kept between lookups of one instrument it is a cursor, and starts
+ * at 0. 0, 15.
+ * After 0: *found is 1 and *symbol the symbol, or both are 0 where there is none; *hint is the interval arrived at, counted from 0
+ * within the instrument, and as before with an unknown instrument or a moment before the first interval. On a table that
+ * desk_check rejects by 14 the three say nothing. After 15: all as before. */
 uint32_t desk_get_for_ts(const uint8_t *table, size_t table_len, size_t used, uint32_t instrument, uint64_t moment,
                          uint64_t *hint, uint32_t *found, uint32_t *symbol);
 
 /* One record's bytes: a symbol mapping inserts its interval, a missing start as 0, a missing end as 18446744073709551615; other
- * kinds are done and change nothing. A new name joins the name list only when the interval is stored. *reason is set by 13
- * alone. 15, 14 (table and name list), 13, 4, 1; start = end is done; 5, 2. */
+ * kinds are done and change nothing. A new name joins the name list only when the interval is stored. 15, 14 (table and name
+ * list), 13, 4, 1; start = end is done and changes nothing; 5, 2.
+ * After 0: the table and *used are as desk_insert leaves them, and the name list, *names and *size as desk_number_of does. After
+ * 13: *reason is the reason, all else as before. After any other answer: all as before. */
 uint32_t desk_on_record(uint8_t *table, size_t table_len, size_t *used, uint8_t *bytes, size_t bytes_len, uint32_t *ends,
                         size_t ends_len, size_t *names, size_t *size, const uint8_t *record, size_t record_len,
                         uint64_t *reason);
 
 /* ---- The point-in-time table: bytes, 8 an entry, of which `used` entries from the front are in use. */
 
-/* Is the table well-formed? Sorted by instrument, each once, every symbol below `names`. 0, 15, 14. */
+/* Is the table well-formed? Sorted by instrument, each once, every symbol below `names`. 0, 15, 14.
+ * After any answer: all as before. */
 uint32_t desk_check_points(const uint8_t *table, size_t table_len, size_t used, size_t names);
 
-/* The instrument's symbol: *found is 1 and *symbol the symbol, or both are 0 where there is none. 15 only: on a table that
- * desk_check_points rejects the answer says nothing. */
+/* The instrument's symbol. 0, 15.
+ * After 0: *found is 1 and *symbol the symbol, or both are 0 where there is none; on a table that desk_check_points rejects by 14
+ * the two say nothing. After 15: all as before. */
 uint32_t desk_get_point(const uint8_t *table, size_t table_len, size_t used, uint32_t instrument, uint32_t *found,
                         uint32_t *symbol);
 
 /* One record's bytes: a symbol mapping sets the instrument's entry and ignores both times; other kinds are done and change
- * nothing. A new name joins the name list only when done. *reason is set by 13 alone. 15, 14 (table and name list), 13, 4, 5, 2. */
+ * nothing. A new name joins the name list only when done. 15, 14 (table and name list), 13, 4, 5, 2.
+ * After 0: *used is the new number in use, and the table's first *used places hold the entries, the unused ones are as before; the
+ * name list, *names and *size are as desk_number_of leaves them. After 13: *reason is the reason, all else as before. After any
+ * other answer: all as before. */
 uint32_t desk_on_record_point(uint8_t *table, size_t table_len, size_t *used, uint8_t *bytes, size_t bytes_len,
                               uint32_t *ends, size_t ends_len, size_t *names, size_t *size, const uint8_t *record,
                               size_t record_len, uint64_t *reason);
@@ -125,34 +137,43 @@ uint32_t desk_on_record_point(uint8_t *table, size_t table_len, size_t *used, ui
  * are in use. Name n lies from the end of the one before it to its own end. Name numbers run from 0 in order of first arrival
  * and are never taken back. */
 
-/* Is the list well-formed: do valid names (0 to 255 bytes of UTF-8) stand one after another? 0, 15, 14. */
+/* Is the list well-formed: do valid names (0 to 255 bytes of UTF-8) stand one after another? 0, 15, 14.
+ * After any answer: all as before. */
 uint32_t desk_check_names(const uint8_t *bytes, size_t bytes_len, const uint32_t *ends, size_t ends_len, size_t names,
                           size_t size);
 
-/* The number of a name into *symbol: the least with equal bytes, else the next new one, and the name joins the list.
- * 15, 14, 4, 5. */
+/* The number of a name: the least with equal bytes, else the next new one, and the name joins the list. 15, 14, 4, 5.
+ * After 0: *symbol is the number. A new name's bytes stand behind those that were in use, and so does its end; *names is one more,
+ * *size more by its length, and unused places behind are as before. With an old name all else is as before. After any other
+ * answer: all as before. */
 uint32_t desk_number_of(uint8_t *bytes, size_t bytes_len, uint32_t *ends, size_t ends_len, size_t *names, size_t *size,
                         const uint8_t *name, size_t name_len, uint32_t *symbol);
 
-/* Where a symbol's name lies among the bytes, its first byte and its end. 15, 14, 3. */
+/* Where a symbol's name lies among the bytes. 15, 14, 3.
+ * After 0: *first is its first byte, *end its end. After any other answer: all as before. */
 uint32_t desk_place_of_name(const uint8_t *bytes, size_t bytes_len, const uint32_t *ends, size_t ends_len, size_t names,
                             size_t size, uint32_t symbol, size_t *first, size_t *end);
 
 /* ---- Numbers, days. A date is the number YYYYMMDD. */
 
-/* The day of a date, since 1970-01-01. 0, 11. */
+/* The day of a date, since 1970-01-01. 0, 11.
+ * After 0: *day is the day. After 11: all as before. */
 uint32_t desk_day_of(uint32_t date, uint32_t *day);
 
-/* The date of a day since 1970-01-01. 0, 11. */
+/* The date of a day since 1970-01-01. 0, 11.
+ * After 0: *date is the date. After 11: all as before. */
 uint32_t desk_date_of(uint32_t day, uint32_t *date);
 
-/* The moment at which a day since 1970-01-01 starts: days x 86,400,000,000,000 nanoseconds. 0, 11. */
+/* The moment at which a day since 1970-01-01 starts: days x 86,400,000,000,000 nanoseconds. 0, 11.
+ * After 0: *moment is the moment. After 11: all as before. */
 uint32_t desk_day_start(uint32_t day, uint64_t *moment);
 
-/* The number that a text says: an optional single `+`, then one or more ASCII digits, at most 4294967295. 0, 8. */
+/* The number that a text says: an optional single `+`, then one or more ASCII digits, at most 4294967295. 0, 8.
+ * After 0: *value is the number. After 8: all as before. */
 uint32_t desk_number_text(const uint8_t *text, size_t text_len, uint32_t *value);
 
-/* Is a text, of any length, UTF-8 (RFC 3629)? 0, 4. */
+/* Is a text, of any length, UTF-8 (RFC 3629)? 0, 4.
+ * After any answer: all as before. */
 uint32_t desk_utf8(const uint8_t *text, size_t text_len);
 
 /* ---- Metadata. A metadata is a header of 14 words and five lists of words: symbols, partial, not_found (a word an entry, a name's
@@ -189,8 +210,9 @@ enum desk_field {
 };
 
 /* The first metadata, which loses its repeats: equal entries of a set once, and of two mappings with one name the last, at the
- * place of the first. The header's four numbers in use become those that are left; places that are freed hold 0, other unused
- * ones keep what they held. 0, 15. */
+ * place of the first. 0, 15.
+ * After 0: the header's four numbers in use count what is left, and each list holds it from its front; places that are freed hold
+ * 0, other unused ones and the header's other words are as before. After 15: all as before. */
 uint32_t desk_metadata_open(uint64_t *header, size_t header_len, uint32_t *symbols, size_t symbols_len, uint32_t *partial,
                             size_t partial_len, uint32_t *not_found, size_t not_found_len, uint32_t *mappings,
                             size_t mappings_len, uint32_t *intervals, size_t intervals_len);
@@ -198,8 +220,11 @@ uint32_t desk_metadata_open(uint64_t *header, size_t header_len, uint32_t *symbo
 /* One more metadata into a gathered one (which loses its repeats first, where it was never opened); the added one stays as it is.
  * An unequal schema becomes none, start the lesser, end the greater, limit none; sets and mappings keep the order of first
  * arrival; the intervals of one name are merged by their heads. `names` is the number of names handed out. 15, also for names over
- * 4,096; 6, and *field, which it alone sets; then, each over both sides whole: 11 for any date, 3 for any name number, 1 for any
- * interval, 7, and 2, judged on the outcome. */
+ * 4,096; 6; then, each over both sides whole: 11 for any date, 3 for any name number, 1 for any interval, 7, and 2, judged on the
+ * outcome.
+ * After 0: the header's schema, start, end, limit and four numbers in use are the outcome's, and each list holds the outcome from
+ * its front; places that are freed hold 0, other unused ones and the header's other words are as before. After 6: *field is the
+ * first that differs, all else as before. After any other answer: all as before. */
 uint32_t desk_metadata_merge(size_t names, uint64_t *header, size_t header_len, uint32_t *symbols, size_t symbols_len,
                              uint32_t *partial, size_t partial_len, uint32_t *not_found, size_t not_found_len,
                              uint32_t *mappings, size_t mappings_len, uint32_t *intervals, size_t intervals_len,
@@ -208,29 +233,33 @@ uint32_t desk_metadata_merge(size_t names, uint64_t *header, size_t header_len, 
                              size_t added_not_found_len, const uint32_t *added_mappings, size_t added_mappings_len,
                              const uint32_t *added_intervals, size_t added_intervals_len, uint32_t *field);
 
-/* The gathered metadata is finished: nothing changes. 0, 15. */
+/* The gathered metadata is finished: nothing changes. 0, 15.
+ * After any answer: all as before. */
 uint32_t desk_metadata_finish(const uint64_t *header, size_t header_len, const uint32_t *symbols, size_t symbols_len,
                               const uint32_t *partial, size_t partial_len, const uint32_t *not_found, size_t not_found_len,
                               const uint32_t *mappings, size_t mappings_len, const uint32_t *intervals, size_t intervals_len);
 
-/* ---- Builds from metadata. The table's bytes are written whole, whatever they held; a refusal, by 15 too, leaves 0 in every byte and
- * 0 in *used; after a done build every unused place holds 0. Metadata and name list are only read. If stype_out is instrument ID,
- * an interval's symbol is the instrument's number and the mapping's name the symbol; else if stype_in is, the other way round; else 9.
- * Mappings and intervals go in order, and the first fault met decides. */
+/* ---- Builds from metadata. The table's bytes are written whole, whatever they and *used held. Metadata and name list are only read.
+ * If stype_out is instrument ID, an interval's symbol is the instrument's number and the mapping's name the symbol; else if stype_in
+ * is, the other way round; else 9. Mappings and intervals go in order, and the first fault met decides. */
 
-/* A table over time, 24 bytes an interval; *used becomes the intervals in use. 15, 14 for the name list, 9; then, where the mapping's
- * name is the number, 3 and 8 for it; of each interval 3 for its symbol, nothing more where that is empty, 8 where it is the number,
- * 11 for start and end, then as desk_insert: 1, start = end is done, 3, 2. */
+/* A table over time, 24 bytes an interval. 15, 14 for the name list, 9; then, where the mapping's name is the number, 3 and 8 for it;
+ * of each interval 3 for its symbol, nothing more where that is empty, 8 where it is the number, 11 for start and end, then as
+ * desk_insert: 1, start = end is done, 3, 2.
+ * After 0: *used is the number in use, the table's first *used places hold the intervals, and every other byte of it is 0. After any
+ * other answer: *used is 0, and so is every byte of the table, whatever its length. */
 uint32_t desk_build(uint8_t *table, size_t table_len, size_t *used, const uint64_t *header, size_t header_len,
                     const uint32_t *symbols, size_t symbols_len, const uint32_t *partial, size_t partial_len,
                     const uint32_t *not_found, size_t not_found_len, const uint32_t *mappings, size_t mappings_len,
                     const uint32_t *intervals, size_t intervals_len, const uint8_t *bytes, size_t bytes_len,
                     const uint32_t *ends, size_t ends_len, size_t names, size_t size);
 
-/* A point-in-time table for a date (YYYYMMDD), 8 bytes an entry; *used becomes the entries in use. 15, 14 for the name list, 11 for the
- * date, 9, 10 where the day is before the start's day, or an end exists and the day's start is not before it; then of each mapping
- * the first interval with start <= day < end counts: 11 for a date up to it, 3 for its symbol, nothing more where that is empty, 3
- * for the mapping's name, 8, 2. A later entry for one instrument replaces the earlier one. */
+/* A point-in-time table for a date (YYYYMMDD), 8 bytes an entry. 15, 14 for the name list, 11 for the date, 9, 10 where the day is
+ * before the start's day, or an end exists and the day's start is not before it; then of each mapping the first interval with
+ * start <= day < end counts: 11 for a date up to it, 3 for its symbol, nothing more where that is empty, 3 for the mapping's name,
+ * 8, 2. A later entry for one instrument replaces the earlier one.
+ * After 0: *used is the number in use, the table's first *used places hold the entries, and every other byte of it is 0. After any
+ * other answer: *used is 0, and so is every byte of the table, whatever its length. */
 uint32_t desk_build_points(uint8_t *table, size_t table_len, size_t *used, const uint64_t *header, size_t header_len,
                            const uint32_t *symbols, size_t symbols_len, const uint32_t *partial, size_t partial_len,
                            const uint32_t *not_found, size_t not_found_len, const uint32_t *mappings, size_t mappings_len,
@@ -239,21 +268,32 @@ uint32_t desk_build_points(uint8_t *table, size_t table_len, size_t *used, const
 
 /* ---- Merging records. All streams stand in one buffer; cuts, one more than streams, start at 0, never fall, and end at the
  * buffer's length. The state of a merge stands in five arrays of 256 places and in *held; between desk_open and the last
- * desk_next on it the caller hands in the same buffer and cuts and changes none of them. */
+ * desk_next on it the caller hands in the same buffer and cuts, and the state as the call before left it, and changes none of
+ * them.
+ *
+ * What a state says: marks[p] is 0 where stream p is closed, read to its end or damaged, and where there is no stream p. It is 1
+ * where the stream waits to be read at places[p] and is chosen by times[p], its hint or the time of its record handed out last. It
+ * is more where it stands at a record still to be handed out: places[p] and times[p] are the record's, heads[p] is its length +
+ * kind x 65536 + instrument x 4294967296. *held is the number of streams that are not closed, and the first *held places of heap
+ * hold their numbers, each once, and none at place i that comes by (times, number) after one at 2i + 1 or 2i + 2. What else the
+ * arrays hold says nothing. */
 
-/* Opens the streams, each at its hint; an empty hint list means all hints 0. Reads none of them. *streams becomes the number of
- * streams, *held the number of those that the heap holds. 15 where an array has not 256 places; 12 for no stream, over 256, cuts
- * wrong, or hints given and not one per stream. */
+/* Opens the streams, each at its hint; an empty hint list means all hints 0. Reads none of them. 15 where an array has not 256
+ * places; 12 for no stream, over 256, cuts wrong, or hints given and not one per stream.
+ * After 0: *streams and *held are the number of streams, and in the state each stream waits at place 0 with its hint; every other
+ * place of marks, times and heap and every place of places and heads is 0. After any other answer: all as before. */
 uint32_t desk_open(const uint8_t *buffer, size_t buffer_len, const uint64_t *cuts, size_t cuts_len, const uint64_t *hints,
                    size_t hints_len, uint8_t *marks, size_t marks_len, uint64_t *times, size_t times_len, uint64_t *places,
                    size_t places_len, uint64_t *heads, size_t heads_len, uint8_t *heap, size_t heap_len, size_t *streams,
                    size_t *held);
 
-/* The next record, by time, then stream: *found is 1, and its stream, place (from the stream's start), length, kind, instrument
- * and time come back; its bytes stand in the buffer from cuts[*stream] + *place on. At the end, which stays, *found and those
- * six are 0. 13 sets *stream, *place and *reason alone: the stream is damaged there and closed, the others go on. 15 where an
- * array has not 256 places or *held is over 256. On a state that desk_open did not make for this buffer and these cuts the
- * answer says nothing. */
+/* The next record, by time, then stream; the damage of a stream, which is closed by it, while the others go on; or the end, which
+ * stays. 0, 15 where an array has not 256 places or *held is over 256, 13.
+ * After 0: *found is 1, and *stream, *place (from the stream's start), *length, *kind, *instrument and *time are the record's,
+ * whose bytes stand in the buffer from cuts[*stream] + *place on; at the end *found and these six are 0. *held and the arrays are
+ * the state after the call. After 13: *stream is damaged at *place for *reason, and *held and the arrays are the state after the
+ * call too, with which the caller goes on; *found, *length, *kind, *instrument and *time are as before. After 15: all as before.
+ * On a state that desk_open did not make for this buffer and these cuts neither the number nor what the call writes says anything. */
 uint32_t desk_next(const uint8_t *buffer, size_t buffer_len, const uint64_t *cuts, size_t cuts_len, uint8_t *marks,
                    size_t marks_len, uint64_t *times, size_t times_len, uint64_t *places, size_t places_len, uint64_t *heads,
                    size_t heads_len, uint8_t *heap, size_t heap_len, size_t *held, uint32_t *found, uint64_t *stream,

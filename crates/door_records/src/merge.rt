@@ -61,7 +61,8 @@ pub extern "C" fn desk_open(
 }
 
 // The next record, the damage of a stream, or the end, on the buffer and the cuts of the opening: 0, 13 or 15. A record has `found`
-// 1, the end 0 and every number 0; 13 sets stream, place and reason alone.
+// 1, the end 0 and its six numbers 0; 13 sets `stream`, `place` and `reason`; after 0 and 13 `held` and the arrays are the state that
+// the next call goes on with, and 15 leaves all as it was.
 #[no_mangle]
 pub extern "C" fn desk_next(
     buffer: &[u8],
