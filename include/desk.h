@@ -241,6 +241,10 @@ uint32_t desk_build_points(uint8_t *table, size_t table_len, size_t *used, const
  * buffer's length. The state of a merge stands in five arrays of 256 places and in *held; between desk_open and the last
  * desk_next on it the caller hands in the same buffer and cuts and changes none of them. */
 
+/* The hint of a stream from its own metadata's header, as that was before any merge: where the metadata starts. 0, and *hint is
+ * the hint; 15 where the words are no header (the lists are not asked for), and *hint is as it was. */
+uint32_t desk_hint_of(const uint64_t *header, size_t header_len, uint64_t *hint);
+
 /* Opens the streams, each at its hint; an empty hint list means all hints 0. Reads none of them. *streams becomes the number of
  * streams, *held the number of those that the heap holds. 15 where an array has not 256 places; 12 for no stream, over 256, cuts
  * wrong, or hints given and not one per stream. */

@@ -4,6 +4,7 @@ pub mod build;
 pub mod damage;
 pub mod days;
 pub mod header;
+pub mod hints;
 pub mod map;
 pub mod merge;
 pub mod merger;
