@@ -1,10 +1,18 @@
 /* Answers the oracle's cases through the C door: one case a line on standard input, one line of answers a case on standard
- * output. oracle/README.md has the formats. */
+ * output. oracle/README.md has the formats. A case that it can't read, a read or a write that fails: one line on standard error,
+ * and status 2. */
 #include "desk.h"
 
 #include <stdio.h>
 #include <stdlib.h>
 #include <string.h>
+
+static size_t cases; /* begun */
+
+static void fail(const char *why) {
+    fprintf(stderr, "answer: %s (case %lu)\n", why, (unsigned long)cases);
+    exit(2);
+}
 
 /* ---- What is printed, in one buffer. */
 
@@ -12,7 +20,7 @@ static char printed[1 << 16];
 static size_t printed_len;
 
 static void flush(void) {
-    fwrite(printed, 1, printed_len, stdout);
+    if (fwrite(printed, 1, printed_len, stdout) != printed_len || fflush(stdout) != 0) fail("standard output can't be written");
     printed_len = 0;
 }
 
@@ -72,14 +80,24 @@ static int more_words(void) {
     return at < line_end;
 }
 
+static void next_word(void) {
+    if (!more_words()) fail("the case breaks off");
+}
+
 static uint64_t number(void) {
     uint64_t n = 0;
-    more_words();
-    while (at < line_end && *at != ' ') n = n * 10 + (uint64_t)(*at++ - '0');
+    next_word();
+    for (; at < line_end && *at != ' '; at++) {
+        if (*at < '0' || '9' < *at) fail("no number where one is due");
+        n = n * 10 + (uint64_t)(*at - '0');
+    }
     return n;
 }
 
-static uint8_t digit(char c) { return (uint8_t)(c <= '9' ? c - '0' : c - 'a' + 10); }
+static uint8_t digit(char c) {
+    if (!('0' <= c && c <= '9') && !('a' <= c && c <= 'f')) fail("no bytes where some are due");
+    return (uint8_t)(c <= '9' ? c - '0' : c - 'a' + 10);
+}
 
 /* Lent memory of one case; every piece begins at a multiple of eight. */
 static uint8_t lent[8 << 20] __attribute__((aligned(8)));
@@ -87,16 +105,17 @@ static size_t lent_len;
 
 static void *lend(size_t bytes) {
     uint8_t *piece = lent + lent_len;
+    if (sizeof lent - lent_len < 8 || sizeof lent - lent_len - 8 < bytes) fail("the case is too long");
     lent_len += (bytes + 8) / 8 * 8;
-    if (sizeof lent < lent_len) exit(2);
     return piece;
 }
 
 static uint8_t *bytes(size_t *len) {
-    more_words();
+    next_word();
     const char *end = at;
     while (end < line_end && *end != ' ') end++;
     *len = *at == '-' ? 0 : (size_t)(end - at) / 2;
+    if (*at != '-' && (end - at) % 2 != 0) fail("half a byte");
     uint8_t *piece = lend(*len);
     for (size_t i = 0; i < *len; i++) piece[i] = (uint8_t)(digit(at[2 * i]) * 16 + digit(at[2 * i + 1]));
     at = end;
@@ -321,7 +340,8 @@ static void mappings(void) {
     enum { most = 64 };
     uint8_t *records[most];
     size_t lens[most], count = 0, name_bytes = 0;
-    while (more_words() && count < most) {
+    while (more_words()) {
+        if (count == most) fail("the case is too long");
         records[count] = mapping_record(&lens[count]);
         name_bytes += lens[count++] - 32;
     }
@@ -428,9 +448,23 @@ static void streams(void) {
     merge(buffer, len, cuts, cuts_len, hints, hints_len, 1);
 }
 
-static void records(void) {
+/* Each stream's hint in the place of its metadata's start, by the door; the number of the first that is refused. */
+static uint32_t starts_to_hints(uint64_t *starts, size_t len) {
+    for (size_t p = 0; p < len; p++) {
+        uint64_t header[DESK_HEADER_WORDS] = {0}, hint = ~starts[p]; /* never the start */
+        header[DESK_START] = starts[p];
+        header[DESK_END] = starts[p] + 1;
+        uint32_t answer = desk_hint_of(header, DESK_HEADER_WORDS, &hint);
+        if (answer != DESK_DONE) return answer;
+        starts[p] = hint;
+    }
+    return DESK_DONE;
+}
+
+/* Streams behind their hints, or, for `Decoder::new`, behind the starts of their metadata. */
+static void records(int from_metadata) {
     size_t hints_len;
-    const uint64_t *hints = numbers(&hints_len);
+    uint64_t *hints = numbers(&hints_len);
     size_t count = number(), len = 0;
     uint64_t *cuts = lend((count + 1) * 8);
     uint8_t *buffer = lend(0);
@@ -439,7 +473,7 @@ static void records(void) {
         uint64_t damaged = number();
         for (uint64_t left = number(); left != 0; left--, len += DESK_RECORD_HEADER) {
             uint8_t *record = buffer + len;
-            if (lent + sizeof lent - record < 64) exit(2);
+            if (lent + sizeof lent - record < 64) fail("the case is too long");
             put_field(record, 2, DESK_RECORD_HEADER);
             put_field(record + 2, 6, 0);
             put_field(record + 8, 8, number());
@@ -450,7 +484,9 @@ static void records(void) {
         }
         cuts[p + 1] = len;
     }
-    merge(buffer, len, cuts, count + 1, hints, hints_len, 0);
+    uint32_t answer = from_metadata ? starts_to_hints(hints, hints_len) : DESK_DONE;
+    if (answer != DESK_DONE) put_number(answer);
+    else merge(buffer, len, cuts, count + 1, hints, hints_len, 0);
 }
 
 /* ---- Metadata. */
@@ -585,7 +621,7 @@ static void merge_all(void) {
     size_t names = number(), len;
     for (size_t i = 0; i < names; i++) bytes(&len);
     size_t count = number();
-    if (most < count) exit(2);
+    if (count == 0 || most < count) fail("the case has no metadata, or too many");
     for (size_t i = 0; i < count; i++) given[i] = whole_metadata();
     m = given[0];
     for (size_t k = 0; k < LISTS; k++) {
@@ -623,7 +659,7 @@ static struct names listed_names(void) {
     struct names list = {count, 0, 0, count, lend(0), NULL};
     uint32_t *ends = lend(count * 4);
     const uint8_t *parts[DESK_NAMES];
-    if (DESK_NAMES < count) exit(2);
+    if (DESK_NAMES < count) fail("the case has too many names");
     for (size_t i = 0; i < count; i++) {
         parts[i] = bytes(&len);
         size += len;
@@ -675,6 +711,7 @@ static void answer_case(void) {
     const char *kind = at;
     while (at < line_end && *at != ' ') at++;
     size_t len = (size_t)(at - kind);
+    cases++;
     lent_len = 0;
     line_begun = 0;
     answers = 0;
@@ -693,7 +730,8 @@ static void answer_case(void) {
     else if (is(kind, len, "utf8")) utf8();
     else if (is(kind, len, "day")) day();
     else if (is(kind, len, "date")) date();
-    else if (is(kind, len, "records") || is(kind, len, "decoder")) records();
+    else if (is(kind, len, "records")) records(0);
+    else if (is(kind, len, "decoder")) records(1);
     else if (is(kind, len, "streams")) streams();
     else if (is(kind, len, "merge")) merge_all();
     else if (is(kind, len, "open_metadata")) open_metadata();
@@ -702,7 +740,8 @@ static void answer_case(void) {
     else if (is(kind, len, "build_day")) whole_build(1);
     else if (is(kind, len, "lent_build")) lent_build(0);
     else if (is(kind, len, "lent_build_day")) lent_build(1);
-    else put_word("?");
+    else fail("no such kind");
+    if (more_words()) fail("the case has words left over");
     put("\n", 1);
 }
 
@@ -713,7 +752,9 @@ int main(void) {
         len += got;
         if (len == room) text = realloc(text, room *= 2);
     }
-    if (text == NULL) return 2;
+    if (text == NULL) fail("no memory");
+    if (ferror(stdin)) fail("standard input can't be read");
+    if (len != 0 && text[len - 1] != '\n') fail("the last line is cut off");
     for (at = text; at < text + len; at = line_end + 1) {
         for (line_end = at; line_end < text + len && *line_end != '\n'; line_end++) {}
         answer_case();

@@ -636,6 +636,40 @@ static void test_metadata_memory(void) {
     MERGE_REFUSES(DESK_BAD_MEMORY, SIZE_MAX, gathered(), added());
 }
 
+static void test_hint_of(void) {
+    const uint64_t starts[] = {0, 50, UINT64_MAX};
+    begin();
+    put_header(d.header, UINT64_MAX, UINT64_MAX, UINT64_MAX, UINT64_MAX); /* whatever is in use of lists that are not lent */
+    for (int i = 0; i < 3; i++) {
+        d.header[DESK_START] = starts[i];
+        d.hint = ~starts[i];
+        was = d;
+        DONE(desk_hint_of(d.header, DESK_HEADER_WORDS, &d.hint));
+        was.hint = starts[i];
+        IS(memcmp(&d, &was, sizeof d) == 0); /* *hint is the start, and nothing else changed */
+    }
+    d.hint = 7;
+    REFUSES(DESK_BAD_MEMORY, desk_hint_of(d.header, 0, &d.hint));
+    REFUSES(DESK_BAD_MEMORY, desk_hint_of(d.header, DESK_HEADER_WORDS - 1, &d.hint));
+    REFUSES(DESK_BAD_MEMORY, desk_hint_of(d.header, DESK_HEADER_WORDS + 1, &d.hint));
+    static const struct {
+        int word;
+        uint64_t most;
+    } widths[] = {{DESK_VERSION, 255},  {DESK_DATASET, UINT32_MAX}, {DESK_SCHEMA, DESK_NO_SCHEMA},
+                  {DESK_STYPE_IN, 255}, {DESK_STYPE_OUT, 255},      {DESK_TS_OUT, 1}};
+    for (size_t i = 0; i < sizeof widths / sizeof widths[0]; i++) {
+        uint64_t *word = &d.header[widths[i].word], held = *word;
+        *word = widths[i].most;
+        d.hint = 7;
+        DONE(desk_hint_of(d.header, DESK_HEADER_WORDS, &d.hint));
+        IS(d.hint == UINT64_MAX);
+        *word = widths[i].most + 1;
+        d.hint = 7;
+        REFUSES(DESK_BAD_MEMORY, desk_hint_of(d.header, DESK_HEADER_WORDS, &d.hint));
+        *word = held;
+    }
+}
+
 static void test_metadata_merge(void) {
     struct side m = gathered(), a = added();
     a.header[DESK_TS_OUT] = 1;
@@ -1436,6 +1470,7 @@ int main(void) {
     test_merge();
     test_metadata_open();
     test_metadata_memory();
+    test_hint_of();
     test_metadata_merge();
     test_metadata_refusals();
     test_metadata_limits();

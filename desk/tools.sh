@@ -1,4 +1,5 @@
-# Sourced by desk/run, oracle/differential and bench/run, from the repository's root: the door's archive, and C programs over it.
+# Sourced by .ci/run, desk/run, oracle/differential, oracle/selftest and bench/run, from the repository's root: the door's archive, and
+# C programs over it.
 #
 # DESK_CC says how a C program is built. `cc`: by the machine's own compiler for x86-64, which on another machine is Debian's
 # x86_64-linux-gnu-gcc. `kit`: by the kit's clang and linker with the headers of desk/bare, which needs no package. Without it: cc
@@ -15,14 +16,15 @@ if [ "$machine" = x86_64 ]; then compiler=(cc) emulator=(); else
     compiler=(x86_64-linux-gnu-gcc -static) emulator=("$toolchain/bin/qemu-x86_64" -cpu qemu64)
 fi
 if [ -n "${DESK_CC:-}" ]; then how=$DESK_CC; elif [ "$machine" = x86_64 ] && command -v cc >/dev/null; then how=cc; else how=kit; fi
+case $how in cc | kit) ;; *) echo "desk: DESK_CC=$how: there are cc and kit" >&2; exit 2 ;; esac
 
 # the archive of every door's exports, unless it is newer than everything that it is made of
 make_archive() {
-    mkdir -p target/desk
+    mkdir -p target/desk || return
     if [ -e "$archive" ] && [ -z "$(find crates crates.txt -newer "$archive" -print -quit)" ]; then return; fi
     local door
     for door in "${doors[@]}"; do
-        rt staticlib "$door" >target/desk/staticlib.log 2>&1 || { tail -20 target/desk/staticlib.log; echo "desk: the archive of $door failed"; return 1; }
+        rt staticlib "$door" >target/desk/staticlib.log 2>&1 || { cat target/desk/staticlib.log; echo "desk: the archive of $door failed"; return 1; }
     done
     rm -f "$archive"
     { echo "create $archive"; printf 'addlib target/staticlib/lib%s.a\n' "${doors[@]}"; echo save; echo end; } | "$toolchain/bin/llvm-ar" -M
@@ -30,13 +32,15 @@ make_archive() {
 
 # desk/NAME.c to target/desk/NAME
 build_c() {
+    rm -f "target/desk/$1"
     if [ "$how" = cc ]; then
         "${compiler[@]}" -std=c99 "${strict[@]}" -o "target/desk/$1" "desk/$1.c" "$archive"
     else
         "$toolchain/bin/clang" --target=x86_64-unknown-linux-gnu -std=c99 "${strict[@]}" -nostdinc -isystem desk/bare -fPIE \
-            -c "desk/$1.c" -o "target/desk/$1.o"
+            -c "desk/$1.c" -o "target/desk/$1.o" || return
         "$kit/on/$machine/bin/rattle-link" --target x86_64-unknown-linux-gnu --toolchain "$toolchain" -o "target/desk/$1" \
-            "target/desk/$1.o" "$archive" 2>target/desk/link.log || { cat target/desk/link.log; return 1; }
+            "target/desk/$1.o" "$archive" 2>"target/desk/$1.link.log" ||
+            { cat "target/desk/$1.link.log"; return 1; }
     fi
 }
 

@@ -278,6 +278,11 @@ uint32_t desk_build_points(uint8_t *table, size_t table_len, size_t *used, const
  * hold their numbers, each once, and none at place i that comes by (times, number) after one at 2i + 1 or 2i + 2. What else the
  * arrays hold says nothing. */
 
+/* The hint of a stream from its own metadata's header, as that was before any merge: where the metadata starts. 15 where the words
+ * are no header; the lists are not asked for.
+ * After 0: *hint is the hint. After 15: all as before. */
+uint32_t desk_hint_of(const uint64_t *header, size_t header_len, uint64_t *hint);
+
 /* Opens the streams, each at its hint; an empty hint list means all hints 0. Reads none of them. 15 where an array has not 256
  * places; 12 for no stream, over 256, cuts wrong, or hints given and not one per stream.
  * After 0: *streams and *held are the number of streams, and in the state each stream waits at place 0 with its hint; every other

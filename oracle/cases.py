@@ -2,7 +2,8 @@
 """Prints cases, one a line: cases.py PART SIZE [SEED].
 
 PART is `domain` (document 01's equality domain: the Rust and the model agree), `beyond` (outside it: they may not) or
-`lent` (lent memory: the model and the port alone). SIZE is `quick` or `long`. The seed is printed on standard error.
+`lent` (lent memory: the model and the port alone). SIZE is `quick` or `long`. A seed that was not given is drawn, and
+printed on standard error. Exits with 2 for another PART, SIZE or SEED.
 """
 
 import random
@@ -257,10 +258,21 @@ def beyond(rng, long):
     yield from (build_day(rng, dates=outside) for _ in range(3_000 * times))
 
 
+def asked(part, size, seed=None):
+    """The cases that the arguments ask for."""
+    maker = {"domain": domain, "beyond": beyond, "lent": lent.cases}[part]
+    long = {"quick": False, "long": True}[size]
+    if seed is None:
+        seed = random.randrange(2**32)
+        print(f"seed {seed}", file=sys.stderr)
+    return maker(random.Random(int(seed)), long)
+
+
 if __name__ == "__main__":
-    part, size, *seed = sys.argv[1:]
-    seed = int(seed[0]) if seed else random.randrange(2**32)
-    print(f"seed {seed}", file=sys.stderr)
-    parts = {"domain": domain, "beyond": beyond, "lent": lent.cases}
-    for line in parts[part](random.Random(seed), size == "long"):
+    try:
+        made = asked(*sys.argv[1:])
+    except (KeyError, TypeError, ValueError):
+        print("cases.py domain|beyond|lent quick|long [SEED]", file=sys.stderr)
+        sys.exit(2)
+    for line in made:
         print(line)

@@ -62,7 +62,8 @@ CHECKED = [  # the same with the Rust built with overflow checks
 
 def rust(driver, cases):
     given = "".join(case + "\n" for case in cases)
-    return subprocess.run([HERE / "target" / driver], input=given, capture_output=True, text=True).stdout.splitlines()
+    ran = subprocess.run([HERE / "target" / driver], input=given, stdout=subprocess.PIPE, text=True, check=True)
+    return ran.stdout.splitlines()
 
 
 def main():

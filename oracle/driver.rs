@@ -18,15 +18,16 @@ use dbn::{
 };
 use time::{Date, Duration, Month};
 
-fn main() {
-    panic::set_hook(Box::new(|_| {}));
+fn main() -> io::Result<()> {
     let mut out = io::BufWriter::new(io::stdout().lock());
     let hint_at = hint_place();
+    panic::set_hook(Box::new(|_| {})); // a panic is an answer
     for line in io::stdin().lock().lines() {
-        let line = line.expect("a line of text");
+        let line = line?;
         let answer = panic::catch_unwind(|| answer(&line, hint_at)).unwrap_or_else(|_| "panic".to_owned());
-        writeln!(out, "{answer}").expect("standard output");
+        writeln!(out, "{answer}")?;
     }
+    out.flush()
 }
 
 fn answer(line: &str, hint_at: usize) -> String {

@@ -1,7 +1,8 @@
 #!/usr/bin/env python3
 """The printed examples M1 to M12 of document 01 and the traps B1 to B45 of its reading, as cases with their answers.
 
-traps.py checks the model on them. traps.py cases, traps.py answers print them for another program.
+traps.py checks the model on them, and exits with 1 where an answer is another. traps.py cases, traps.py answers print
+them for another program.
 """
 
 import sys
@@ -329,17 +330,24 @@ def traps():
         yield from part()
 
 
+def checked():
+    """How many of the model's answers are not the written ones, each printed."""
+    wrong = 0
+    for name, (case, said) in traps():
+        if answers.answer(case) != said:
+            wrong += 1
+            print(f"{name}: {case}\n  asked {said}\n  model {answers.answer(case)}")
+    print(f"traps: {len(list(traps()))} cases, {wrong} wrong")
+    return wrong
+
+
 if __name__ == "__main__":
     if sys.argv[1:] == ["cases"]:
         print("\n".join(case for _, (case, _) in traps()))
     elif sys.argv[1:] == ["answers"]:
         print("\n".join(said for _, (_, said) in traps()))
+    elif sys.argv[1:]:
+        print("traps.py [cases|answers]", file=sys.stderr)
+        sys.exit(2)
     else:
-        wrong = 0
-        for name, (case, said) in traps():
-            if answers.answer(case) != said:
-                wrong += 1
-                print(f"{name}: {case}\n  asked {said}\n  model {answers.answer(case)}")
-        print(f"traps: {len(list(traps()))} cases, {wrong} wrong")
-        sys.exit(1 if wrong else 0)
-
+        sys.exit(1 if checked() else 0)

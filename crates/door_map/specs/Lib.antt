@@ -5,3 +5,4 @@ pub mod MergeLaws
 pub mod Merger
 pub mod MergerLaws
 pub mod Build
+pub mod Hints

@@ -14,7 +14,7 @@ abbrev pub turnAnswer : (ℕ → Stream) → ℕ → List ℕ → List ℕ → L
 turnAnswer b n marks times places heads = answerOf (machine.answer (machine.next b (statusesOf n marks times places heads)))
 
 -- a call with this answer returned this number, and left these in the lent numbers: a record's are those of the answer, the end's 0;
--- 13 sets stream, place and reason alone; 15 sets none
+-- of these 13 sets stream, place and reason alone, and 15 none; what is held is the state's
 pub record Handed (a : Answer) (r found stream place long kind instrument time reason found′ stream′ place′ long′ kind′ instrument′ time′ reason′ : ℕ) : Type 0 where
   pub returns : r ≡ numberIn a
   pub finds : found′ ≡ givenIn found 0 a

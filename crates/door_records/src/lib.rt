@@ -1,2 +1,3 @@
-// The record merge exported to C.
+// The record merge exported to C, and a stream's hint from its metadata.
+pub mod hints;
 pub mod merge;
