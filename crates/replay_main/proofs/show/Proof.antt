@@ -1,13 +1,16 @@
--- A text that was laid is no longer than what it was laid in. Assumes nothing.
-use mathlib.Core.Path.{sym, ap, _∙_}
+-- A text that was laid is no longer than what it was laid in, and what is written of it is the bundle's text, which has the bundle's
+-- status. Assumes nothing.
+use mathlib.Core.Path.{refl, sym, ap, _∙_}
 use Prim.Native.Nat.{_≤_}
 use lib.ListN.{length}
 use lib.Seq.{length-take-le}
 use Rattle.replay_text.specs.Replay.{replayedOf}
 use Rattle.replay_text.specs.ReplayCalls.{text-fits}
+use Rattle.replay_main.specs.Status.{textStatus}
+use Rattle.replay_main.specs.StatusLaws.{text-status, text-taken}
 use borrow.Author.Needs.{needs}
-use Rattle.replay.proofs.show.Statement.{statement}
-use Rattle.replay.proofs.show.Tie as tie
+use Rattle.replay_main.proofs.show.Statement.{statement}
+use Rattle.replay_main.proofs.show.Tie as tie
 
 replay-requires : tie.Need-replay-requires
 replay-requires c κs = search needs
@@ -20,14 +23,14 @@ fits c =
     let r = c .before .before .before .before .before .replay in
     text-fits _ _ _ _ (ap replayedOf (sym (c .before .n .given .1)) ∙ r .ensures .0) (r .ensures .1) (r .kept .1 .0)
 
-slice-reshare-prefix-write-all : tie.Need-slice-reshare-prefix-write-all
-slice-reshare-prefix-write-all c = fits c
+slice-reshare-prefix-put : tie.Need-slice-reshare-prefix-put
+slice-reshare-prefix-put c = fits c
 
-slice-aggregate-write-all : tie.Need-slice-aggregate-write-all
-slice-aggregate-write-all c = sym (length-take-le _ _ (fits (c .before)))
+slice-aggregate-put : tie.Need-slice-aggregate-put
+slice-aggregate-put c = sym (length-take-le _ _ (fits (c .before)))
 
-write-all-requires : tie.Need-write-all-requires
-write-all-requires c κs = search needs
+put-requires : tie.Need-put-requires
+put-requires c κs = search needs
 
 enum-told : tie.Need-enum-told
 enum-told c = search needs
@@ -36,13 +39,16 @@ same-length : tie.Need-same-length
 same-length c = search needs
 
 returns : tie.Need-returns
-returns c = search needs
+returns c = λ h.
+    let r = c .before .before .before .before .before .before .before .replay in
+    c .put .ensures h ∙ ap textStatus (text-taken _ _ _ _ (ap replayedOf (sym (c .before .before .before .n .given .1)) ∙ r .ensures .0) (r .ensures .1))
+    ∙ text-status _
 
 same-length-2 : tie.Need-same-length-2
 same-length-2 c = search needs
 
 returns-2 : tie.Need-returns-2
-returns-2 c = search needs
+returns-2 c = λ h. absurd (h refl)
 
 pub show-spec : {M : Type 1} → statement M
 show-spec =
@@ -50,9 +56,9 @@ show-spec =
     (tie.spec
     replay-requires
     enum-known-n
-    slice-reshare-prefix-write-all
-    slice-aggregate-write-all
-    write-all-requires
+    slice-reshare-prefix-put
+    slice-aggregate-put
+    put-requires
     enum-told
     same-length
     returns

@@ -1,0 +1,70 @@
+// The replay program: reads a bundle from standard input and writes the records of its streams in the merge's order (document 01,
+// "Merging records").
+use replay_text::replay::Replayed;
+use standard::Input;
+ghost use mathlib.Core.Path.{_≡_};
+ghost use lib.ListN.{length};
+ghost use Rattle.replay_main.specs.Status.{textStatus, TextEnds, Ends};
+
+// The status of a bundle that was replayed.
+const DONE: u8 = 0;
+
+// The status of a bad bundle.
+const BAD: u8 = 1;
+
+// The status where reading or writing failed.
+const FAILED: u8 = 2;
+
+// Room for the longest bundle and a byte more, so that a longer one is seen.
+fn input_space() -> [u8; 60001]
+    ensures { λ r. ⌜ 60001 ≡ length r ⌝ }
+{
+    [0; 60001]
+}
+
+// The status of a replay's text: that of a bad bundle alone begins with a `b`.
+fn status_of(text: &[u8]) -> u8
+    ensures { λ r. ⌜ r ≡ textStatus (now (text .entry)) ⌝ }
+{
+    if text.len() == 0 {
+        return DONE;
+    }
+    if text[0] == b'b' { BAD } else { DONE }
+}
+
+// Writes a replay's text and answers the status.
+fn put(text: &[u8]) -> u8
+    ensures { λ r. ⌜ TextEnds (now (text .entry)) r ⌝ }
+{
+    if standard::write_output(text, b"replay: writing standard output") {
+        status_of(text)
+    } else {
+        FAILED
+    }
+}
+
+// Writes a bundle's replay, which the lent bytes have room for, and answers the status.
+fn show(bundle: &[u8], text: &mut [u8]) -> u8
+    ensures { λ r. ⌜ Ends (now (bundle .entry)) r ⌝ }
+{
+    match replay_text::replay::replay(bundle, text) {
+        Replayed::Text(n) => put(&text[..n]),
+        Replayed::Refused(_) => FAILED,
+    }
+}
+
+// Replays standard input and answers the status.
+fn replayed() -> u8 {
+    let mut input = input_space();
+    let mut text = replay_text::replay::text_space();
+    match standard::read_input(&mut input, b"replay: reading standard input") {
+        Input::Bytes(n) => show(&input[..n], &mut text),
+        Input::Failed => FAILED,
+    }
+}
+
+// The program: replays standard input to standard output, and answers the status to end with.
+#[no_mangle]
+pub extern "C" fn replay_main() -> i32 {
+    replayed() as i32
+}
