@@ -64,7 +64,7 @@ lines (x ∷ xs) = other-append (lineOf x) (linesOf xs) (line x) (lines xs)
 status : (o : Option (List (List ℕ))) → textStatus (textOf o) ≡ statusOf o
 unfolding textStatus textOf statusOf badLine
 status none = refl
-status (some ss) = rw (ne-eqb _ 98 (lines (told (among ss) (replicate (length ss) 0)))) refl
+status (some ss) = rw (ne-eqb _ 98 (lines (literalRun (among ss) (replicate (length ss) 0)))) refl
 
 -- a replay's text has the bundle's status
 pub text-status : (bundle : List ℕ) → textStatus (replayText bundle) ≡ statusOf (streamsIn bundle)
