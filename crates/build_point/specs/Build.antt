@@ -11,7 +11,7 @@ use Rattle.map_point.specs.Entries.{putEntries}
 use Rattle.map_point.specs.Points.{pointsFit}
 use Rattle.metadata_form.specs.declared.header.Header.{Header}
 use Rattle.metadata_form.specs.declared.header.Lengths.{Lengths}
-use Rattle.metadata_form.specs.Header.{Lists, lengthsOf, metadataOf, sizedOf}
+use Rattle.metadata_form.specs.Header.{Lists, lengthsOf, metadataOf, metadataFits}
 use Rattle.build_rules.specs.OverTime.{Build, stopped, built, buildAnswer}
 use Rattle.build_rules.specs.PointInTime.{pointInTime}
 use Rattle.build_point.specs.declared.build.Built.{Built}
@@ -24,7 +24,7 @@ builtOf (Refused r) = refused r
 
 -- not 15: a table of so many bytes, a metadata and a name list of so many bytes and places are of the form
 unfoldable pub memoryFits : ℕ → Header → Lengths → List ℕ → ℕ → ℕ → ℕ → ℕ → Bool
-memoryFits size h l m bytes ends names used = pointsFit size 0 && (sizedOf h l m && memoryOk bytes ends names used)
+memoryFits size h l m bytes ends names used = pointsFit size 0 && (metadataFits h l m && memoryOk bytes ends names used)
 
 -- the build: 15, 14 for the name list, then the metadata's for the asked date. Of the table only its size counts: "a build discards what
 -- the table held and never gives 14 for it"

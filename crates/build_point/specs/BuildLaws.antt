@@ -21,7 +21,7 @@ use Rattle.map_point.specs.Points.{rising, pointsFit}
 use Rattle.metadata_rules.specs.Words.{mappingsFrom, before}
 use Rattle.metadata_form.specs.declared.header.Header.{Header}
 use Rattle.metadata_form.specs.declared.header.Lengths.{Lengths}
-use Rattle.metadata_form.specs.Header.{headerFields, Lists, lengthsOf, metadataOf, sizedOf, Sized, sized-facts}
+use Rattle.metadata_form.specs.Header.{headerFields, Lists, lengthsOf, metadataOf, metadataFits, MetadataFitting, metadata-fitting}
 use Rattle.build_rules.specs.declared.reading.Direction.{Direction}
 use Rattle.build_rules.specs.Reading.{Read}
 use Rattle.build_rules.specs.OverTime.{Build, stopped, built, buildAnswer}
@@ -42,7 +42,7 @@ module _ (size : ℕ) (h : Header) (l : Lengths) (m : List ℕ) (bytes ends name
   unfolding memoryFits
   fits-table t = rw (fails p t) refl
 
-  module _ (t : not f ≡ false) {g : Bool} (q : g ≡ sizedOf h l m) where
+  module _ (t : not f ≡ false) {g : Bool} (q : g ≡ metadataFits h l m) where
     pub fits-metadata : not g ≡ true → false ≡ memoryFits size h l m bytes ends names used
     unfolding memoryFits
     fits-metadata u = rw (holds p t, fails q u) refl
@@ -100,7 +100,7 @@ module _ (size : ℕ) (h : Header) (l : Lists) (bytes ends : List ℕ) (names us
 
   -- what 15 and 14 leave of the memory
   pub record Good : Type 0 where
-    pub sizes : Sized h (lengthsOf l) (l .mappings)
+    pub sizes : MetadataFitting h (lengthsOf l) (l .mappings)
     pub list : Memory (length bytes) (length ends) names used
 
   module _ {f : Bool} (p : f ≡ fit) where
@@ -112,9 +112,9 @@ module _ (size : ℕ) (h : Header) (l : Lists) (bytes ends : List ℕ) (names us
       good : Good
       unfolding memoryFits
       good =
-          let a = and-eq-true-iff (pointsFit size 0) (sizedOf h (lengthsOf l) (l .mappings) && memoryOk (length bytes) (length ends) names used) .0 (holds p u) in
-          let b = and-eq-true-iff (sizedOf h (lengthsOf l) (l .mappings)) (memoryOk (length bytes) (length ends) names used) .0 (a .1) in
-          record { sizes = sized-facts h (lengthsOf l) (l .mappings) (b .0); list = memory (length bytes) (length ends) names used (b .1) }
+          let a = and-eq-true-iff (pointsFit size 0) (metadataFits h (lengthsOf l) (l .mappings) && memoryOk (length bytes) (length ends) names used) .0 (holds p u) in
+          let b = and-eq-true-iff (metadataFits h (lengthsOf l) (l .mappings)) (memoryOk (length bytes) (length ends) names used) .0 (a .1) in
+          record { sizes = metadata-fitting h (lengthsOf l) (l .mappings) (b .0); list = memory (length bytes) (length ends) names used (b .1) }
 
       pub ends-memory : (names ≤ length ends) × (used ≤ length bytes)
       ends-memory = let m = good .list in (m .held, m .room)

@@ -15,7 +15,7 @@ use Rattle.map_point.specs.Entries.{putEntry, putEntries}
 use Rattle.map_point.specs.Points.{pointsFit}
 use Rattle.metadata_rules.specs.Words.{mappingsFrom, before}
 use Rattle.metadata_form.specs.declared.header.Header.{Header}
-use Rattle.metadata_form.specs.Header.{Lists, lists, metadataOf, sizedOf}
+use Rattle.metadata_form.specs.Header.{Lists, lists, metadataOf, metadataFits}
 use Rattle.build_point.specs.Build.{pointInTimeAnswer, pointInTimeMemory}
 
 -- a header with these stypes and one mapping
@@ -56,11 +56,11 @@ odd = (refl, refl)
 -- the bytes of one character as two names: 14, before 11 and 9
 split : (pointInTimeAnswer 8 (header 1 1) one (195 ∷ 169 ∷ []) (1 ∷ 2 ∷ []) 2 2 0 ≡ answer 14 [])
     × (pointInTimeMemory 8 (header 1 1) one (195 ∷ 169 ∷ []) (1 ∷ 2 ∷ []) 2 2 0 ≡ 0 ∷ 0 ∷ 0 ∷ 0 ∷ 0 ∷ 0 ∷ 0 ∷ 0 ∷ [])
-unfolding pointInTimeAnswer pointInTimeMemory pointsFit badRoom sizedOf before memoryOk wellFormed standFrom nameStart isName nameOf isUtf8 within
+unfolding pointInTimeAnswer pointInTimeMemory pointsFit badRoom metadataFits before memoryOk wellFormed standFrom nameStart isName nameOf isUtf8 within
 split = (refl, refl)
 
 -- `5` is the instrument 5 and `A` its symbol, in a table of two places
 done : (pointInTimeAnswer 16 (header 1 0) one bytes ends 3 2 19700102 ≡ answer 0 (1 ∷ []))
     × (pointInTimeMemory 16 (header 1 0) one bytes ends 3 2 19700102 ≡ 5 ∷ 0 ∷ 0 ∷ 0 ∷ 2 ∷ 0 ∷ 0 ∷ 0 ∷ 0 ∷ 0 ∷ 0 ∷ 0 ∷ 0 ∷ 0 ∷ 0 ∷ 0 ∷ [])
-unfolding pointInTimeAnswer pointInTimeMemory pointsFit badRoom sizedOf before memoryOk wellFormed standFrom nameStart isName nameOf isUtf8 within namesOf namesFrom metadataOf mappingsFrom numberText someDigits digits isDigit dayOf isDate dayNumber isLeap monthDays daysOfYears daysBefore putEntries putEntry putField
+unfolding pointInTimeAnswer pointInTimeMemory pointsFit badRoom metadataFits before memoryOk wellFormed standFrom nameStart isName nameOf isUtf8 within namesOf namesFrom metadataOf mappingsFrom numberText someDigits digits isDigit dayOf isDate dayNumber isLeap monthDays daysOfYears daysBefore putEntries putEntry putField
 done = (refl, refl)

@@ -12,7 +12,7 @@ use map_point::points::Stored;
 use map_point::points::points_fit;
 use metadata_form::header::Header;
 use metadata_form::header::Lengths;
-use metadata_form::header::sized;
+use metadata_form::header::metadata_fits;
 ghost use mathlib.Core.Path.{_≡_};
 ghost use lib.ListN.{length};
 ghost use Rattle.metadata_form.specs.Header.{lists};
@@ -41,7 +41,7 @@ fn memory_fits(
     if !points_fit(size, 0) {
         return false;
     }
-    if !sized(h, l, mappings) {
+    if !metadata_fits(h, l, mappings) {
         return false;
     }
     is_memory(bytes, ends, names, used)

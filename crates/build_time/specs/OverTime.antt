@@ -13,7 +13,7 @@ use Rattle.map_rules.specs.Table.{Row}
 use Rattle.map_rules.specs.Memory.{roomOf, badTable, rowsWritten}
 use Rattle.metadata_form.specs.declared.header.Header.{Header}
 use Rattle.metadata_form.specs.declared.header.Lengths.{Lengths}
-use Rattle.metadata_form.specs.Header.{Lists, lengthsOf, metadataOf, sizedOf}
+use Rattle.metadata_form.specs.Header.{Lists, lengthsOf, metadataOf, metadataFits}
 use Rattle.build_rules.specs.OverTime.{Step, stop, skip, give, forwardStep, inverseStep, Build, stopped, built, overTime, buildAnswer}
 use Rattle.build_time.specs.declared.over_time.Built.{Built}
 use Rattle.build_time.specs.declared.over_time.Built.the-variants.{Done, Refused}
@@ -55,7 +55,7 @@ lengthsBy a b c m v = record { symbols = a; partial = b; «not_found» = c; mapp
 
 -- the table's length is a multiple of 24 and its room within the limit, the metadata and the list are of their forms; where not, 15
 unfoldable pub memoryFits : ℕ → Header → Lengths → List ℕ → ℕ → ℕ → ℕ → ℕ → Bool
-memoryFits long h l m bytes places names used = not (badTable long 0) && (sizedOf h l m && memoryOk bytes places names used)
+memoryFits long h l m bytes places names used = not (badTable long 0) && (metadataFits h l m && memoryOk bytes places names used)
 
 -- the build: 15, 14, then as its metadata says
 unfoldable pub overTimeBuild : List ℕ → Header → Lists → List ℕ → List ℕ → ℕ → ℕ → Build (Row ℕ)

@@ -36,7 +36,7 @@ use Rattle.metadata_rules.specs.Metadata.{Mapping, mapping}
 use Rattle.metadata_rules.specs.Words.{nameAt, countAt, before, intervalAt, stretch, mappingsFrom}
 use Rattle.metadata_form.specs.declared.header.Header.{Header}
 use Rattle.metadata_form.specs.declared.header.Lengths.{Lengths}
-use Rattle.metadata_form.specs.Header.{Lists, lengthsOf, metadataOf, sizedOf, Sized, sized-facts}
+use Rattle.metadata_form.specs.Header.{Lists, lengthsOf, metadataOf, metadataFits, MetadataFitting, metadata-fitting}
 use Rattle.metadata_rules.specs.WordsLaws.{before-next, before-up}
 use Rattle.build_rules.specs.declared.reading.Direction.{Direction}
 use Rattle.build_rules.specs.declared.reading.Direction.the-variants as direction
@@ -531,26 +531,26 @@ module _ (long : ℕ) (h : Header) (l : Lengths) (m : List ℕ) (bytes places na
   unfolding memoryFits
   fits-table e d = let f : badTable long 0 ≡ true = sym e ∙ d in rw f refl
 
-  pub fits-metadata : {b s : Bool} → b ≡ badTable long 0 → b ≡ false → s ≡ sizedOf h l m → not s ≡ true → false ≡ memoryFits long h l m bytes places names used
+  pub fits-metadata : {b s : Bool} → b ≡ badTable long 0 → b ≡ false → s ≡ metadataFits h l m → not s ≡ true → false ≡ memoryFits long h l m bytes places names used
   unfolding memoryFits
   fits-metadata e d f g =
       let i : badTable long 0 ≡ false = sym e ∙ d in
-      let j : sizedOf h l m ≡ false = fails f g in
+      let j : metadataFits h l m ≡ false = fails f g in
       rw (i, j) refl
 
-  pub fits-list : {b s r : Bool} → b ≡ badTable long 0 → b ≡ false → s ≡ sizedOf h l m → not s ≡ false → r ≡ memoryOk bytes places names used
+  pub fits-list : {b s r : Bool} → b ≡ badTable long 0 → b ≡ false → s ≡ metadataFits h l m → not s ≡ false → r ≡ memoryOk bytes places names used
       → r ≡ memoryFits long h l m bytes places names used
   unfolding memoryFits
   fits-list e d f g k =
       let i : badTable long 0 ≡ false = sym e ∙ d in
-      let j : sizedOf h l m ≡ true = holds f g in
+      let j : metadataFits h l m ≡ true = holds f g in
       k ∙ rw (i, j) refl
 
-  fits-facts : memoryFits long h l m bytes places names used ≡ true → (badTable long 0 ≡ false) × (sizedOf h l m ≡ true) × (memoryOk bytes places names used ≡ true)
+  fits-facts : memoryFits long h l m bytes places names used ≡ true → (badTable long 0 ≡ false) × (metadataFits h l m ≡ true) × (memoryOk bytes places names used ≡ true)
   unfolding memoryFits
   fits-facts e =
       let p = and-parts (not (badTable long 0)) _ e in
-      let r = and-parts (sizedOf h l m) _ (p .1) in
+      let r = and-parts (metadataFits h l m) _ (p .1) in
       (not-true (badTable long 0) (p .0), r .0, r .1)
 
 -- an emptied table
@@ -598,7 +598,7 @@ module _ (t : List ℕ) (h : Header) (l : Lists) (bytes ends : List ℕ) (names 
       good : memoryFits (length t) h (lengthsOf l) (l .mappings) (length bytes) (length ends) names used ≡ true
       good = holds fit g
 
-      parts : (badTable (length t) 0 ≡ false) × (sizedOf h (lengthsOf l) (l .mappings) ≡ true) × (memoryOk (length bytes) (length ends) names used ≡ true)
+      parts : (badTable (length t) 0 ≡ false) × (metadataFits h (lengthsOf l) (l .mappings) ≡ true) × (memoryOk (length bytes) (length ends) names used ≡ true)
       parts = fits-facts (length t) h (lengthsOf l) (l .mappings) (length bytes) (length ends) names used good
 
       pub over-list : (names ≤ length ends) × (used ≤ length bytes)
@@ -616,7 +616,7 @@ module _ (t : List ℕ) (h : Header) (l : Lists) (bytes ends : List ℕ) (names 
           pub over-ready : Ordered-names bytes ends names × Holds names z 0 × (2 * h .mappings ≤ length (l .mappings)) × (3 * before (l .mappings) (h .mappings) ≤ length (l .intervals))
           over-ready =
               let m = memory (length bytes) (length ends) names used (parts .2) in
-              let s : Sized h (lengthsOf l) (l .mappings) = sized-facts h (lengthsOf l) (l .mappings) (parts .1) in
+              let s : MetadataFitting h (lengthsOf l) (l .mappings) = metadata-fitting h (lengthsOf l) (l .mappings) (parts .1) in
               let a = s .fit .spans-whole in
               let b = s .sum in (
                 ordered-names m (formed-names bytes ends used names (holds k c)),

@@ -18,7 +18,7 @@ use map_time::insert::enter;
 use map_time::table::bad_table;
 use metadata_form::header::Header;
 use metadata_form::header::Lengths;
-use metadata_form::header::sized;
+use metadata_form::header::metadata_fits;
 use metadata_form::words::count_at;
 use metadata_form::words::interval_at;
 use metadata_form::words::name_at;
@@ -348,7 +348,7 @@ fn memory_fits(
     if bad_table(long, 0) {
         return false;
     }
-    if !sized(h, l, mappings) {
+    if !metadata_fits(h, l, mappings) {
         return false;
     }
     is_memory(bytes, places, names, name_bytes)

@@ -21,13 +21,13 @@ use Rattle.metadata_rules.specs.Metadata as merging
 use Rattle.metadata_rules.specs.Words.{before, mappingsFrom, mappingWords, intervalWords}
 use Rattle.metadata_gather.specs.Judge.{knownDate}
 use Rattle.metadata_form.specs.declared.header.Header.{Header}
-use Rattle.metadata_form.specs.Header.{Lists, lists, metadataOf, sizedOf}
+use Rattle.metadata_form.specs.Header.{Lists, lists, metadataOf, metadataFits}
 use Rattle.metadata_form.specs.Over.{over}
 use Rattle.metadata_form.specs.Header.{numbersOf}
-use Rattle.metadata_merge.specs.Merger.{bothSized, mergeAnswer, mergeLists}
+use Rattle.metadata_merge.specs.Merger.{bothFit, mergeAnswer, mergeLists}
 use Rattle.records_rules.specs.Machine.{start}
 use Rattle.records_rules.specs.Bytes.{streamsOf}
-use Rattle.records_rules.specs.State.{answerOf, rightMemory, rightStreams, padded, opening}
+use Rattle.records_rules.specs.State.{answerOf, arraysFit, rightStreams, padded, opening}
 use Rattle.records_rules.specs.Calls.{answersF}
 use Rattle.records_rules.specs.Examples.{short}
 
@@ -101,7 +101,7 @@ result t (day d) = says (dayOf d)
 result t (merge l r) = lays (mergeAnswer names header l header r) (mergeLists names header l header r)
 result t (replay n b cuts) =
     tells
-    (opening (rightMemory 0 256 256 256 256 256) (rightStreams (length b) cuts 0) (length cuts - 1)
+    (opening (arraysFit 0 256 256 256 256 256) (rightStreams (length b) cuts 0) (length cuts - 1)
     ∷ map answerOf (answersF n (streamsOf b cuts) (start (padded (length cuts - 1) []))))
 
 -- the table after an outcome, and after a call
@@ -257,5 +257,5 @@ agree f g (y ∷ ys) e x (inr m) = let h : map f ys ≡ map g ys = cc in agree f
 
 -- each of the twelve gives what it says
 pub every-holds : (x : Example) → Mem x examples → gives x ≡ said x
-unfolding gives said examples outcomeAnswer insertOutcome inserted badTable memoryAfter rowsWritten rowsBytes rowBytes bytesOf usedAfter rowsFrom rowAt field lookupAnswer saidAnswer lookupRows numberText someDigits digits isDigit dayOf isDate isLeap monthDays dayNumber daysOfYears daysBefore mergeAnswer mergeLists bothSized sizedOf metadataOf mappingsFrom before mappingWords intervalWords over knownDate merging.merge answersF start padded opening rightMemory rightStreams streamsOf frameAt
+unfolding gives said examples outcomeAnswer insertOutcome inserted badTable memoryAfter rowsWritten rowsBytes rowBytes bytesOf usedAfter rowsFrom rowAt field lookupAnswer saidAnswer lookupRows numberText someDigits digits isDigit dayOf isDate isLeap monthDays dayNumber daysOfYears daysBefore mergeAnswer mergeLists bothFit metadataFits metadataOf mappingsFrom before mappingWords intervalWords over knownDate merging.merge answersF start padded opening arraysFit rightStreams streamsOf frameAt
 every-holds = agree gives said examples refl

@@ -83,10 +83,12 @@ lengthsFit h l =
     && (eqb (l .intervals % 3) 0
     && leb (l .intervals / 3) 65536))))))
 
--- and the intervals in use, the sum of the mappings' counts, are within the lent ones; where not, 15
-unfoldable pub sizedOf : Header → Lengths → List ℕ → Bool
+-- a metadata's memory is of the form: its lists, and the intervals in use, the sum of the mappings' counts, within the lent ones;
+-- where not, 15
+unfoldable pub metadataFits : Header → Lengths → List ℕ → Bool
 unfolding lengthsFit
-sizedOf h l m = lengthsFit h l && leb (before m (h .mappings)) (l .intervals / 3)
+metadataFits header lengths mappings =
+    lengthsFit header lengths && leb (before mappings (header .mappings)) (lengths .intervals / 3)
 
 -- the header of a merge
 abbrev pub mergedHeader : Header → Header → Counts → Header
@@ -126,9 +128,9 @@ countedHeader h c = record {
   mappings = c .mappings;
 }
 
--- counts within the rooms; where not, 2
-unfoldable pub countsFit : Counts → Lengths → Bool
-countsFit c l =
+-- an outcome's counts within the rooms; where not, 2
+unfoldable pub outcomeFits : Counts → Lengths → Bool
+outcomeFits c l =
     leb (c .symbols) (l .symbols)
     && (leb (c .partial) (l .partial)
     && (leb (c .«not_found») (l .«not_found»)
@@ -192,13 +194,13 @@ fitting h l e0 =
     }
 
 -- and of the sum
-pub record Sized (h : Header) (l : Lengths) (m : List ℕ) : Type 0 where
+pub record MetadataFitting (h : Header) (l : Lengths) (m : List ℕ) : Type 0 where
   pub fit : Fitting h l
   pub sum : before m (h .mappings) ≤ l .intervals / 3
 
-pub sized-facts : (h : Header) (l : Lengths) (m : List ℕ) → sizedOf h l m ≡ true → Sized h l m
-unfolding sizedOf
-sized-facts h l m e =
+pub metadata-fitting : (h : Header) (l : Lengths) (m : List ℕ) → metadataFits h l m ≡ true → MetadataFitting h l m
+unfolding metadataFits
+metadata-fitting h l m e =
     record {
       fit = fitting h l (both-left (lengthsFit h l) _ e);
       sum = leb-true (before m (h .mappings)) (l .intervals / 3) (both-right (lengthsFit h l) _ e);

@@ -5,7 +5,7 @@ ghost use Prim.Native.Nat.{_+_, _-_, _*_, _<_, _≤_, min, max};
 ghost use lib.ListN.{length};
 ghost use Rattle.metadata_rules.specs.Words.{before};
 ghost use Rattle.metadata_rules.specs.Metadata.{sameSchema, sameBool, differsAt};
-ghost use Rattle.metadata_form.specs.Header.{headerFields, setFits, lengthsFit, sizedOf, mergedHeader, countedHeader, countsFit};
+ghost use Rattle.metadata_form.specs.Header.{headerFields, setFits, lengthsFit, metadataFits, mergedHeader, countedHeader, outcomeFits};
 
 // What a metadata says besides its lists, and how many places of each list are in use. The dataset is a name's number; an end
 // or limit of 0 is a missing one; schema 65535 and stype_in 255 mean none.
@@ -69,42 +69,42 @@ fn set_fits(used: usize, lent: usize) -> bool
 }
 
 // Whether each list is within its limit and made of whole mappings and intervals, and what is in use within each.
-fn lengths_fit(h: Header, l: Lengths) -> bool
-    ensures { λ r. ⌜ r ≡ lengthsFit h l ⌝ }
+fn lengths_fit(header: Header, lengths: Lengths) -> bool
+    ensures { λ r. ⌜ r ≡ lengthsFit header lengths ⌝ }
 {
-    if !set_fits(h.symbols, l.symbols) {
+    if !set_fits(header.symbols, lengths.symbols) {
         return false;
     }
-    if !set_fits(h.partial, l.partial) {
+    if !set_fits(header.partial, lengths.partial) {
         return false;
     }
-    if !set_fits(h.not_found, l.not_found) {
+    if !set_fits(header.not_found, lengths.not_found) {
         return false;
     }
-    if l.mappings % MAPPING_WORDS != 0 {
+    if lengths.mappings % MAPPING_WORDS != 0 {
         return false;
     }
-    if MAPPINGS < l.mappings / MAPPING_WORDS {
+    if MAPPINGS < lengths.mappings / MAPPING_WORDS {
         return false;
     }
-    if l.mappings / MAPPING_WORDS < h.mappings {
+    if lengths.mappings / MAPPING_WORDS < header.mappings {
         return false;
     }
-    if l.intervals % INTERVAL_WORDS != 0 {
+    if lengths.intervals % INTERVAL_WORDS != 0 {
         return false;
     }
-    l.intervals / INTERVAL_WORDS <= INTERVALS
+    lengths.intervals / INTERVAL_WORDS <= INTERVALS
 }
 
-// How many intervals the first n mappings have together.
-pub fn total(m: &[u32], n: usize) -> usize
-    requires { ⌜ (2 * n ≤ length (now m)) × (n ≤ 4096) ⌝ }
-    ensures { λ r. ⌜ r ≡ before (now (m .entry)) n ⌝ }
+// How many intervals the first `count` mappings have together.
+pub fn total(mappings: &[u32], count: usize) -> usize
+    requires { ⌜ (2 * count ≤ length (now mappings)) × (count ≤ 4096) ⌝ }
+    ensures { λ r. ⌜ r ≡ before (now (mappings .entry)) count ⌝ }
 {
     let mut i = 0;
     let mut sum = 0;
-    while i < n {
-        let c = count_at(m, i);
+    while i < count {
+        let c = count_at(mappings, i);
         sum += c;
         i += 1;
     }
@@ -112,15 +112,15 @@ pub fn total(m: &[u32], n: usize) -> usize
 }
 
 // Whether a metadata's memory is of the form; where it is not, 15.
-pub fn sized(h: Header, l: Lengths, m: &[u32]) -> bool
-    requires { ⌜ l .mappings ≡ length (now m) ⌝ }
-    ensures { λ r. ⌜ r ≡ sizedOf h l (now (m .entry)) ⌝ }
+pub fn metadata_fits(header: Header, lengths: Lengths, mappings: &[u32]) -> bool
+    requires { ⌜ lengths .mappings ≡ length (now mappings) ⌝ }
+    ensures { λ r. ⌜ r ≡ metadataFits header lengths (now (mappings .entry)) ⌝ }
 {
-    if !lengths_fit(h, l) {
+    if !lengths_fit(header, lengths) {
         return false;
     }
-    let n = h.mappings;
-    total(m, n) <= l.intervals / INTERVAL_WORDS
+    let count = header.mappings;
+    total(mappings, count) <= lengths.intervals / INTERVAL_WORDS
 }
 
 // Whether two answers are the same.
@@ -134,25 +134,25 @@ fn same(a: bool, b: bool) -> bool
 }
 
 // The place of the first of the six fields that differs, from 1; 0 for none.
-pub fn differs(h: Header, g: Header) -> u32
-    ensures { λ r. ⌜ r ≡ differsAt (headerFields h) (headerFields g) ⌝ }
+pub fn differs(header: Header, added: Header) -> u32
+    ensures { λ r. ⌜ r ≡ differsAt (headerFields header) (headerFields added) ⌝ }
 {
-    if h.version != g.version {
+    if header.version != added.version {
         return 1;
     }
-    if h.dataset != g.dataset {
+    if header.dataset != added.dataset {
         return 2;
     }
-    if h.stype_in != g.stype_in {
+    if header.stype_in != added.stype_in {
         return 3;
     }
-    if h.stype_out != g.stype_out {
+    if header.stype_out != added.stype_out {
         return 4;
     }
-    if !same(h.ts_out, g.ts_out) {
+    if !same(header.ts_out, added.ts_out) {
         return 5;
     }
-    if h.symbol_cstr_len != g.symbol_cstr_len {
+    if header.symbol_cstr_len != added.symbol_cstr_len {
         return 6;
     }
     0
@@ -181,67 +181,67 @@ fn same_schema(a: u16, b: u16) -> u16
 }
 
 // The header of a merge: start the lesser, end the greater, no limit, and the outcome's counts.
-pub fn merged_header(h: Header, g: Header, c: Counts) -> Header
-    ensures { λ r. ⌜ r ≡ mergedHeader h g c ⌝ }
+pub fn merged_header(header: Header, added: Header, counts: Counts) -> Header
+    ensures { λ r. ⌜ r ≡ mergedHeader header added counts ⌝ }
 {
-    let schema = same_schema(h.schema, g.schema);
-    let start = lesser(h.start, g.start);
-    let end = greater(h.end, g.end);
+    let schema = same_schema(header.schema, added.schema);
+    let start = lesser(header.start, added.start);
+    let end = greater(header.end, added.end);
     Header {
-        version: h.version,
-        dataset: h.dataset,
+        version: header.version,
+        dataset: header.dataset,
         schema: schema,
         start: start,
         end: end,
         limit: 0,
-        stype_in: h.stype_in,
-        stype_out: h.stype_out,
-        ts_out: h.ts_out,
-        symbol_cstr_len: h.symbol_cstr_len,
-        symbols: c.symbols,
-        partial: c.partial,
-        not_found: c.not_found,
-        mappings: c.mappings,
+        stype_in: header.stype_in,
+        stype_out: header.stype_out,
+        ts_out: header.ts_out,
+        symbol_cstr_len: header.symbol_cstr_len,
+        symbols: counts.symbols,
+        partial: counts.partial,
+        not_found: counts.not_found,
+        mappings: counts.mappings,
     }
 }
 
 // The same header with the outcome's counts.
-pub fn counted(h: Header, c: Counts) -> Header
-    ensures { λ r. ⌜ r ≡ countedHeader h c ⌝ }
+pub fn counted(header: Header, counts: Counts) -> Header
+    ensures { λ r. ⌜ r ≡ countedHeader header counts ⌝ }
 {
     Header {
-        version: h.version,
-        dataset: h.dataset,
-        schema: h.schema,
-        start: h.start,
-        end: h.end,
-        limit: h.limit,
-        stype_in: h.stype_in,
-        stype_out: h.stype_out,
-        ts_out: h.ts_out,
-        symbol_cstr_len: h.symbol_cstr_len,
-        symbols: c.symbols,
-        partial: c.partial,
-        not_found: c.not_found,
-        mappings: c.mappings,
+        version: header.version,
+        dataset: header.dataset,
+        schema: header.schema,
+        start: header.start,
+        end: header.end,
+        limit: header.limit,
+        stype_in: header.stype_in,
+        stype_out: header.stype_out,
+        ts_out: header.ts_out,
+        symbol_cstr_len: header.symbol_cstr_len,
+        symbols: counts.symbols,
+        partial: counts.partial,
+        not_found: counts.not_found,
+        mappings: counts.mappings,
     }
 }
 
 // Whether an outcome fits the room; where it does not, 2.
-pub fn fits(c: Counts, l: Lengths) -> bool
-    ensures { λ r. ⌜ r ≡ countsFit c l ⌝ }
+pub fn outcome_fits(counts: Counts, lengths: Lengths) -> bool
+    ensures { λ r. ⌜ r ≡ outcomeFits counts lengths ⌝ }
 {
-    if l.symbols < c.symbols {
+    if lengths.symbols < counts.symbols {
         return false;
     }
-    if l.partial < c.partial {
+    if lengths.partial < counts.partial {
         return false;
     }
-    if l.not_found < c.not_found {
+    if lengths.not_found < counts.not_found {
         return false;
     }
-    if l.mappings / MAPPING_WORDS < c.mappings {
+    if lengths.mappings / MAPPING_WORDS < counts.mappings {
         return false;
     }
-    c.intervals <= l.intervals / INTERVAL_WORDS
+    counts.intervals <= lengths.intervals / INTERVAL_WORDS
 }

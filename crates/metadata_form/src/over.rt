@@ -5,38 +5,38 @@ ghost use lib.ListN.{length, take, replicate};
 ghost use lib.Seq.{paste};
 ghost use Rattle.metadata_form.specs.Over.{over};
 
-// The first n words of t, laid at the front of d.
-fn copy(d: &mut [u32], t: &[u32], n: usize)
-    requires { ⌜ (n ≤ length (now d)) × (n ≤ length (now t)) ⌝ }
-    ensures { λ _. ⌜ now (d .exit) ≡ paste (now (d .entry)) 0 (now (t .entry)) n ⌝ }
+// The first `count` words, laid at the front of a list.
+fn copy(list: &mut [u32], words: &[u32], count: usize)
+    requires { ⌜ (count ≤ length (now list)) × (count ≤ length (now words)) ⌝ }
+    ensures { λ _. ⌜ now (list .exit) ≡ paste (now (list .entry)) 0 (now (words .entry)) count ⌝ }
 {
     let mut j = 0;
-    while j < n {
-        d[j] = t[j];
+    while j < count {
+        list[j] = words[j];
         j += 1;
     }
 }
 
-// k places from the place `at` on become 0.
-fn clear(d: &mut [u32], at: usize, k: usize)
-    requires { ⌜ at + k ≤ length (now d) ⌝ }
-    ensures { λ _. ⌜ now (d .exit) ≡ paste (now (d .entry)) at (replicate k 0) k ⌝ }
+// `count` places of a list from the place `at` on become 0.
+fn clear(list: &mut [u32], at: usize, count: usize)
+    requires { ⌜ at + count ≤ length (now list) ⌝ }
+    ensures { λ _. ⌜ now (list .exit) ≡ paste (now (list .entry)) at (replicate count 0) count ⌝ }
 {
     let mut j = 0;
-    while j < k {
-        d[at + j] = 0;
+    while j < count {
+        list[at + j] = 0;
         j += 1;
     }
 }
 
-// The first n words of t over d, of which `used` places were in use.
-pub fn lay_over(d: &mut [u32], used: usize, t: &[u32], n: usize)
-    requires { ⌜ (used ≤ length (now d)) × (n ≤ length (now d)) × (n ≤ length (now t)) ⌝ }
-    ensures { λ _. ⌜ now (d .exit) ≡ over (now (d .entry)) used (take n (now (t .entry))) ⌝ }
+// The first `count` words over a list, of which `used` places were in use.
+pub fn lay_over(list: &mut [u32], used: usize, words: &[u32], count: usize)
+    requires { ⌜ (used ≤ length (now list)) × (count ≤ length (now list)) × (count ≤ length (now words)) ⌝ }
+    ensures { λ _. ⌜ now (list .exit) ≡ over (now (list .entry)) used (take count (now (words .entry))) ⌝ }
 {
-    copy(d, t, n);
-    if used <= n {
+    copy(list, words, count);
+    if used <= count {
         return;
     }
-    clear(d, n, used - n);
+    clear(list, count, used - count);
 }

@@ -15,68 +15,68 @@ pub fn wide(x: u32) -> usize
 }
 
 // The i-th interval.
-pub fn interval_at(v: &[u32], i: usize) -> Interval
-    requires { ⌜ 3 * i + 3 ≤ length (now v) ⌝ }
-    ensures { λ r. ⌜ r ≡ intervalAt (now (v .entry)) i ⌝ }
+pub fn interval_at(intervals: &[u32], i: usize) -> Interval
+    requires { ⌜ 3 * i + 3 ≤ length (now intervals) ⌝ }
+    ensures { λ r. ⌜ r ≡ intervalAt (now (intervals .entry)) i ⌝ }
 {
     let o = 3 * i;
     Interval {
-        start: v[o],
-        end: v[o + 1],
-        symbol: v[o + 2],
+        start: intervals[o],
+        end: intervals[o + 1],
+        symbol: intervals[o + 2],
     }
 }
 
 // The i-th interval becomes x.
-pub fn put_interval(v: &mut [u32], i: usize, x: Interval)
-    requires { ⌜ 3 * i + 3 ≤ length (now v) ⌝ }
-    ensures { λ _. ⌜ now (v .exit) ≡ putAt (now (v .entry)) i x ⌝ }
+pub fn put_interval(intervals: &mut [u32], i: usize, x: Interval)
+    requires { ⌜ 3 * i + 3 ≤ length (now intervals) ⌝ }
+    ensures { λ _. ⌜ now (intervals .exit) ≡ putAt (now (intervals .entry)) i x ⌝ }
 {
     let o = 3 * i;
-    v[o] = x.start;
-    v[o + 1] = x.end;
-    v[o + 2] = x.symbol;
+    intervals[o] = x.start;
+    intervals[o + 1] = x.end;
+    intervals[o + 2] = x.symbol;
 }
 
-// The intervals of `a` from one place up to another, laid in `out` from the place `at` on.
-pub fn copy_intervals(a: &[u32], from: usize, to: usize, out: &mut [u32], at: usize)
-    requires { ⌜ (from ≤ to) × (3 * to ≤ length (now a)) × (3 * (at + (to - from)) ≤ length (now out)) ⌝ }
-    ensures { λ _. ⌜ now (out .exit) ≡ layIntervals (now (out .entry)) at (rest (now (a .entry)) from to) ⌝ }
+// The intervals from one place up to another, laid in `out` from the place `at` on.
+pub fn copy_intervals(intervals: &[u32], from: usize, to: usize, out: &mut [u32], at: usize)
+    requires { ⌜ (from ≤ to) × (3 * to ≤ length (now intervals)) × (3 * (at + (to - from)) ≤ length (now out)) ⌝ }
+    ensures { λ _. ⌜ now (out .exit) ≡ layIntervals (now (out .entry)) at (rest (now (intervals .entry)) from to) ⌝ }
 {
     let mut i = from;
     let mut k = at;
     while i < to {
-        let x = interval_at(a, i);
+        let x = interval_at(intervals, i);
         put_interval(out, k, x);
         i += 1;
         k += 1;
     }
 }
 
-// The t-th mapping's name.
-pub fn name_at(m: &[u32], t: usize) -> u32
-    requires { ⌜ 2 * t + 2 ≤ length (now m) ⌝ }
-    ensures { λ r. ⌜ r ≡ nameAt (now (m .entry)) t ⌝ }
+// The i-th mapping's name.
+pub fn name_at(mappings: &[u32], i: usize) -> u32
+    requires { ⌜ 2 * i + 2 ≤ length (now mappings) ⌝ }
+    ensures { λ r. ⌜ r ≡ nameAt (now (mappings .entry)) i ⌝ }
 {
-    let o = 2 * t;
-    m[o]
+    let o = 2 * i;
+    mappings[o]
 }
 
-// How many intervals the t-th mapping has.
-pub fn count_at(m: &[u32], t: usize) -> usize
-    requires { ⌜ 2 * t + 2 ≤ length (now m) ⌝ }
-    ensures { λ r. ⌜ r ≡ countAt (now (m .entry)) t ⌝ }
+// How many intervals the i-th mapping has.
+pub fn count_at(mappings: &[u32], i: usize) -> usize
+    requires { ⌜ 2 * i + 2 ≤ length (now mappings) ⌝ }
+    ensures { λ r. ⌜ r ≡ countAt (now (mappings .entry)) i ⌝ }
 {
-    let o = 2 * t;
-    wide(m[o + 1])
+    let o = 2 * i;
+    wide(mappings[o + 1])
 }
 
-// The q-th mapping becomes one of this name, with so many intervals.
-pub fn put_mapping(m: &mut [u32], q: usize, name: u32, count: usize)
-    requires { ⌜ (2 * q + 2 ≤ length (now m)) × (count < 4294967296) ⌝ }
-    ensures { λ _. ⌜ now (m .exit) ≡ putMapping (now (m .entry)) q name count ⌝ }
+// The i-th mapping becomes one of this name, with so many intervals.
+pub fn put_mapping(mappings: &mut [u32], i: usize, name: u32, count: usize)
+    requires { ⌜ (2 * i + 2 ≤ length (now mappings)) × (count < 4294967296) ⌝ }
+    ensures { λ _. ⌜ now (mappings .exit) ≡ putMapping (now (mappings .entry)) i name count ⌝ }
 {
-    let o = 2 * q;
-    m[o] = name;
-    m[o + 1] = count as u32;
+    let o = 2 * i;
+    mappings[o] = name;
+    mappings[o + 1] = count as u32;
 }

@@ -21,8 +21,8 @@ use Rattle.metadata_lists.specs.Names.{Final, failed, placed, layAll, finishNam
 use Rattle.metadata_lists.specs.NamesLaying.{AllReady}
 use Rattle.metadata_lists.specs.NamesWhole.{HeadOk, collect-by-name, sums-bound}
 use Rattle.metadata_lists.specs.NamesWords.{Stands, stands}
-use Rattle.metadata_lists.specs.declared.names.Names.{Names}
-use Rattle.metadata_lists.specs.declared.names.Names.the-variants.{Conflicting, Done}
+use Rattle.metadata_lists.specs.declared.names.NamesLaid.{NamesLaid}
+use Rattle.metadata_lists.specs.declared.names.NamesLaid.the-variants as names-laid
 use Rattle.metadata_gather.specs.Sides.{Sound, Offs, count-all, lay-append, lost-count, within-of, placed-flat}
 use Rattle.metadata_gather.specs.Judge.{knownDate, dated, below, known, forward, namesTo, rest-all, names-all}
 use Rattle.metadata_gather.specs.declared.plan.Planned.{Planned}
@@ -30,18 +30,19 @@ use Rattle.metadata_gather.specs.declared.plan.Planned.the-variants.{Fau
 
 -- the mappings of both sides: the left one's without its repeats, then the right one's
 unfoldable pub bothSides : List ℕ → ℕ → List ℕ → List ℕ → ℕ → List ℕ → List Mapping
-bothSides lm n lv rm k rv = enterAll [] (mappingsFrom lm lv 0 0 n) ++ mappingsFrom rm rv 0 0 k
+bothSides left-mappings left-count left-intervals right-mappings right-count right-intervals =
+    enterAll [] (mappingsFrom left-mappings left-intervals 0 0 left-count) ++ mappingsFrom right-mappings right-intervals 0 0 right-count
 
 -- 11, 3 or 1, over all mappings each before the next; 0 for none (01, Merging metadata)
 unfoldable pub faultOf : ℕ → Bool → List Mapping → ℕ
 faultOf names rest ms = cond (datesKnown knownDate ms) (cond (rest && mappingsKnown names ms) (cond (forwardsOf ms) 0 1) 3) 11
 
--- the same over words: q mappings and e intervals
+-- the same over words, with so many mappings and intervals
 unfoldable pub faultFlat : List ℕ → ℕ → List ℕ → ℕ → ℕ → Bool → ℕ
-faultFlat gm q gv e names known-rest =
-    cond (every dated (rest gv 0 e))
-    (cond (known-rest && (every (below names) (namesTo gm 0 q) && every (known names) (rest gv 0 e)))
-    (cond (every forward (rest gv 0 e)) 0 1) 3) 11
+faultFlat both-mappings mapping-count both-intervals interval-count names known-rest =
+    cond (every dated (rest both-intervals 0 interval-count))
+    (cond (known-rest && (every (below names) (namesTo both-mappings 0 mapping-count) && every (known names) (rest both-intervals 0 interval-count)))
+    (cond (every forward (rest both-intervals 0 interval-count)) 0 1) 3) 11
 
 -- what a plan comes to
 pub data Shown : Type 0 where
@@ -298,20 +299,20 @@ unfolding layAll
 not-laid [] om q out k e = let z : _≡_ {A = ℕ} 0 1 = cc in omega arith
 not-laid (m ∷ ms) om q out k e = not-laid ms _ _ _ _ e
 
-unfoldable pub shownNames : Names → List ℕ → List ℕ → Shown
-shownNames Conflicting om out = fault 7
-shownNames (Done q k) om out = shown (placed om q out k)
+unfoldable pub shownNames : NamesLaid → List ℕ → List ℕ → Shown
+shownNames names-laid.Conflict om out = fault 7
+shownNames (names-laid.Done q k) om out = shown (placed om q out k)
 
 at-zero : (om out : List ℕ) (ms : List Mapping) → planOn 0 om out ms ≡ shownMerged om out (byName ms)
 unfolding planOn
 at-zero om out ms = refl
 
-shown-end : (r : Names) (om om' out out' : List ℕ) (g : Merged) → endNames r om' out' ≡ finishNames om 0 out 0 g → shownNames r om' out' ≡ shownMerged om out g
+shown-end : (r : NamesLaid) (om om' out out' : List ℕ) (g : Merged) → endNames r om' out' ≡ finishNames om 0 out 0 g → shownNames r om' out' ≡ shownMerged om out g
 unfolding endNames finishNames shownNames shownMerged
-shown-end Conflicting om om' out out' conflicting e = refl
-shown-end Conflicting om om' out out' (merged ms) e = absurd (not-laid ms om 0 out 0 e)
-shown-end (Done q k) om om' out out' conflicting e = let z : _≡_ {A = ℕ} 0 1 = cc in absurd (omega arith)
-shown-end (Done q k) om om' out out' (merged ms) e = ap shown e
+shown-end names-laid.Conflict om om' out out' conflicting e = refl
+shown-end names-laid.Conflict om om' out out' (merged ms) e = absurd (not-laid ms om 0 out 0 e)
+shown-end (names-laid.Done q k) om om' out out' conflicting e = let z : _≡_ {A = ℕ} 0 1 = cc in absurd (omega arith)
+shown-end (names-laid.Done q k) om om' out out' (merged ms) e = ap shown e
 
 pub full : (n k : ℕ) (a : List ℕ) → a ≡ replicate k n → (t : ℕ) → t < length a → getD a t 0 ≡ n
 full n k a e t h = let l = ap length e ∙ length-replicate {A = ℕ} k n in ap (λ (r : List ℕ). getD r t 0) e ∙ getD-replicate k t n 0 (omega arith)
@@ -342,12 +343,12 @@ plan-fault ms gm q gv e s names known-rest om out n a d = go n (a ∙ fault-same
     go zero x y = absurd (y refl)
     go (suc k) x y = ap (λ (j : ℕ). planOn j om out ms) x
 
-pub plan-laid : (ms : List Mapping) (gm : List ℕ) (q : ℕ) (gv : List ℕ) (e : ℕ) → Stands ms gm q gv e → (names : ℕ) (known-rest : Bool) (om out om' out' : List ℕ) (n : ℕ) (r x : Names)
+pub plan-laid : (ms : List Mapping) (gm : List ℕ) (q : ℕ) (gv : List ℕ) (e : ℕ) → Stands ms gm q gv e → (names : ℕ) (known-rest : Bool) (om out om' out' : List ℕ) (n : ℕ) (r x : NamesLaid)
     → n ≡ faultFlat gm q gv e names known-rest → n ≡ 0 → endNames r om' out' ≡ finishNames om 0 out 0 (byName (mappingsFrom gm gv 0 0 q)) → r ≡ x
     → shownNames x om' out' ≡ planOf names known-rest ms om out
 unfolding planOf
 plan-laid ms gm q gv e s names known-rest om out om' out' n r x a z h d =
-    ap (λ (y : Names). shownNames y om' out') (sym d)
+    ap (λ (y : NamesLaid). shownNames y om' out') (sym d)
     ∙ shown-end r om om' out out' (byName ms) (h ∙ ap (λ (l : List Mapping). finishNames om 0 out 0 (byName l)) (stands-read ms gm q gv e s))
     ∙ sym (ap (λ (j : ℕ). planOn j om out ms) (sym (fault-same ms gm q gv e s names known-rest) ∙ sym a ∙ z) ∙ at-zero om out ms)
 

@@ -1,4 +1,4 @@
-// Numbers in the order of first arrival, each once. A number below the length of `at` is found by its mark there (its place
+// Numbers in the order of first arrival, each once. A number below the length of `marks` is found by its mark there (its place
 // among the arrivals, from 1; 0 for none), any other by a search: a metadata may hold numbers that were never handed out.
 use metadata_form::words::wide;
 ghost use mathlib.Core.Path.{_≡_};
@@ -13,81 +13,87 @@ pub struct Added {
     pub count: usize,
 }
 
-// The first place of x among the first n of xs, or n.
-fn first_place(xs: &[u32], n: usize, x: u32) -> usize
-    requires { ⌜ n ≤ length (now xs) ⌝ }
-    ensures { λ r. ⌜ r ≡ indexOf (take n (now (xs .entry))) x ⌝ }
+// The first place of x among the first `count` numbers, or `count`.
+fn first_place(numbers: &[u32], count: usize, x: u32) -> usize
+    requires { ⌜ count ≤ length (now numbers) ⌝ }
+    ensures { λ r. ⌜ r ≡ indexOf (take count (now (numbers .entry))) x ⌝ }
 {
     let mut i = 0;
-    while i < n {
-        if xs[i] == x {
+    while i < count {
+        if numbers[i] == x {
             return i;
         }
         i += 1;
     }
-    n
+    count
 }
 
-// The place of x among the first n of xs, or n: by its mark, or by a search.
-fn index_of(xs: &[u32], n: usize, at: &[u32], x: u32) -> usize
-    requires { ⌜ (n ≤ length (now xs)) × Marked (now at) (take n (now xs)) ⌝ }
-    ensures { λ r. ⌜ r ≡ indexOf (take n (now (xs .entry))) x ⌝ }
+// The place of x among the first `count` numbers, or `count`: by its mark, or by a search.
+fn index_of(numbers: &[u32], count: usize, marks: &[u32], x: u32) -> usize
+    requires { ⌜ (count ≤ length (now numbers)) × Marked (now marks) (take count (now numbers)) ⌝ }
+    ensures { λ r. ⌜ r ≡ indexOf (take count (now (numbers .entry))) x ⌝ }
 {
     let w = wide(x);
-    if w < at.len() {
-        let mark = wide(at[w]);
+    if w < marks.len() {
+        let mark = wide(marks[w]);
         if mark == 0 {
-            return n;
+            return count;
         }
         return mark - 1;
     }
-    first_place(xs, n, x)
+    first_place(numbers, count, x)
 }
 
 // The mark of x becomes k, where x has one.
-fn mark(at: &mut [u32], x: u32, k: usize)
+fn mark(marks: &mut [u32], x: u32, k: usize)
     requires { ⌜ k < 4294967296 ⌝ }
-    ensures { λ _. ⌜ now (at .exit) ≡ set (now (at .entry)) x k ⌝ }
+    ensures { λ _. ⌜ now (marks .exit) ≡ set (now (marks .entry)) x k ⌝ }
 {
     let w = wide(x);
-    if at.len() <= w {
+    if marks.len() <= w {
         return;
     }
-    at[w] = k as u32;
+    marks[w] = k as u32;
 }
 
-// x joins the first n of xs, unless it is there.
-pub fn add_one(xs: &mut [u32], n: usize, at: &mut [u32], x: u32) -> Added
-    requires { ⌜ (n < length (now xs)) × (length (now xs) < 4294967296) × Marked (now at) (take n (now xs)) ⌝ }
-    ensures { λ r. ⌜ IsAdded (take n (now (xs .entry))) x (r .place) (r .count) (now (xs .exit)) (now (at .exit)) ⌝ }
+// x joins the first `count` numbers, unless it is there.
+pub fn add_one(numbers: &mut [u32], count: usize, marks: &mut [u32], x: u32) -> Added
+    requires { ⌜ (count < length (now numbers)) × (length (now numbers) < 4294967296) × Marked (now marks) (take count (now numbers)) ⌝ }
+    ensures { λ r. ⌜ IsAdded (take count (now (numbers .entry))) x (r .place) (r .count) (now (numbers .exit)) (now (marks .exit)) ⌝ }
 {
-    let place = index_of(xs, n, at, x);
-    if place < n {
+    let place = index_of(numbers, count, marks, x);
+    if place < count {
         return Added {
             place: place,
-            count: n,
+            count: count,
         };
     }
-    xs[n] = x;
-    mark(at, x, n + 1);
+    numbers[count] = x;
+    mark(marks, x, count + 1);
     Added {
-        place: n,
-        count: n + 1,
+        place: count,
+        count: count + 1,
     }
 }
 
-// The first m of ys join the first n of xs, one after the other; answers how many there are then.
-pub fn add_all(xs: &mut [u32], n: usize, at: &mut [u32], ys: &[u32], m: usize) -> usize
-    requires { ⌜ (n + m ≤ length (now xs)) × (length (now xs) < 4294967296) × (m ≤ length (now ys)) × Marked (now at) (take n (now xs)) ⌝ }
-    ensures { λ r. ⌜ AllAdded (addAll (take n (now (xs .entry))) (take m (now (ys .entry)))) r (now (xs .exit)) (now (at .exit)) ⌝ }
+// The first `added_count` that are added join the first `count` numbers, one after the other; answers how many there are then.
+pub fn add_all(
+    numbers: &mut [u32],
+    count: usize,
+    marks: &mut [u32],
+    added: &[u32],
+    added_count: usize,
+) -> usize
+    requires { ⌜ (count + «added_count» ≤ length (now numbers)) × (length (now numbers) < 4294967296) × («added_count» ≤ length (now added)) × Marked (now marks) (take count (now numbers)) ⌝ }
+    ensures { λ r. ⌜ AllAdded (addAll (take count (now (numbers .entry))) (take «added_count» (now (added .entry)))) r (now (numbers .exit)) (now (marks .exit)) ⌝ }
 {
-    let mut count = n;
+    let mut held = count;
     let mut i = 0;
-    while i < m {
-        let x = ys[i];
-        let a = add_one(xs, count, at, x);
-        count = a.count;
+    while i < added_count {
+        let x = added[i];
+        let a = add_one(numbers, held, marks, x);
+        held = a.count;
         i += 1;
     }
-    count
+    held
 }

@@ -7,7 +7,6 @@ use metadata_form::words::name_at;
 use metadata_form::words::wide;
 use metadata_rules::Interval;
 ghost use mathlib.Core.Path.{_≡_};
-ghost use mathlib.Core.Logic.{_≢_};
 ghost use mathlib.Core.Bool.{true};
 ghost use Prim.Native.Nat.{_+_, _*_, _<_, _≤_};
 ghost use lib.ListN.{length, take};
@@ -29,38 +28,38 @@ const DECEMBER: u32 = 12;
 
 const SHORTEST_MONTH: u32 = 28;
 
-// Is a number a date within the range, up to the 28th of its month? 1: it is. Most are, and no year is needed to tell.
-fn is_early(date: u32) -> u32
-    ensures { λ r. ⌜ (r ≢ 0 → true ≡ knownDate date) ⌝ }
+// Whether a number is a date within the range, up to the 28th of its month. Most are, and no year is needed to tell.
+fn is_early(date: u32) -> bool
+    ensures { λ r. ⌜ (r ≡ true → true ≡ knownDate date) ⌝ }
 {
     if date < FIRST_DATE {
-        return 0;
+        return false;
     }
     if LAST_DATE < date {
-        return 0;
+        return false;
     }
     let month = date / TWO_DIGITS % TWO_DIGITS;
     let day = date % TWO_DIGITS;
     if month < 1 {
-        return 0;
+        return false;
     }
     if DECEMBER < month {
-        return 0;
+        return false;
     }
     if day < 1 {
-        return 0;
+        return false;
     }
     if SHORTEST_MONTH < day {
-        return 0;
+        return false;
     }
-    1
+    true
 }
 
 // Whether a number is a date within the range.
 fn is_date(date: u32) -> bool
     ensures { λ r. ⌜ r ≡ knownDate date ⌝ }
 {
-    if is_early(date) != 0 {
+    if is_early(date) {
         return true;
     }
     let d = day_of(date);
@@ -80,14 +79,14 @@ fn is_dated(x: Interval) -> bool
     false
 }
 
-// 11: whether start and end of each of the first n intervals are dates.
-pub fn dates_known(v: &[u32], n: usize) -> bool
-    requires { ⌜ 3 * n ≤ length (now v) ⌝ }
-    ensures { λ r. ⌜ r ≡ every dated (rest (now (v .entry)) 0 n) ⌝ }
+// 11: whether start and end of each of the first `count` intervals are dates.
+pub fn dates_known(intervals: &[u32], count: usize) -> bool
+    requires { ⌜ 3 * count ≤ length (now intervals) ⌝ }
+    ensures { λ r. ⌜ r ≡ every dated (rest (now (intervals .entry)) 0 count) ⌝ }
 {
     let mut i = 0;
-    while i < n {
-        let x = interval_at(v, i);
+    while i < count {
+        let x = interval_at(intervals, i);
         if !is_dated(x) {
             return false;
         }
@@ -103,14 +102,14 @@ fn is_known(x: u32, names: usize) -> bool
     wide(x) < names
 }
 
-// 3: whether the symbol of each of the first n intervals was handed out.
-pub fn symbols_known(v: &[u32], n: usize, names: usize) -> bool
-    requires { ⌜ 3 * n ≤ length (now v) ⌝ }
-    ensures { λ r. ⌜ r ≡ every (known names) (rest (now (v .entry)) 0 n) ⌝ }
+// 3: whether the symbol of each of the first `count` intervals was handed out.
+pub fn symbols_known(intervals: &[u32], count: usize, names: usize) -> bool
+    requires { ⌜ 3 * count ≤ length (now intervals) ⌝ }
+    ensures { λ r. ⌜ r ≡ every (known names) (rest (now (intervals .entry)) 0 count) ⌝ }
 {
     let mut i = 0;
-    while i < n {
-        let x = interval_at(v, i);
+    while i < count {
+        let x = interval_at(intervals, i);
         if !is_known(x.symbol, names) {
             return false;
         }
@@ -119,14 +118,14 @@ pub fn symbols_known(v: &[u32], n: usize, names: usize) -> bool
     true
 }
 
-// 3: whether the name of each of the first n mappings was handed out.
-pub fn names_known(m: &[u32], n: usize, names: usize) -> bool
-    requires { ⌜ 2 * n ≤ length (now m) ⌝ }
-    ensures { λ r. ⌜ r ≡ every (below names) (namesTo (now (m .entry)) 0 n) ⌝ }
+// 3: whether the name of each of the first `count` mappings was handed out.
+pub fn names_known(mappings: &[u32], count: usize, names: usize) -> bool
+    requires { ⌜ 2 * count ≤ length (now mappings) ⌝ }
+    ensures { λ r. ⌜ r ≡ every (below names) (namesTo (now (mappings .entry)) 0 count) ⌝ }
 {
     let mut i = 0;
-    while i < n {
-        let x = name_at(m, i);
+    while i < count {
+        let x = name_at(mappings, i);
         if !is_known(x, names) {
             return false;
         }
@@ -135,14 +134,14 @@ pub fn names_known(m: &[u32], n: usize, names: usize) -> bool
     true
 }
 
-// 3: whether each of the first n entries of a set was handed out.
-pub fn entries_known(xs: &[u32], n: usize, names: usize) -> bool
-    requires { ⌜ n ≤ length (now xs) ⌝ }
-    ensures { λ r. ⌜ r ≡ every (below names) (take n (now (xs .entry))) ⌝ }
+// 3: whether each of the first `count` entries of a set was handed out.
+pub fn entries_known(entries: &[u32], count: usize, names: usize) -> bool
+    requires { ⌜ count ≤ length (now entries) ⌝ }
+    ensures { λ r. ⌜ r ≡ every (below names) (take count (now (entries .entry))) ⌝ }
 {
     let mut i = 0;
-    while i < n {
-        if !is_known(xs[i], names) {
+    while i < count {
+        if !is_known(entries[i], names) {
             return false;
         }
         i += 1;
@@ -157,14 +156,14 @@ fn is_forward(x: Interval) -> bool
     x.start <= x.end
 }
 
-// 1: whether the start of each of the first n intervals comes not after its end.
-pub fn forwards(v: &[u32], n: usize) -> bool
-    requires { ⌜ 3 * n ≤ length (now v) ⌝ }
-    ensures { λ r. ⌜ r ≡ every forward (rest (now (v .entry)) 0 n) ⌝ }
+// 1: whether the start of each of the first `count` intervals comes not after its end.
+pub fn forwards(intervals: &[u32], count: usize) -> bool
+    requires { ⌜ 3 * count ≤ length (now intervals) ⌝ }
+    ensures { λ r. ⌜ r ≡ every forward (rest (now (intervals .entry)) 0 count) ⌝ }
 {
     let mut i = 0;
-    while i < n {
-        let x = interval_at(v, i);
+    while i < count {
+        let x = interval_at(intervals, i);
         if !is_forward(x) {
             return false;
         }

@@ -8,21 +8,27 @@ ghost use lib.ListN.{length, getD, take};
 ghost use Rattle.metadata_gather.specs.Arrivals.{Marked};
 ghost use Rattle.metadata_gather.specs.Picks.{picksOf};
 
-// The places of the mappings that count go to `last`; answers how many there are. `names` and `at` are scratch: the names in
+// The places of the mappings that count go to `last`; answers how many there are. `names` and `marks` are scratch: the names in
 // the order of first arrival and their marks.
-pub fn picks(m: &[u32], n: usize, names: &mut [u32], at: &mut [u32], last: &mut [usize]) -> usize
-    requires { ⌜ (2 * n ≤ length (now m)) × (n ≤ length (now names)) × (length (now names) < 4294967296) × (n ≤ length (now last)) × Marked (now at) [] ⌝ }
-    ensures { λ r. ⌜ (r ≤ n) × (take r (now (last .exit)) ≡ picksOf (now (m .entry)) n) ⌝ }
+pub fn picks(
+    mappings: &[u32],
+    count: usize,
+    names: &mut [u32],
+    marks: &mut [u32],
+    last: &mut [usize],
+) -> usize
+    requires { ⌜ (2 * count ≤ length (now mappings)) × (count ≤ length (now names)) × (length (now names) < 4294967296) × (count ≤ length (now last)) × Marked (now marks) [] ⌝ }
+    ensures { λ r. ⌜ (r ≤ count) × (take r (now (last .exit)) ≡ picksOf (now (mappings .entry)) count) ⌝ }
 {
-    let mut count = 0;
+    let mut kept = 0;
     let mut i = 0;
-    while i < n {
-        let x = name_at(m, i);
-        let a = add_one(names, count, at, x);
+    while i < count {
+        let x = name_at(mappings, i);
+        let a = add_one(names, kept, marks, x);
         let place = a.place;
         last[place] = i;
-        count = a.count;
+        kept = a.count;
         i += 1;
     }
-    count
+    kept
 }

@@ -9,7 +9,7 @@ use crate::sides::follow;
 use crate::sides::lose_repeats;
 use metadata_lists::link::link;
 use metadata_lists::link::offsets;
-use metadata_lists::names::Names;
+use metadata_lists::names::NamesLaid;
 use metadata_lists::names::lay_names;
 ghost use mathlib.Core.Path.{_≡_};
 ghost use Prim.Native.Nat.{ℕ, _+_, _-_, _*_, _<_, _≤_};
@@ -48,102 +48,156 @@ pub enum Planned {
 
 // The mappings of both sides: the left one's without its repeats, then the right one's.
 fn gather_sides(
-    lm: &[u32],
-    n: usize,
-    lv: &[u32],
-    rm: &[u32],
-    k: usize,
-    rv: &[u32],
-    gm: &mut [u32],
-    gv: &mut [u32],
+    left_mappings: &[u32],
+    left_count: usize,
+    left_intervals: &[u32],
+    right_mappings: &[u32],
+    right_count: usize,
+    right_intervals: &[u32],
+    both_mappings: &mut [u32],
+    both_intervals: &mut [u32],
 ) -> Laid
-    requires { ⌜ Gathered (now lm) n (now lv) (now rm) k (now rv) (length (now gm)) (length (now gv)) ⌝ }
-    ensures { λ r. ⌜ Stands (bothSides (now (lm .entry)) n (now (lv .entry)) (now (rm .entry)) k (now (rv .entry))) (now (gm .exit)) (r .mappings) (now (gv .exit)) (r .intervals) ⌝ }
+    requires { ⌜ Gathered (now «left_mappings») «left_count» (now «left_intervals») (now «right_mappings») «right_count» (now «right_intervals») (length (now «both_mappings»)) (length (now «both_intervals»)) ⌝ }
+    ensures { λ r. ⌜ Stands (bothSides (now («left_mappings» .entry)) «left_count» (now («left_intervals» .entry)) (now («right_mappings» .entry)) «right_count» (now («right_intervals» .entry))) (now («both_mappings» .exit)) (r .mappings) (now («both_intervals» .exit)) (r .intervals) ⌝ }
 {
-    let l = lose_repeats(lm, n, lv, gm, gv);
-    let q = l.mappings;
-    let o = l.intervals;
-    let e = follow(rm, k, rv, gm, q, gv, o);
+    let left = lose_repeats(
+        left_mappings,
+        left_count,
+        left_intervals,
+        both_mappings,
+        both_intervals,
+    );
+    let laid_mappings = left.mappings;
+    let laid_intervals = left.intervals;
+    let intervals = follow(
+        right_mappings,
+        right_count,
+        right_intervals,
+        both_mappings,
+        laid_mappings,
+        both_intervals,
+        laid_intervals,
+    );
     Laid {
-        mappings: q + k,
-        intervals: e,
+        mappings: laid_mappings + right_count,
+        intervals: intervals,
     }
 }
 
 // 11, 3 or 1 over both sides whole, each before the next; 0 for none. `rest` says whether the name numbers besides the
 // mappings' were handed out.
-fn judge_sides(gm: &[u32], q: usize, gv: &[u32], e: usize, names: usize, rest: bool) -> u32
-    requires { ⌜ (2 * q ≤ length (now gm)) × (3 * e ≤ length (now gv)) ⌝ }
-    ensures { λ r. ⌜ r ≡ faultFlat (now (gm .entry)) q (now (gv .entry)) e names rest ⌝ }
+fn judge_sides(
+    both_mappings: &[u32],
+    mapping_count: usize,
+    both_intervals: &[u32],
+    interval_count: usize,
+    names: usize,
+    rest: bool,
+) -> u32
+    requires { ⌜ (2 * «mapping_count» ≤ length (now «both_mappings»)) × (3 * «interval_count» ≤ length (now «both_intervals»)) ⌝ }
+    ensures { λ r. ⌜ r ≡ faultFlat (now («both_mappings» .entry)) «mapping_count» (now («both_intervals» .entry)) «interval_count» names rest ⌝ }
 {
-    if !dates_known(gv, e) {
+    if !dates_known(both_intervals, interval_count) {
         return NO_DATE;
     }
     if !rest {
         return UNKNOWN_SYMBOL;
     }
-    if !names_known(gm, q, names) {
+    if !names_known(both_mappings, mapping_count, names) {
         return UNKNOWN_SYMBOL;
     }
-    if !symbols_known(gv, e, names) {
+    if !symbols_known(both_intervals, interval_count, names) {
         return UNKNOWN_SYMBOL;
     }
-    if !forwards(gv, e) {
+    if !forwards(both_intervals, interval_count) {
         return REVERSED;
     }
     0
 }
 
-// The mappings that stand in gm and gv merged by name, in om and out.
+// The mappings of both sides merged by name, in `out_mappings` and `out_intervals`.
 fn merge_names(
-    gm: &[u32],
-    q: usize,
-    gv: &[u32],
+    both_mappings: &[u32],
+    count: usize,
+    both_intervals: &[u32],
     temp: &mut [u32],
-    om: &mut [u32],
-    out: &mut [u32],
-) -> Names
-    requires { ⌜ Linkable (now gm) q (now gv) (length (now temp)) (length (now om)) (length (now out)) ⌝ }
-    ensures { λ r. ⌜ endNames r (now (om .exit)) (now (out .exit)) ≡ finishNames (now (om .entry)) 0 (now (out .entry)) 0 (byName (mappingsFrom (now (gm .entry)) (now (gv .entry)) 0 0 q)) ⌝ }
+    out_mappings: &mut [u32],
+    out_intervals: &mut [u32],
+) -> NamesLaid
+    requires { ⌜ Linkable (now «both_mappings») count (now «both_intervals») (length (now temp)) (length (now «out_mappings»)) (length (now «out_intervals»)) ⌝ }
+    ensures { λ r. ⌜ endNames r (now («out_mappings» .exit)) (now («out_intervals» .exit)) ≡ finishNames (now («out_mappings» .entry)) 0 (now («out_intervals» .entry)) 0 (byName (mappingsFrom (now («both_mappings» .entry)) (now («both_intervals» .entry)) 0 0 count)) ⌝ }
 {
-    let mut off = [0usize; BOTH_MAPPINGS];
-    let mut nx = [0usize; BOTH_MAPPINGS];
-    let mut head = [q; NAMES];
-    offsets(gm, q, &mut off);
-    link(gm, q, &mut nx, &mut head);
-    lay_names(gm, q, gv, &off, &nx, &head, temp, om, out)
+    let mut starts = [0usize; BOTH_MAPPINGS];
+    let mut nexts = [0usize; BOTH_MAPPINGS];
+    let mut firsts = [count; NAMES];
+    offsets(both_mappings, count, &mut starts);
+    link(both_mappings, count, &mut nexts, &mut firsts);
+    lay_names(
+        both_mappings,
+        count,
+        both_intervals,
+        &starts,
+        &nexts,
+        &firsts,
+        temp,
+        out_mappings,
+        out_intervals,
+    )
 }
 
-// What the mappings of both sides come to: 11, 3, 1 or 7, or the merge by name in om and out. `rest` says whether the name
-// numbers besides the mappings' were handed out.
+// What the mappings of both sides come to: 11, 3, 1 or 7, or the merge by name in `out_mappings` and `out_intervals`. `rest` says
+// whether the name numbers besides the mappings' were handed out.
 pub fn plan(
-    lm: &[u32],
-    n: usize,
-    lv: &[u32],
-    rm: &[u32],
-    k: usize,
-    rv: &[u32],
+    left_mappings: &[u32],
+    left_count: usize,
+    left_intervals: &[u32],
+    right_mappings: &[u32],
+    right_count: usize,
+    right_intervals: &[u32],
     names: usize,
     rest: bool,
-    om: &mut [u32],
-    out: &mut [u32],
+    out_mappings: &mut [u32],
+    out_intervals: &mut [u32],
 ) -> Planned
-    requires { ⌜ Planable (now lm) n (now lv) (now rm) k (now rv) names (length (now om)) (length (now out)) ⌝ }
-    ensures { λ r. ⌜ endPlan r (now (om .exit)) (now (out .exit)) ≡ planOf names rest (bothSides (now (lm .entry)) n (now (lv .entry)) (now (rm .entry)) k (now (rv .entry))) (now (om .entry)) (now (out .entry)) ⌝ }
+    requires { ⌜ Planable (now «left_mappings») «left_count» (now «left_intervals») (now «right_mappings») «right_count» (now «right_intervals») names (length (now «out_mappings»)) (length (now «out_intervals»)) ⌝ }
+    ensures { λ r. ⌜ endPlan r (now («out_mappings» .exit)) (now («out_intervals» .exit)) ≡ planOf names rest (bothSides (now («left_mappings» .entry)) «left_count» (now («left_intervals» .entry)) (now («right_mappings» .entry)) «right_count» (now («right_intervals» .entry))) (now («out_mappings» .entry)) (now («out_intervals» .entry)) ⌝ }
 {
-    let mut gm = [0u32; BOTH_MAPPING_WORDS];
-    let mut gv = [0u32; BOTH_INTERVAL_WORDS];
-    let g = gather_sides(lm, n, lv, rm, k, rv, &mut gm, &mut gv);
-    let q = g.mappings;
-    let e = g.intervals;
-    let fault = judge_sides(&gm, q, &gv, e, names, rest);
+    let mut both_mappings = [0u32; BOTH_MAPPING_WORDS];
+    let mut both_intervals = [0u32; BOTH_INTERVAL_WORDS];
+    let gathered = gather_sides(
+        left_mappings,
+        left_count,
+        left_intervals,
+        right_mappings,
+        right_count,
+        right_intervals,
+        &mut both_mappings,
+        &mut both_intervals,
+    );
+    let mapping_count = gathered.mappings;
+    let interval_count = gathered.intervals;
+    let fault = judge_sides(
+        &both_mappings,
+        mapping_count,
+        &both_intervals,
+        interval_count,
+        names,
+        rest,
+    );
     if fault != 0 {
         return Planned::Fault(fault);
     }
     let mut temp = [0u32; BOTH_INTERVAL_WORDS];
-    let r = merge_names(&gm, q, &gv, &mut temp, om, out);
-    match r {
-        Names::Conflicting => Planned::Fault(CONFLICT),
-        Names::Done(a, b) => Planned::Laid(a, b),
+    let merged = merge_names(
+        &both_mappings,
+        mapping_count,
+        &both_intervals,
+        &mut temp,
+        out_mappings,
+        out_intervals,
+    );
+    match merged {
+        NamesLaid::Conflict => Planned::Fault(CONFLICT),
+        NamesLaid::Done(mappings, intervals) => Planned::Laid(mappings, intervals),
     }
 }

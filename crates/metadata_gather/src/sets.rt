@@ -19,43 +19,62 @@ pub struct United {
     pub count: usize,
 }
 
-// The first n of a and then the first m of b, each entry once, at the front of t; answers how many.
-pub fn together(a: &[u32], n: usize, b: &[u32], m: usize, t: &mut [u32]) -> usize
-    requires { ⌜ (n ≤ length (now a)) × (m ≤ length (now b)) × (n + m ≤ length (now t)) × (length (now t) < 4294967296) ⌝ }
-    ensures { λ r. ⌜ AllUnited (take n (now (a .entry))) (take m (now (b .entry))) r (now (t .exit)) ⌝ }
+// The left entries and then the right ones, each entry once, at the front of `out`; answers how many.
+pub fn together(
+    left: &[u32],
+    left_count: usize,
+    right: &[u32],
+    right_count: usize,
+    out: &mut [u32],
+) -> usize
+    requires { ⌜ («left_count» ≤ length (now left)) × («right_count» ≤ length (now right)) × («left_count» + «right_count» ≤ length (now out)) × (length (now out) < 4294967296) ⌝ }
+    ensures { λ r. ⌜ AllUnited (take «left_count» (now (left .entry))) (take «right_count» (now (right .entry))) r (now (out .exit)) ⌝ }
 {
     let mut at = [0u32; NAMES];
-    let c = add_all(t, 0, &mut at, a, n);
-    add_all(t, c, &mut at, b, m)
+    let count = add_all(out, 0, &mut at, left, left_count);
+    add_all(out, count, &mut at, right, right_count)
 }
 
-// The first n of a, each entry once, at the front of t; answers how many.
-pub fn alone(a: &[u32], n: usize, t: &mut [u32]) -> usize
-    requires { ⌜ (n ≤ length (now a)) × (n ≤ length (now t)) × (length (now t) < 4294967296) ⌝ }
-    ensures { λ r. ⌜ AllUnited (take n (now (a .entry))) [] r (now (t .exit)) ⌝ }
+// The first `count` entries, each once, at the front of `out`; answers how many.
+pub fn alone(entries: &[u32], count: usize, out: &mut [u32]) -> usize
+    requires { ⌜ (count ≤ length (now entries)) × (count ≤ length (now out)) × (length (now out) < 4294967296) ⌝ }
+    ensures { λ r. ⌜ AllUnited (take count (now (entries .entry))) [] r (now (out .exit)) ⌝ }
 {
     let mut at = [0u32; NAMES];
-    add_all(t, 0, &mut at, a, n)
+    add_all(out, 0, &mut at, entries, count)
 }
 
 // Whether each entry of both sides was handed out.
-fn both_known(a: &[u32], n: usize, b: &[u32], m: usize, names: usize) -> bool
-    requires { ⌜ (n ≤ length (now a)) × (m ≤ length (now b)) ⌝ }
-    ensures { λ r. ⌜ r ≡ (every (below names) (take n (now (a .entry))) && every (below names) (take m (now (b .entry)))) ⌝ }
+fn both_known(
+    left: &[u32],
+    left_count: usize,
+    right: &[u32],
+    right_count: usize,
+    names: usize,
+) -> bool
+    requires { ⌜ («left_count» ≤ length (now left)) × («right_count» ≤ length (now right)) ⌝ }
+    ensures { λ r. ⌜ r ≡ (every (below names) (take «left_count» (now (left .entry))) && every (below names) (take «right_count» (now (right .entry)))) ⌝ }
 {
-    if !entries_known(a, n, names) {
+    if !entries_known(left, left_count, names) {
         return false;
     }
-    entries_known(b, m, names)
+    entries_known(right, right_count, names)
 }
 
-// The set of both sides, and whether each of its entries was handed out.
-pub fn unite(a: &[u32], n: usize, b: &[u32], m: usize, names: usize, t: &mut [u32]) -> United
-    requires { ⌜ (n ≤ length (now a)) × (m ≤ length (now b)) × (n + m ≤ length (now t)) × (length (now t) < 4294967296) ⌝ }
-    ensures { λ r. ⌜ IsUnited (take n (now (a .entry))) (take m (now (b .entry))) names (r .known) (r .count) (now (t .exit)) ⌝ }
+// The set of both sides at the front of `out`, and whether each of its entries was handed out.
+pub fn unite(
+    left: &[u32],
+    left_count: usize,
+    right: &[u32],
+    right_count: usize,
+    names: usize,
+    out: &mut [u32],
+) -> United
+    requires { ⌜ («left_count» ≤ length (now left)) × («right_count» ≤ length (now right)) × («left_count» + «right_count» ≤ length (now out)) × (length (now out) < 4294967296) ⌝ }
+    ensures { λ r. ⌜ IsUnited (take «left_count» (now (left .entry))) (take «right_count» (now (right .entry))) names (r .known) (r .count) (now (out .exit)) ⌝ }
 {
-    let known = both_known(a, n, b, m, names);
-    let count = together(a, n, b, m, t);
+    let known = both_known(left, left_count, right, right_count, names);
+    let count = together(left, left_count, right, right_count, out);
     United {
         known: known,
         count: count,

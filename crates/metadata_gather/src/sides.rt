@@ -1,5 +1,5 @@
-// The mappings of two sides one after the other, the first side without its repeats: two words a mapping in `gm`, three an
-// interval in `gv`, as in lent memory.
+// The mappings of two sides one after the other, the first side without its repeats: two words a mapping in `both_mappings`, three
+// an interval in `both_intervals`, as in lent memory. So many of each are laid already.
 use crate::picks::picks;
 use metadata_form::words::copy_intervals;
 use metadata_form::words::count_at;
@@ -27,99 +27,140 @@ pub struct Laid {
     pub intervals: usize,
 }
 
-// The j-th mapping, laid as the q-th of `gm`, its intervals from the place k of `gv` on; answers the place behind them.
+// The i-th mapping, laid behind those laid already, and its intervals; answers how many intervals are laid then.
 fn lay_mapping(
-    m: &[u32],
-    v: &[u32],
-    off: &[usize],
-    j: usize,
-    gm: &mut [u32],
-    q: usize,
-    gv: &mut [u32],
-    k: usize,
+    mappings: &[u32],
+    intervals: &[u32],
+    starts: &[usize],
+    i: usize,
+    both_mappings: &mut [u32],
+    laid_mappings: usize,
+    both_intervals: &mut [u32],
+    laid_intervals: usize,
 ) -> usize
-    requires { ⌜ Within (now m) (now v) (now off) j × (2 * q + 2 ≤ length (now gm)) × (3 * (k + countAt (now m) j) ≤ length (now gv)) × (length (now gv) < 4294967296) ⌝ }
-    ensures { λ r. ⌜ (now (gm .exit) ≡ putMapping (now (gm .entry)) q (nameAt (now (m .entry)) j) (countAt (now (m .entry)) j)) × (now (gv .exit) ≡ layFrom (now (gv .entry)) k (listAt (now (m .entry)) (now (v .entry)) (now (off .entry)) j)) × (r ≡ k + countAt (now (m .entry)) j) ⌝ }
+    requires { ⌜ Within (now mappings) (now intervals) (now starts) i × (2 * «laid_mappings» + 2 ≤ length (now «both_mappings»)) × (3 * («laid_intervals» + countAt (now mappings) i) ≤ length (now «both_intervals»)) × (length (now «both_intervals») < 4294967296) ⌝ }
+    ensures { λ r. ⌜ (now («both_mappings» .exit) ≡ putMapping (now («both_mappings» .entry)) «laid_mappings» (nameAt (now (mappings .entry)) i) (countAt (now (mappings .entry)) i)) × (now («both_intervals» .exit) ≡ layFrom (now («both_intervals» .entry)) «laid_intervals» (listAt (now (mappings .entry)) (now (intervals .entry)) (now (starts .entry)) i)) × (r ≡ «laid_intervals» + countAt (now (mappings .entry)) i) ⌝ }
 {
-    let x = name_at(m, j);
-    let c = count_at(m, j);
-    let o = off[j];
-    put_mapping(gm, q, x, c);
-    copy_intervals(v, o, o + c, gv, k);
-    k + c
+    let name = name_at(mappings, i);
+    let size = count_at(mappings, i);
+    let start = starts[i];
+    put_mapping(both_mappings, laid_mappings, name, size);
+    copy_intervals(
+        intervals,
+        start,
+        start + size,
+        both_intervals,
+        laid_intervals,
+    );
+    laid_intervals + size
 }
 
-// The mappings at the first n of `places`, laid one after the other from the q-th of `gm` and the place k of `gv` on.
+// The mappings at the first `count` of `places`, laid one after the other; answers how many intervals are laid then.
 fn lay_places(
-    m: &[u32],
-    v: &[u32],
-    off: &[usize],
+    mappings: &[u32],
+    intervals: &[u32],
+    starts: &[usize],
     places: &[usize],
-    n: usize,
-    gm: &mut [u32],
-    q: usize,
-    gv: &mut [u32],
-    k: usize,
+    count: usize,
+    both_mappings: &mut [u32],
+    laid_mappings: usize,
+    both_intervals: &mut [u32],
+    laid_intervals: usize,
 ) -> usize
-    requires { ⌜ Layable (now m) (now v) (now off) (now places) n (length (now gm)) q (length (now gv)) k ⌝ }
-    ensures { λ r. ⌜ placed (now (gm .exit)) (q + n) (now (gv .exit)) r ≡ layAll (now (gm .entry)) q (now (gv .entry)) k (pickedTo (now (m .entry)) (now (v .entry)) (now (off .entry)) (now (places .entry)) 0 n) ⌝ }
+    requires { ⌜ Layable (now mappings) (now intervals) (now starts) (now places) count (length (now «both_mappings»)) «laid_mappings» (length (now «both_intervals»)) «laid_intervals» ⌝ }
+    ensures { λ r. ⌜ placed (now («both_mappings» .exit)) («laid_mappings» + count) (now («both_intervals» .exit)) r ≡ layAll (now («both_mappings» .entry)) «laid_mappings» (now («both_intervals» .entry)) «laid_intervals» (pickedTo (now (mappings .entry)) (now (intervals .entry)) (now (starts .entry)) (now (places .entry)) 0 count) ⌝ }
 {
     let mut i = 0;
-    let mut e = k;
-    while i < n {
-        let j = places[i];
-        e = lay_mapping(m, v, off, j, gm, q + i, gv, e);
+    let mut laid = laid_intervals;
+    while i < count {
+        let place = places[i];
+        laid = lay_mapping(
+            mappings,
+            intervals,
+            starts,
+            place,
+            both_mappings,
+            laid_mappings + i,
+            both_intervals,
+            laid,
+        );
         i += 1;
     }
-    e
+    laid
 }
 
-// The first n places hold their own numbers.
-fn count_up(places: &mut [usize], n: usize)
-    requires { ⌜ n ≤ length (now places) ⌝ }
-    ensures { λ _. ⌜ ((t : ℕ) → t < n → getD (now (places .exit)) t 0 ≡ t) ⌝ }
+// The first `count` places hold their own numbers.
+fn count_up(places: &mut [usize], count: usize)
+    requires { ⌜ count ≤ length (now places) ⌝ }
+    ensures { λ _. ⌜ ((t : ℕ) → t < count → getD (now (places .exit)) t 0 ≡ t) ⌝ }
 {
     let mut i = 0;
-    while i < n {
+    while i < count {
         places[i] = i;
         i += 1;
     }
 }
 
 // A first metadata's mappings without its repeats.
-pub fn lose_repeats(m: &[u32], n: usize, v: &[u32], gm: &mut [u32], gv: &mut [u32]) -> Laid
-    requires { ⌜ Sound (now m) n (now v) (length (now gm)) 0 (length (now gv)) 0 ⌝ }
-    ensures { λ r. ⌜ placed (now (gm .exit)) (r .mappings) (now (gv .exit)) (r .intervals) ≡ layAll (now (gm .entry)) 0 (now (gv .entry)) 0 (enterAll [] (mappingsFrom (now (m .entry)) (now (v .entry)) 0 0 n)) ⌝ }
+pub fn lose_repeats(
+    mappings: &[u32],
+    count: usize,
+    intervals: &[u32],
+    both_mappings: &mut [u32],
+    both_intervals: &mut [u32],
+) -> Laid
+    requires { ⌜ Sound (now mappings) count (now intervals) (length (now «both_mappings»)) 0 (length (now «both_intervals»)) 0 ⌝ }
+    ensures { λ r. ⌜ placed (now («both_mappings» .exit)) (r .mappings) (now («both_intervals» .exit)) (r .intervals) ≡ layAll (now («both_mappings» .entry)) 0 (now («both_intervals» .entry)) 0 (enterAll [] (mappingsFrom (now (mappings .entry)) (now (intervals .entry)) 0 0 count)) ⌝ }
 {
-    let mut off = [0usize; MAPPINGS];
+    let mut starts = [0usize; MAPPINGS];
     let mut names = [0u32; MAPPINGS];
-    let mut at = [0u32; MAPPINGS];
+    let mut marks = [0u32; MAPPINGS];
     let mut last = [0usize; MAPPINGS];
-    offsets(m, n, &mut off);
-    let p = picks(m, n, &mut names, &mut at, &mut last);
-    let e = lay_places(m, v, &off, &last, p, gm, 0, gv, 0);
+    offsets(mappings, count, &mut starts);
+    let kept = picks(mappings, count, &mut names, &mut marks, &mut last);
+    let laid = lay_places(
+        mappings,
+        intervals,
+        &starts,
+        &last,
+        kept,
+        both_mappings,
+        0,
+        both_intervals,
+        0,
+    );
     Laid {
-        mappings: p,
-        intervals: e,
+        mappings: kept,
+        intervals: laid,
     }
 }
 
-// An added metadata's mappings, from the q-th of `gm` and the place k of `gv` on; answers the place behind their intervals.
+// An added metadata's mappings, behind those laid already; answers how many intervals are laid then.
 pub fn follow(
-    m: &[u32],
-    n: usize,
-    v: &[u32],
-    gm: &mut [u32],
-    q: usize,
-    gv: &mut [u32],
-    k: usize,
+    mappings: &[u32],
+    count: usize,
+    intervals: &[u32],
+    both_mappings: &mut [u32],
+    laid_mappings: usize,
+    both_intervals: &mut [u32],
+    laid_intervals: usize,
 ) -> usize
-    requires { ⌜ Sound (now m) n (now v) (length (now gm)) q (length (now gv)) k ⌝ }
-    ensures { λ r. ⌜ placed (now (gm .exit)) (q + n) (now (gv .exit)) r ≡ layAll (now (gm .entry)) q (now (gv .entry)) k (mappingsFrom (now (m .entry)) (now (v .entry)) 0 0 n) ⌝ }
+    requires { ⌜ Sound (now mappings) count (now intervals) (length (now «both_mappings»)) «laid_mappings» (length (now «both_intervals»)) «laid_intervals» ⌝ }
+    ensures { λ r. ⌜ placed (now («both_mappings» .exit)) («laid_mappings» + count) (now («both_intervals» .exit)) r ≡ layAll (now («both_mappings» .entry)) «laid_mappings» (now («both_intervals» .entry)) «laid_intervals» (mappingsFrom (now (mappings .entry)) (now (intervals .entry)) 0 0 count) ⌝ }
 {
-    let mut off = [0usize; MAPPINGS];
+    let mut starts = [0usize; MAPPINGS];
     let mut places = [0usize; MAPPINGS];
-    offsets(m, n, &mut off);
-    count_up(&mut places, n);
-    lay_places(m, v, &off, &places, n, gm, q, gv, k)
+    offsets(mappings, count, &mut starts);
+    count_up(&mut places, count);
+    lay_places(
+        mappings,
+        intervals,
+        &starts,
+        &places,
+        count,
+        both_mappings,
+        laid_mappings,
+        both_intervals,
+        laid_intervals,
+    )
 }

@@ -10,55 +10,54 @@ use lib.Dec.{eqb}
 use Rattle.metadata_rules.specs.declared.Interval.{Interval}
 use Rattle.metadata_rules.specs.declared.IntervalOrdering.{IntervalOrdering}
 use Rattle.metadata_rules.specs.declared.IntervalOrdering.the-variants.{Equal, Less, Greater, Overlap}
-use Rattle.metadata_rules.specs.Walk.{conflict, laid, ordering, joined, out, agreed, heads, against, walk}
-use Rattle.metadata_rules.specs.Walk.{Walked as Said}
+use Rattle.metadata_rules.specs.Walk.{Walked, conflict, laid, ordering, joined, out, agreed, heads, against, walk}
 use Rattle.metadata_rules.specs.Words.{intervalAt}
 use Rattle.metadata_rules.specs.Cases.{eqb-case}
 use Rattle.metadata_form.specs.Words.{putAt, rest, layIntervals, length-put, rest-cons, rest-nil, rest-length, lay-length}
-use Rattle.metadata_lists.specs.declared.heads.Step.{Step}
-use Rattle.metadata_lists.specs.declared.heads.Step.the-variants.{Conflicting, Out}
-use Rattle.metadata_lists.specs.declared.heads.Walked.{Walked}
-use Rattle.metadata_lists.specs.declared.heads.Walked.the-variants.{Conflict, Laid}
+use Rattle.metadata_lists.specs.declared.heads.WalkStep.{WalkStep}
+use Rattle.metadata_lists.specs.declared.heads.WalkStep.the-variants as step
+use Rattle.metadata_lists.specs.declared.heads.WalkLaid.{WalkLaid}
+use Rattle.metadata_lists.specs.declared.heads.WalkLaid.the-variants as walk-laid
 
 -- what a walk leaves: a conflict, or the list and the place behind the last
 pub data Ended : Type 0 where
   conflicted : Ended
   held : List ℕ → ℕ → Ended
 
-unfoldable pub finish : List ℕ → ℕ → Said → Ended
+unfoldable pub finish : List ℕ → ℕ → Walked → Ended
 unfolding layIntervals
 finish v k conflict = conflicted
 finish v k (laid xs) = held (layIntervals v k xs) (k + length xs)
 
-unfoldable pub endedOf : Walked → List ℕ → Ended
-endedOf Conflict v = conflicted
-endedOf (Laid n) v = held v n
+unfoldable pub endedOf : WalkLaid → List ℕ → Ended
+endedOf walk-laid.Conflict v = conflicted
+endedOf (walk-laid.Done n) v = held v n
 
-unfoldable pub agreedStep : Interval → Interval → Interval → Step
-agreedStep a b x = cond (eqb (a .symbol) (b .symbol)) (Out x 1 1) Conflicting
+unfoldable pub agreedStep : Interval → Interval → Interval → WalkStep
+agreedStep a b x = cond (eqb (a .symbol) (b .symbol)) (step.Out x 1 1) step.Conflict
 
-unfoldable pub stepOn : Interval → Interval → IntervalOrdering → Step
+unfoldable pub stepOn : Interval → Interval → IntervalOrdering → WalkStep
 unfolding agreedStep
 stepOn a b Equal = agreedStep a b a
-stepOn a b Less = Out a 1 0
-stepOn a b Greater = Out b 0 1
+stepOn a b Less = step.Out a 1 0
+stepOn a b Greater = step.Out b 0 1
 stepOn a b Overlap = agreedStep a b (joined a b)
 
-unfoldable pub stepOf : Interval → Interval → Step
+unfoldable pub stepOf : Interval → Interval → WalkStep
 unfolding stepOn
 stepOf a b = stepOn a b (ordering a b)
 
 -- ---- laws
 
-pub finish-out : (v : List ℕ) (k : ℕ) (x : Interval) (w : Said) → finish v k (out x w) ≡ finish (putAt v k x) (k + 1) w
+pub finish-out : (v : List ℕ) (k : ℕ) (x : Interval) (w : Walked) → finish v k (out x w) ≡ finish (putAt v k x) (k + 1) w
 unfolding finish out layIntervals
 finish-out v k x conflict = refl
 finish-out v k x (laid xs) = ap (held (layIntervals (putAt v k x) (k + 1) xs)) (omega arith)
 
 -- a step of the walk, as code takes it
-unfoldable pub onStep : List ℕ → ℕ → ℕ → List ℕ → ℕ → ℕ → List ℕ → ℕ → Step → Ended
-onStep a i ie b j je v k Conflicting = conflicted
-onStep a i ie b j je v k (Out x p q) = finish (putAt v k x) (k + 1) (walk (rest a (i + p) ie) (rest b (j + q) je))
+unfoldable pub onStep : List ℕ → ℕ → ℕ → List ℕ → ℕ → ℕ → List ℕ → ℕ → WalkStep → Ended
+onStep a i ie b j je v k step.Conflict = conflicted
+onStep a i ie b j je v k (step.Out x p q) = finish (putAt v k x) (k + 1) (walk (rest a (i + p) ie) (rest b (j + q) je))
 
 module _ (a : List ℕ) (i ie : ℕ) (b : List ℕ) (j je : ℕ) (v : List ℕ) (k : ℕ) (h : i < ie) (g : j < je) where
   agreed-law : (x : Interval) → finish v k (agreed (intervalAt a i) (intervalAt b j) x (walk (rest a (i + 1) ie) (rest b (j + 1) je)))
@@ -66,7 +65,7 @@ module _ (a : List ℕ) (i ie : ℕ) (b : List ℕ) (j je : ℕ) (v : List ℕ) 
   unfolding agreed agreedStep onStep finish
   agreed-law x = go (eqb (intervalAt a i .symbol) (intervalAt b j .symbol))
     where
-      go : (t : Bool) → finish v k (cond t (out x (walk (rest a (i + 1) ie) (rest b (j + 1) je))) conflict) ≡ onStep a i ie b j je v k (cond t (Out x 1 1) Conflicting)
+      go : (t : Bool) → finish v k (cond t (out x (walk (rest a (i + 1) ie) (rest b (j + 1) je))) conflict) ≡ onStep a i ie b j je v k (cond t (step.Out x 1 1) step.Conflict)
       go true = finish-out v k x (walk (rest a (i + 1) ie) (rest b (j + 1) je))
       go false = refl
 
@@ -107,9 +106,9 @@ pub record Counts (p q : ℕ) : Type 0 where
   pub few : q ≤ 1
   pub some : 1 ≤ p + q
 
-abbrev pub CountsOf : Step → Type 0
-CountsOf Conflicting = Unit {0}
-CountsOf (Out x p q) = Counts p q
+abbrev pub CountsOf : WalkStep → Type 0
+CountsOf step.Conflict = Unit {0}
+CountsOf (step.Out x p q) = Counts p q
 
 agreed-counts : (a b x : Interval) → CountsOf (agreedStep a b x)
 unfolding agreedStep
@@ -122,19 +121,19 @@ counts-on a b Less = record { low = omega arith; few = omega arith; some = omega
 counts-on a b Greater = record { low = omega arith; few = omega arith; some = omega arith }
 counts-on a b Overlap = agreed-counts a b (joined a b)
 
-pub step-counts : (a b x : Interval) (p q : ℕ) → Out x p q ≡ stepOf a b → Counts p q
+pub step-counts : (a b x : Interval) (p q : ℕ) → step.Out x p q ≡ stepOf a b → Counts p q
 unfolding stepOf
 step-counts a b x p q e = subst CountsOf (sym e) (counts-on a b (ordering a b))
 
 -- one turn of the walk's loop
 module _ (a : List ℕ) (i ie : ℕ) (b : List ℕ) (j je : ℕ) (v : List ℕ) (k : ℕ) (h : i < ie) (g : j < je) (x y : Interval) (p : x ≡ intervalAt a i) (q : y ≡ intervalAt b j) where
-  pub turn-conflict : Conflicting ≡ stepOf x y → conflicted ≡ finish v k (walk (rest a i ie) (rest b j je))
+  pub turn-conflict : step.Conflict ≡ stepOf x y → conflicted ≡ finish v k (walk (rest a i ie) (rest b j je))
   unfolding onStep
   turn-conflict e =
       sym (step-law a i ie b j je v k h g
       ∙ ap (onStep a i ie b j je v k) (ap (λ (u : Interval). stepOf u (intervalAt b j)) (sym p) ∙ ap (stepOf x) (sym q) ∙ sym e))
 
-  pub turn-out : (z : Interval) (m n : ℕ) (w : List ℕ) → Out z m n ≡ stepOf x y → w ≡ putAt v k z
+  pub turn-out : (z : Interval) (m n : ℕ) (w : List ℕ) → step.Out z m n ≡ stepOf x y → w ≡ putAt v k z
       → finish w (k + 1) (walk (rest a (i + m) ie) (rest b (j + n) je)) ≡ finish v k (walk (rest a i ie) (rest b j je))
   unfolding onStep
   turn-out z m n w e d =

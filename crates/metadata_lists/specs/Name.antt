@@ -7,7 +7,7 @@ use mathlib.Core.List.{List, [], _∷_}
 use lib.ListN.{length, getD}
 use Rattle.metadata_rules.specs.declared.Interval.{Interval}
 use Rattle.metadata_rules.specs.Walk.{Walked, conflict, laid, walk, walkAll}
-use Rattle.metadata_lists.specs.declared.heads.Walked.the-variants.{Conflict, Laid}
+use Rattle.metadata_lists.specs.declared.heads.WalkLaid.the-variants as walk-laid
 use Rattle.metadata_rules.specs.Words.{stretch}
 use Rattle.metadata_form.specs.Words.{rest, rest-length, layIntervals, laid-length}
 use Rattle.metadata_lists.specs.Heads.{finish, endedOf, held, conflicted}
@@ -92,13 +92,13 @@ module _ (m : List ℕ) (e : ℕ) (v off nx : List ℕ) (i lt lo k : ℕ) (r : R
     pub turn-needs : (3 * (k + n + countAt m j) ≤ length out₀) × (3 * (n + countAt m j) ≤ length t)
     turn-needs = let a = g .room in let b = g .space in let c = total in (omega arith, omega arith)
 
-    pub turn-conflict : (x : List ℕ) → endedOf Conflict x ≡ finish out k (walk (rest u 0 n) (rest v p (p + d))) → conflicted ≡ finish out₀ k (outcomeAt m v off e i)
+    pub turn-conflict : (x : List ℕ) → endedOf walk-laid.Conflict x ≡ finish out k (walk (rest u 0 n) (rest v p (p + d))) → conflicted ≡ finish out₀ k (outcomeAt m v off e i)
     unfolding finish
     turn-conflict x w =
         sym (ap (finish out₀ k) (more-conflict (listAt m v off j) ls (outcomeAt m v off e i) out₀ out k n before t u copied fits small x
         (w ∙ ap (λ (l : List Interval). finish out k (walk (rest u 0 n) l)) (rest-list m v off j p d hp hd))))
 
-    pub turn-going : (x : List ℕ) (a s : ℕ) → endedOf (Laid a) x ≡ finish out k (walk (rest u 0 n) (rest v p (p + d))) → length x ≡ length out → s ≡ getD nx j 0
+    pub turn-going : (x : List ℕ) (a s : ℕ) → endedOf (walk-laid.Done a) x ≡ finish out k (walk (rest u 0 n) (rest v p (p + d))) → length x ≡ length out → s ≡ getD nx j 0
         → Going m v off e i out₀ x lt k s (a - k) × (k ≤ a)
     turn-going x a s w y hs =
         let o = more-laid (listAt m v off j) ls (outcomeAt m v off e i) out₀ out k n before t u copied fits small x a

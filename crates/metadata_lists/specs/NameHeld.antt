@@ -12,8 +12,7 @@ use Rattle.metadata_rules.specs.declared.IntervalOrdering.{IntervalOrdering}
 use Rattle.metadata_rules.specs.declared.IntervalOrdering.the-variants.{Equal, Less, Greater, Overlap}
 use Rattle.metadata_rules.specs.Walk.{Walked, conflict, laid, walk, walkAll, thenAll, out, agreed, heads, ordering, against, joined}
 use Rattle.metadata_rules.specs.Cases.{eqb-case}
-use Rattle.metadata_lists.specs.declared.heads.Walked.{Walked as Answer}
-use Rattle.metadata_lists.specs.declared.heads.Walked.the-variants.{Conflict, Laid}
+use Rattle.metadata_lists.specs.declared.heads.WalkLaid.the-variants as walk-laid
 use Rattle.metadata_rules.specs.Words.{intervalAt, stretch}
 use Rattle.metadata_form.specs.Words.{putAt, rest, layIntervals, length-put, lay-length}
 use Rattle.metadata_lists.specs.Heads.{Ended, conflicted, held, finish, endedOf}
@@ -201,13 +200,13 @@ module _ (l : List Interval) (ls : List (List Interval)) (goal : Walked) (v w : 
       let z : 0 + n ≡ n = omega arith in
       ap (rest u 0) (sym z) ∙ rest-laid t u 0 n (g .cur) (copied ∙ ap (layIntervals t 0) seen) (g .size) (omega arith)
 
-  pub more-conflict : (x : List ℕ) → endedOf Conflict x ≡ finish w k (walk (rest u 0 n) l) → goal ≡ conflict
+  pub more-conflict : (x : List ℕ) → endedOf walk-laid.Conflict x ≡ finish w k (walk (rest u 0 n) l) → goal ≡ conflict
   unfolding endedOf walkAll thenAll
   more-conflict x d =
       let e : walk (g .cur) l ≡ conflict = ap (λ (r : List Interval). walk r l) (sym back) ∙ conflict-finish w k (walk (rest u 0 n) l) d in
       sym (g .on) ∙ ap (thenAll (λ r. walkAll r ls)) e
 
-  pub more-laid : (x : List ℕ) (e : ℕ) → endedOf (Laid e) x ≡ finish w k (walk (rest u 0 n) l)
+  pub more-laid : (x : List ℕ) (e : ℕ) → endedOf (walk-laid.Done e) x ≡ finish w k (walk (rest u 0 n) l)
       → Gathered ls goal v x k (e - k) × (k ≤ e) × (e ≤ k + n + length l)
   unfolding endedOf walkAll thenAll
   more-laid x e d = go (held-finish x e w k (walk (rest u 0 n) l) d)

@@ -10,23 +10,23 @@ use Rattle.metadata_rules.specs.declared.Interval.{Interval}
 use Rattle.metadata_rules.specs.Walk.{Walked, conflict, laid, walk, walkAll, thenAll}
 use Rattle.metadata_rules.specs.Metadata.{Mapping, mapping, Merged, conflicting, merged, under, inFront}
 use Rattle.metadata_rules.specs.Cases.{cond-eq, cond-ne}
-use Rattle.metadata_lists.specs.declared.heads.Walked.the-variants.{Conflict, Laid}
+use Rattle.metadata_lists.specs.declared.heads.WalkLaid.the-variants as walk-laid
 use Rattle.metadata_form.specs.Words.{putMapping, layIntervals, lay-length}
 use Rattle.metadata_lists.specs.Heads.{finish, endedOf, held, conflicted}
 use Rattle.metadata_rules.specs.Words.{nameAt}
 use Rattle.metadata_lists.specs.Flat.{listsFrom, sumLen}
 use Rattle.metadata_lists.specs.NameHeld.{walk-length, held-finish, conflict-finish}
 use Rattle.metadata_lists.specs.Name.{outcomeAt, Ready}
-use Rattle.metadata_lists.specs.declared.names.Names.{Names}
-use Rattle.metadata_lists.specs.declared.names.Names.the-variants.{Conflicting, Done}
+use Rattle.metadata_lists.specs.declared.names.NamesLaid.{NamesLaid}
+use Rattle.metadata_lists.specs.declared.names.NamesLaid.the-variants as names-laid
 
 pub data Final : Type 0 where
   failed : Final
   placed : List ℕ → ℕ → List ℕ → ℕ → Final
 
-unfoldable pub endNames : Names → List ℕ → List ℕ → Final
-endNames Conflicting om o = failed
-endNames (Done q k) om o = placed om q o k
+unfoldable pub endNames : NamesLaid → List ℕ → List ℕ → Final
+endNames names-laid.Conflict om o = failed
+endNames (names-laid.Done q k) om o = placed om q o k
 
 -- the outcome w of the name n is laid
 unfoldable pub finishOne : List ℕ → ℕ → List ℕ → ℕ → ℕ → Walked → Final
@@ -132,13 +132,13 @@ unfolding stepAt
 place-skip m v off head e i om q o k n z d = sym (cond-ne (getD head (nameAt m i) 0) i _ _ (λ x. d (ap (λ (y : ℕ). getD head y 0) z ∙ x)))
 
 pub place-conflict : (m v off head : List ℕ) (e i : ℕ) (om : List ℕ) (q : ℕ) (o x : List ℕ) (k n : ℕ) → n ≡ nameAt m i → getD head n 0 ≡ i
-    → endedOf Conflict x ≡ finish o k (outcomeAt m v off e i) → failed ≡ stepAt m v off head e i om q o k
+    → endedOf walk-laid.Conflict x ≡ finish o k (outcomeAt m v off e i) → failed ≡ stepAt m v off head e i om q o k
 unfolding stepAt finishOne endedOf
 place-conflict m v off head e i om q o x k n z d w =
     ap (finishOne om q o k (nameAt m i)) (sym (conflict-finish o k (outcomeAt m v off e i) w))
     ∙ sym (cond-eq (getD head (nameAt m i) 0) i _ _ (ap (λ (y : ℕ). getD head y 0) (sym z) ∙ d))
 
-pub laid-bound : (m v off : List ℕ) (e i : ℕ) (o x : List ℕ) (k t : ℕ) → endedOf (Laid t) x ≡ finish o k (outcomeAt m v off e i)
+pub laid-bound : (m v off : List ℕ) (e i : ℕ) (o x : List ℕ) (k t : ℕ) → endedOf (walk-laid.Done t) x ≡ finish o k (outcomeAt m v off e i)
     → (k ≤ t) × (t ≤ k + sumLen (listsFrom m v off (nameAt m i) i e))
 unfolding endedOf outcomeAt
 laid-bound m v off e i o x k t w =
@@ -147,7 +147,7 @@ laid-bound m v off e i o x k t w =
     (omega (arith, f .3), omega (arith, f .3))
 
 pub place-laid : (m v off head : List ℕ) (e i : ℕ) (om om' : List ℕ) (q : ℕ) (o x : List ℕ) (k n t c : ℕ) → n ≡ nameAt m i → getD head n 0 ≡ i
-    → endedOf (Laid t) x ≡ finish o k (outcomeAt m v off e i) → c ≡ t - k → om' ≡ putMapping om q n c → placed om' (q + 1) x t ≡ stepAt m v off head e i om q o k
+    → endedOf (walk-laid.Done t) x ≡ finish o k (outcomeAt m v off e i) → c ≡ t - k → om' ≡ putMapping om q n c → placed om' (q + 1) x t ≡ stepAt m v off head e i om q o k
 unfolding stepAt finishOne endedOf
 place-laid m v off head e i om om' q o x k n t c z d w y u =
     let f = held-finish x t o k (outcomeAt m v off e i) w in

@@ -11,8 +11,8 @@ use Rattle.metadata_rules.specs.Cases.{eqb-case, cond-ne}
 use Rattle.metadata_rules.specs.Words.{nameAt, countAt}
 use Rattle.metadata_lists.specs.Flat.{listsFrom, sumLen, Linked}
 use Rattle.metadata_lists.specs.Name.{outcomeAt, Ready}
-use Rattle.metadata_lists.specs.declared.names.Names.{Names}
-use Rattle.metadata_lists.specs.declared.names.Names.the-variants.{Conflicting, Done}
+use Rattle.metadata_lists.specs.declared.names.NamesLaid.{NamesLaid}
+use Rattle.metadata_lists.specs.declared.names.NamesLaid.the-variants as names-laid
 use Rattle.metadata_lists.specs.Names.{Final, failed, placed, endNames, finishOne, stepAt, collectTo, sumsTo, finishNames, onward, walkAll-length, collect-end, sums-first, sums-skip, step-onward}
 
 pub record AllReady (m : List ℕ) (e : ℕ) (v off nx head : List ℕ) (lt lm lo : ℕ) : Type 0 where
@@ -82,11 +82,11 @@ module _ (m : List ℕ) (e : ℕ) (v off nx head : List ℕ) (lt lm lo : ℕ) (r
           let t = sums-skip m v off head e i h d in
           (omega arith, omega arith)
 
-  pub turn-fails : (om' o' : List ℕ) → endNames Conflicting om' o' ≡ stepAt m v off head e i om q o k → failed ≡ finishNames om₀ 0 o₀ 0 (collectTo m v off head e 0)
+  pub turn-fails : (om' o' : List ℕ) → endNames names-laid.Conflict om' o' ≡ stepAt m v off head e i om q o k → failed ≡ finishNames om₀ 0 o₀ 0 (collectTo m v off head e 0)
   unfolding endNames onward
   turn-fails om' o' w = ap (onward (collectTo m v off head e (i + 1))) w ∙ step-onward m v off head e i h om q o k ∙ g .on
 
-  pub turn-lays : (om' o' : List ℕ) (q' k' : ℕ) → length om' ≡ length om → length o' ≡ length o → endNames (Done q' k') om' o' ≡ stepAt m v off head e i om q o k
+  pub turn-lays : (om' o' : List ℕ) (q' k' : ℕ) → length om' ≡ length om → length o' ≡ length o → endNames (names-laid.Done q' k') om' o' ≡ stepAt m v off head e i om q o k
       → Laying m e v off head om₀ om' o₀ o' (i + 1) q' k'
   unfolding endNames onward
   turn-lays om' o' q' k' a b w =

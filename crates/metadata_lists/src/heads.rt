@@ -15,15 +15,15 @@ ghost use Rattle.metadata_form.specs.Words.{rest};
 ghost use Rattle.metadata_lists.specs.Heads.{finish, stepOf, endedOf};
 
 // What two heads give: a conflict, or an interval that goes out and how many of each list are consumed.
-pub enum Step {
-    Conflicting,
+pub enum WalkStep {
+    Conflict,
     Out(Interval, usize, usize),
 }
 
 // What a walk answers: a conflict, or the place behind the last interval that it laid.
-pub enum Walked {
+pub enum WalkLaid {
     Conflict,
-    Laid(usize),
+    Done(usize),
 }
 
 fn lesser(a: u32, b: u32) -> u32
@@ -70,26 +70,26 @@ fn joined(a: Interval, b: Interval) -> Interval
 }
 
 // What the heads a and b give.
-fn turn(a: Interval, b: Interval) -> Step
+fn turn(a: Interval, b: Interval) -> WalkStep
     ensures { λ r. ⌜ r ≡ stepOf a b ⌝ }
 {
     let o = ordering(a, b);
     match o {
         IntervalOrdering::Equal => {
             if a.symbol == b.symbol {
-                Step::Out(a, 1, 1)
+                WalkStep::Out(a, 1, 1)
             } else {
-                Step::Conflicting
+                WalkStep::Conflict
             }
         }
-        IntervalOrdering::Less => Step::Out(a, 1, 0),
-        IntervalOrdering::Greater => Step::Out(b, 0, 1),
+        IntervalOrdering::Less => WalkStep::Out(a, 1, 0),
+        IntervalOrdering::Greater => WalkStep::Out(b, 0, 1),
         IntervalOrdering::Overlap => {
             if a.symbol == b.symbol {
                 let x = joined(a, b);
-                Step::Out(x, 1, 1)
+                WalkStep::Out(x, 1, 1)
             } else {
-                Step::Conflicting
+                WalkStep::Conflict
             }
         }
     }
@@ -98,30 +98,30 @@ fn turn(a: Interval, b: Interval) -> Step
 // The walk over two stretches, laid in `out` from the place `at` on. A helper: the stretches stand in their lists, and both
 // together fit `out` there.
 pub fn merge_intervals(
-    a: &[u32],
-    afrom: usize,
-    ato: usize,
-    b: &[u32],
-    bfrom: usize,
-    bto: usize,
+    left: &[u32],
+    left_from: usize,
+    left_to: usize,
+    right: &[u32],
+    right_from: usize,
+    right_to: usize,
     out: &mut [u32],
     at: usize,
-) -> Walked
-    requires { ⌜ (afrom ≤ ato) × (3 * ato ≤ length (now a)) × (bfrom ≤ bto) × (3 * bto ≤ length (now b)) × (3 * (at + (ato - afrom) + (bto - bfrom)) ≤ length (now out)) ⌝ }
-    ensures { λ r. ⌜ endedOf r (now (out .exit)) ≡ finish (now (out .entry)) at (walk (rest (now (a .entry)) afrom ato) (rest (now (b .entry)) bfrom bto)) ⌝ }
+) -> WalkLaid
+    requires { ⌜ («left_from» ≤ «left_to») × (3 * «left_to» ≤ length (now left)) × («right_from» ≤ «right_to») × (3 * «right_to» ≤ length (now right)) × (3 * (at + («left_to» - «left_from») + («right_to» - «right_from»)) ≤ length (now out)) ⌝ }
+    ensures { λ r. ⌜ endedOf r (now (out .exit)) ≡ finish (now (out .entry)) at (walk (rest (now (left .entry)) «left_from» «left_to») (rest (now (right .entry)) «right_from» «right_to»)) ⌝ }
 {
-    let mut i = afrom;
-    let mut j = bfrom;
+    let mut i = left_from;
+    let mut j = right_from;
     let mut k = at;
-    while i < ato && j < bto {
-        let x = interval_at(a, i);
-        let y = interval_at(b, j);
+    while i < left_to && j < right_to {
+        let x = interval_at(left, i);
+        let y = interval_at(right, j);
         let s = turn(x, y);
         match s {
-            Step::Conflicting => {
-                return Walked::Conflict;
+            WalkStep::Conflict => {
+                return WalkLaid::Conflict;
             }
-            Step::Out(z, p, q) => {
+            WalkStep::Out(z, p, q) => {
                 put_interval(out, k, z);
                 i += p;
                 j += q;
@@ -129,10 +129,10 @@ pub fn merge_intervals(
             }
         }
     }
-    if i < ato {
-        copy_intervals(a, i, ato, out, k);
-        return Walked::Laid(k + (ato - i));
+    if i < left_to {
+        copy_intervals(left, i, left_to, out, k);
+        return WalkLaid::Done(k + (left_to - i));
     }
-    copy_intervals(b, j, bto, out, k);
-    Walked::Laid(k + (bto - j))
+    copy_intervals(right, j, right_to, out, k);
+    WalkLaid::Done(k + (right_to - j))
 }

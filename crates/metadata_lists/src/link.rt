@@ -8,33 +8,33 @@ ghost use lib.ListN.{length, getD};
 ghost use Rattle.metadata_rules.specs.Words.{nameAt, before};
 ghost use Rattle.metadata_lists.specs.Link.{Chained};
 
-// Each mapping's first interval goes to `off`; answers how many intervals the first `total` mappings have.
-pub fn offsets(m: &[u32], total: usize, off: &mut [usize]) -> usize
-    requires { ⌜ (2 * total ≤ length (now m)) × (total ≤ length (now off)) × (before (now m) total < 4294967296) ⌝ }
-    ensures { λ r. ⌜ (r ≡ before (now (m .entry)) total) × ((t : ℕ) → t < total → getD (now (off .exit)) t 0 ≡ before (now (m .entry)) t) ⌝ }
+// The place of each mapping's first interval goes to `starts`; answers how many intervals the first `count` mappings have.
+pub fn offsets(mappings: &[u32], count: usize, starts: &mut [usize]) -> usize
+    requires { ⌜ (2 * count ≤ length (now mappings)) × (count ≤ length (now starts)) × (before (now mappings) count < 4294967296) ⌝ }
+    ensures { λ r. ⌜ (r ≡ before (now (mappings .entry)) count) × ((t : ℕ) → t < count → getD (now (starts .exit)) t 0 ≡ before (now (mappings .entry)) t) ⌝ }
 {
     let mut t = 0;
     let mut o = 0;
-    while t < total {
-        off[t] = o;
-        let c = count_at(m, t);
+    while t < count {
+        starts[t] = o;
+        let c = count_at(mappings, t);
         o += c;
         t += 1;
     }
     o
 }
 
-// Each mapping's next of its name goes to `nx`, each name's first mapping to `head`, which holds `total` everywhere.
-pub fn link(m: &[u32], total: usize, nx: &mut [usize], head: &mut [usize])
-    requires { ⌜ (2 * total ≤ length (now m)) × (total ≤ length (now nx)) × ((t : ℕ) → t < total → nameAt (now m) t < length (now head)) × ((n : ℕ) → n < length (now head) → getD (now head) n 0 ≡ total) ⌝ }
-    ensures { λ _. ⌜ Chained (now (m .entry)) (now (nx .exit)) (now (head .exit)) total 0 ⌝ }
+// Each mapping's next of its name goes to `nexts`, each name's first mapping to `firsts`, which holds `count` everywhere.
+pub fn link(mappings: &[u32], count: usize, nexts: &mut [usize], firsts: &mut [usize])
+    requires { ⌜ (2 * count ≤ length (now mappings)) × (count ≤ length (now nexts)) × ((t : ℕ) → t < count → nameAt (now mappings) t < length (now firsts)) × ((n : ℕ) → n < length (now firsts) → getD (now firsts) n 0 ≡ count) ⌝ }
+    ensures { λ _. ⌜ Chained (now (mappings .entry)) (now (nexts .exit)) (now (firsts .exit)) count 0 ⌝ }
 {
-    let mut i = total;
+    let mut i = count;
     while 0 < i {
         i -= 1;
-        let x = name_at(m, i);
+        let x = name_at(mappings, i);
         let n = wide(x);
-        nx[i] = head[n];
-        head[n] = i;
+        nexts[i] = firsts[n];
+        firsts[n] = i;
     }
 }

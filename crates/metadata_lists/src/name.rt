@@ -1,5 +1,5 @@
 // One name's outcome: the walk over its lists in the order of their arrival.
-use crate::heads::Walked;
+use crate::heads::WalkLaid;
 use crate::heads::merge_intervals;
 use metadata_form::words::copy_intervals;
 use metadata_form::words::count_at;
@@ -9,38 +9,38 @@ ghost use lib.ListN.{length, getD};
 ghost use Rattle.metadata_lists.specs.Heads.{finish, endedOf};
 ghost use Rattle.metadata_lists.specs.Name.{outcomeAt, Ready};
 
-// The outcome of the name that the i-th mapping is the first of, laid in `out` from the place k on: its list, walked with
+// The outcome of the name that the i-th mapping is the first of, laid in `out` from the place `at` on: its list, walked with
 // each later one of the name.
 pub fn lay_name(
-    m: &[u32],
-    total: usize,
-    v: &[u32],
-    off: &[usize],
-    nx: &[usize],
+    mappings: &[u32],
+    count: usize,
+    intervals: &[u32],
+    starts: &[usize],
+    nexts: &[usize],
     i: usize,
     temp: &mut [u32],
     out: &mut [u32],
-    k: usize,
-) -> Walked
-    requires { ⌜ Ready (now m) total (now v) (now off) (now nx) i (length (now temp)) (length (now out)) k ⌝ }
-    ensures { λ r. ⌜ endedOf r (now (out .exit)) ≡ finish (now (out .entry)) k (outcomeAt (now (m .entry)) (now (v .entry)) (now (off .entry)) total i) ⌝ }
+    at: usize,
+) -> WalkLaid
+    requires { ⌜ Ready (now mappings) count (now intervals) (now starts) (now nexts) i (length (now temp)) (length (now out)) at ⌝ }
+    ensures { λ r. ⌜ endedOf r (now (out .exit)) ≡ finish (now (out .entry)) at (outcomeAt (now (mappings .entry)) (now (intervals .entry)) (now (starts .entry)) count i) ⌝ }
 {
-    let mut n = 0;
+    let mut laid = 0;
     let mut j = i;
-    while j < total {
-        copy_intervals(out, k, k + n, temp, 0);
-        let p = off[j];
-        let d = count_at(m, j);
-        let w = merge_intervals(temp, 0, n, v, p, p + d, out, k);
-        match w {
-            Walked::Conflict => {
-                return Walked::Conflict;
+    while j < count {
+        copy_intervals(out, at, at + laid, temp, 0);
+        let start = starts[j];
+        let size = count_at(mappings, j);
+        let walked = merge_intervals(temp, 0, laid, intervals, start, start + size, out, at);
+        match walked {
+            WalkLaid::Conflict => {
+                return WalkLaid::Conflict;
             }
-            Walked::Laid(e) => {
-                n = e - k;
+            WalkLaid::Done(end) => {
+                laid = end - at;
             }
         }
-        j = nx[j];
+        j = nexts[j];
     }
-    Walked::Laid(k + n)
+    WalkLaid::Done(at + laid)
 }

@@ -1,5 +1,5 @@
 // Every name's outcome, one after the other, in the order of first arrival.
-use crate::heads::Walked;
+use crate::heads::WalkLaid;
 use crate::name::lay_name;
 use metadata_form::words::name_at;
 use metadata_form::words::put_mapping;
@@ -13,76 +13,99 @@ ghost use Rattle.metadata_lists.specs.Names.{endNames, stepAt, finishNam
 ghost use Rattle.metadata_lists.specs.NamesLaying.{AllReady};
 
 // How far the outcome is laid: a conflict, or the mappings and the intervals laid.
-pub enum Names {
-    Conflicting,
+pub enum NamesLaid {
+    Conflict,
     Done(usize, usize),
 }
 
 // The place i: its name's outcome where it is the name's first.
 pub fn lay_place(
-    m: &[u32],
-    total: usize,
-    v: &[u32],
-    off: &[usize],
-    nx: &[usize],
-    head: &[usize],
+    mappings: &[u32],
+    count: usize,
+    intervals: &[u32],
+    starts: &[usize],
+    nexts: &[usize],
+    firsts: &[usize],
     i: usize,
     temp: &mut [u32],
-    om: &mut [u32],
-    q: usize,
-    out: &mut [u32],
-    k: usize,
-) -> Names
-    requires { ⌜ (2 * q + 2 ≤ length (now om)) × (i < total) × (2 * total ≤ length (now m)) × (nameAt (now m) i < length (now head)) × (length (now out) < 4294967296) × (getD (now head) (nameAt (now m) i) 0 ≡ i → Ready (now m) total (now v) (now off) (now nx) i (length (now temp)) (length (now out)) k) ⌝ }
-    ensures { λ r. ⌜ endNames r (now (om .exit)) (now (out .exit)) ≡ stepAt (now (m .entry)) (now (v .entry)) (now (off .entry)) (now (head .entry)) total i (now (om .entry)) q (now (out .entry)) k ⌝ }
+    out_mappings: &mut [u32],
+    laid_mappings: usize,
+    out_intervals: &mut [u32],
+    laid_intervals: usize,
+) -> NamesLaid
+    requires { ⌜ (2 * «laid_mappings» + 2 ≤ length (now «out_mappings»)) × (i < count) × (2 * count ≤ length (now mappings)) × (nameAt (now mappings) i < length (now firsts)) × (length (now «out_intervals») < 4294967296) × (getD (now firsts) (nameAt (now mappings) i) 0 ≡ i → Ready (now mappings) count (now intervals) (now starts) (now nexts) i (length (now temp)) (length (now «out_intervals»)) «laid_intervals») ⌝ }
+    ensures { λ r. ⌜ endNames r (now («out_mappings» .exit)) (now («out_intervals» .exit)) ≡ stepAt (now (mappings .entry)) (now (intervals .entry)) (now (starts .entry)) (now (firsts .entry)) count i (now («out_mappings» .entry)) «laid_mappings» (now («out_intervals» .entry)) «laid_intervals» ⌝ }
 {
-    let x = name_at(m, i);
-    let n = wide(x);
-    if head[n] != i {
-        return Names::Done(q, k);
+    let name = name_at(mappings, i);
+    let n = wide(name);
+    if firsts[n] != i {
+        return NamesLaid::Done(laid_mappings, laid_intervals);
     }
-    let w = lay_name(m, total, v, off, nx, i, temp, out, k);
-    match w {
-        Walked::Conflict => Names::Conflicting,
-        Walked::Laid(t) => {
-            let c = t - k;
-            put_mapping(om, q, x, c);
-            Names::Done(q + 1, t)
+    let walked = lay_name(
+        mappings,
+        count,
+        intervals,
+        starts,
+        nexts,
+        i,
+        temp,
+        out_intervals,
+        laid_intervals,
+    );
+    match walked {
+        WalkLaid::Conflict => NamesLaid::Conflict,
+        WalkLaid::Done(end) => {
+            let size = end - laid_intervals;
+            put_mapping(out_mappings, laid_mappings, name, size);
+            NamesLaid::Done(laid_mappings + 1, end)
         }
     }
 }
 
-// Every name's outcome: the mappings' words in `om`, the intervals' in `out`. A helper: the mappings are linked, and what all
-// of them have together fits `om`, `out` and `temp`.
+// Every name's outcome: the mappings' words in `out_mappings`, the intervals' in `out_intervals`. A helper: the mappings are linked,
+// and what all of them have together fits these and `temp`.
 pub fn lay_names(
-    m: &[u32],
-    total: usize,
-    v: &[u32],
-    off: &[usize],
-    nx: &[usize],
-    head: &[usize],
+    mappings: &[u32],
+    count: usize,
+    intervals: &[u32],
+    starts: &[usize],
+    nexts: &[usize],
+    firsts: &[usize],
     temp: &mut [u32],
-    om: &mut [u32],
-    out: &mut [u32],
-) -> Names
-    requires { ⌜ AllReady (now m) total (now v) (now off) (now nx) (now head) (length (now temp)) (length (now om)) (length (now out)) ⌝ }
-    ensures { λ r. ⌜ endNames r (now (om .exit)) (now (out .exit)) ≡ finishNames (now (om .entry)) 0 (now (out .entry)) 0 (collectTo (now (m .entry)) (now (v .entry)) (now (off .entry)) (now (head .entry)) total 0) ⌝ }
+    out_mappings: &mut [u32],
+    out_intervals: &mut [u32],
+) -> NamesLaid
+    requires { ⌜ AllReady (now mappings) count (now intervals) (now starts) (now nexts) (now firsts) (length (now temp)) (length (now «out_mappings»)) (length (now «out_intervals»)) ⌝ }
+    ensures { λ r. ⌜ endNames r (now («out_mappings» .exit)) (now («out_intervals» .exit)) ≡ finishNames (now («out_mappings» .entry)) 0 (now («out_intervals» .entry)) 0 (collectTo (now (mappings .entry)) (now (intervals .entry)) (now (starts .entry)) (now (firsts .entry)) count 0) ⌝ }
 {
     let mut i = 0;
-    let mut q = 0;
-    let mut k = 0;
-    while i < total {
-        let r = lay_place(m, total, v, off, nx, head, i, temp, om, q, out, k);
+    let mut laid_mappings = 0;
+    let mut laid_intervals = 0;
+    while i < count {
+        let r = lay_place(
+            mappings,
+            count,
+            intervals,
+            starts,
+            nexts,
+            firsts,
+            i,
+            temp,
+            out_mappings,
+            laid_mappings,
+            out_intervals,
+            laid_intervals,
+        );
         match r {
-            Names::Conflicting => {
-                return Names::Conflicting;
+            NamesLaid::Conflict => {
+                return NamesLaid::Conflict;
             }
-            Names::Done(a, b) => {
-                q = a;
-                k = b;
+            NamesLaid::Done(a, b) => {
+                laid_mappings = a;
+                laid_intervals = b;
             }
         }
         i += 1;
     }
-    Names::Done(q, k)
+    NamesLaid::Done(laid_mappings, laid_intervals)
 }

@@ -24,7 +24,7 @@ use Rattle.metadata_gather.specs.Sides.{Sound, lost-count, count-all}
 use Rattle.metadata_form.specs.declared.header.Header.{Header}
 use Rattle.metadata_form.specs.declared.header.Lengths.{Lengths}
 use Rattle.metadata_form.specs.declared.header.Counts.{Counts}
-use Rattle.metadata_form.specs.Header.{Lists, lists, lengthsOf, headerFields, metadataOf, sizedOf, mergedHeader, countedHeader, Sized, sized-facts, countsFit, numbersOf}
+use Rattle.metadata_form.specs.Header.{Lists, lists, lengthsOf, headerFields, metadataOf, metadataFits, mergedHeader, countedHeader, MetadataFitting, metadata-fitting, outcomeFits, numbersOf}
 use Rattle.metadata_form.specs.Over.{over}
 use Rattle.metadata_gather.specs.Sets.{AllUnited}
 use Rattle.metadata_merge.specs.Outcome.{given, Outcomes, Deciding, Decided, Fitted, Plannable, Commit, Fits1, committed, lists-same, countsOf, front}
@@ -83,11 +83,11 @@ heldBy h l (done m) = laidOver h l m
 
 unfoldable pub openAnswer : Header → Lists → Answer
 unfolding valuesOf
-openAnswer h l = cond (sizedOf h (lengthsOf l) (l .mappings)) (answer 0 (valuesOf (opened (metadataOf h l)))) (answer 15 [])
+openAnswer h l = cond (metadataFits h (lengthsOf l) (l .mappings)) (answer 0 (valuesOf (opened (metadataOf h l)))) (answer 15 [])
 
 unfoldable pub openLists : Header → Lists → Lists
 unfolding laidOver
-openLists h l = cond (sizedOf h (lengthsOf l) (l .mappings)) (laidOver h l (opened (metadataOf h l))) l
+openLists h l = cond (metadataFits h (lengthsOf l) (l .mappings)) (laidOver h l (opened (metadataOf h l))) l
 
 pub record Open (h : Header) (l : Lists) (r : OpenedMetadata) (l' : Lists) : Type 0 where
   pub answers : openedOf r ≡ openAnswer h l
@@ -96,19 +96,20 @@ pub record Open (h : Header) (l : Lists) (r : OpenedMetadata) (l' : Lists) : Typ
 -- ---- merge
 
 -- the number of names and both sides' memory are of the form; where not, 15
-unfoldable pub bothSized : ℕ → Header → Lengths → List ℕ → Header → Lengths → List ℕ → Bool
-bothSized names h l m g e k = leb names 4096 && (sizedOf h l m && sizedOf g e k)
+unfoldable pub bothFit : ℕ → Header → Lengths → List ℕ → Header → Lengths → List ℕ → Bool
+bothFit names header lengths mappings added added-lengths added-mappings =
+    leb names 4096 && (metadataFits header lengths mappings && metadataFits added added-lengths added-mappings)
 
-abbrev pub allSized : ℕ → Header → Lists → Header → Lists → Bool
-allSized names h l g r = bothSized names h (lengthsOf l) (l .mappings) g (lengthsOf r) (r .mappings)
+abbrev pub allFit : ℕ → Header → Lists → Header → Lists → Bool
+allFit names h l g r = bothFit names h (lengthsOf l) (l .mappings) g (lengthsOf r) (r .mappings)
 
 unfoldable pub mergeAnswer : ℕ → Header → Lists → Header → Lists → Answer
 unfolding answerOf
-mergeAnswer names h l g r = cond (allSized names h l g r) (answerOf (merge (given names l) (metadataOf h l) (metadataOf g r))) (answer 15 [])
+mergeAnswer names h l g r = cond (allFit names h l g r) (answerOf (merge (given names l) (metadataOf h l) (metadataOf g r))) (answer 15 [])
 
 unfoldable pub mergeLists : ℕ → Header → Lists → Header → Lists → Lists
 unfolding heldBy
-mergeLists names h l g r = cond (allSized names h l g r) (heldBy h l (merge (given names l) (metadataOf h l) (metadataOf g r))) l
+mergeLists names h l g r = cond (allFit names h l g r) (heldBy h l (merge (given names l) (metadataOf h l) (metadataOf g r))) l
 
 pub record Merge (names : ℕ) (h : Header) (l : Lists) (g : Header) (r : Lists) (a : MergedMetadata) (l' : Lists) : Type 0 where
   pub answers : mergedOf a ≡ mergeAnswer names h l g r
@@ -118,7 +119,7 @@ pub record Merge (names : ℕ) (h : Header) (l : Lists) (g : Header) (r : Lists)
 
 unfoldable pub finishAnswer : Header → Lists → Answer
 unfolding valuesOf
-finishAnswer h l = cond (sizedOf h (lengthsOf l) (l .mappings)) (answer 0 (valuesOf (metadataOf h l))) (answer 15 [])
+finishAnswer h l = cond (metadataFits h (lengthsOf l) (l .mappings)) (answer 0 (valuesOf (metadataOf h l))) (answer 15 [])
 
 abbrev pub lengthsBy : ℕ → ℕ → ℕ → ℕ → ℕ → Lengths
 lengthsBy a b c m v = record { symbols = a; partial = b; «not_found» = c; mappings = m; intervals = v }
@@ -135,20 +136,20 @@ and-right false true e = refl
 and-right false false e = e
 
 module _ (names : ℕ) (h : Header) (l : Lists) (g : Header) (r : Lists) where
-  pub merge-unsized : (b : Bool) → b ≡ allSized names h l g r → b ≡ false → Merge names h l g r (merging.Refused BadMemory) l
+  pub merge-unfit : (b : Bool) → b ≡ allFit names h l g r → b ≡ false → Merge names h l g r (merging.Refused BadMemory) l
   unfolding mergeAnswer mergeLists
-  merge-unsized b e d =
+  merge-unfit b e d =
       let f = sym e ∙ d in
       record { answers = rw f refl; holds = rw f refl }
 
-  module _ (b : Bool) (e : b ≡ allSized names h l g r) (d : b ≡ true) where
-    sized-true : allSized names h l g r ≡ true
-    sized-true = sym e ∙ d
+  module _ (b : Bool) (e : b ≡ allFit names h l g r) (d : b ≡ true) where
+    fit-true : allFit names h l g r ≡ true
+    fit-true = sym e ∙ d
 
     merge-from : (a : MergedMetadata) (l' : Lists) (x : Outcome) → merge (given names l) (metadataOf h l) (metadataOf g r) ≡ x → mergedOf a ≡ answerOf x → l' ≡ heldBy h l x → Merge names h l g r a l'
     unfolding mergeAnswer mergeLists
     merge-from a l' x z y w =
-        let f = sized-true in
+        let f = fit-true in
         record { answers = rw f (y ∙ ap answerOf (sym z)); holds = rw f (w ∙ ap (heldBy h l) (sym z)) }
 
     merge-differ : (n : ℕ) → n ≡ differsAt (headerFields h) (headerFields g) → merge (given names l) (metadataOf h l) (metadataOf g r) ≡ ifSame (given names l) (opened (metadataOf h l)) (metadataOf g r) n
@@ -161,14 +162,14 @@ module _ (names : ℕ) (h : Header) (l : Lists) (g : Header) (r : Lists) where
     merge-differs (suc n) y z = merge-from (merging.Refused (Differ (suc n))) l (stopped (answer 6 (suc n ∷ []))) (merge-differ (suc n) y) refl refl
 
     pub both-plannable : (len : Lengths) → len ≡ lengthsOf l → (sa sb sc sm sv : ℕ) → sa ≡ 8192 → sb ≡ 8192 → sc ≡ 8192 → sm ≡ 16384 → sv ≡ 393216 → Plannable names h len l g r sa sb sc sm sv
-    unfolding bothSized
+    unfolding bothFit
     both-plannable len y sa sb sc sm sv i j k m n =
-        let s = and-right (leb names 4096) _ sized-true in
+        let s = and-right (leb names 4096) _ fit-true in
         record {
-          few-names = leb-true names 4096 (and-left (leb names 4096) _ sized-true);
+          few-names = leb-true names 4096 (and-left (leb names 4096) _ fit-true);
           own = y;
-          left-sized = sized-facts h (lengthsOf l) (l .mappings) (and-left (sizedOf h (lengthsOf l) (l .mappings)) _ s);
-          right-sized = sized-facts g (lengthsOf r) (r .mappings) (and-right (sizedOf h (lengthsOf l) (l .mappings)) _ s);
+          left-fitting = metadata-fitting h (lengthsOf l) (l .mappings) (and-left (metadataFits h (lengthsOf l) (l .mappings)) _ s);
+          right-fitting = metadata-fitting g (lengthsOf r) (r .mappings) (and-right (metadataFits h (lengthsOf l) (l .mappings)) _ s);
           room-a = i;
           room-b = j;
           room-c = k;
@@ -176,9 +177,9 @@ module _ (names : ℕ) (h : Header) (l : Lists) (g : Header) (r : Lists) where
           room-v = n;
         }
 
-    pub left-facts : Sized h (lengthsOf l) (l .mappings)
-    unfolding bothSized
-    left-facts = sized-facts h (lengthsOf l) (l .mappings) (and-left (sizedOf h (lengthsOf l) (l .mappings)) _ (and-right (leb names 4096) _ sized-true))
+    pub left-facts : MetadataFitting h (lengthsOf l) (l .mappings)
+    unfolding bothFit
+    left-facts = metadata-fitting h (lengthsOf l) (l .mappings) (and-left (metadataFits h (lengthsOf l) (l .mappings)) _ (and-right (leb names 4096) _ fit-true))
 
     module _ (n : ℕ) (y : n ≡ differsAt (headerFields h) (headerFields g)) (z : n ≡ 0) (v : Verdict) (ta tb tc om out : List ℕ) (o : Outcomes names h l g r v ta tb tc om out) where
       merge-agreed : merge (given names l) (metadataOf h l) (metadataOf g r) ≡ agreedMerge (given names l) (opened (metadataOf h l)) (metadataOf g r)
@@ -198,7 +199,7 @@ module _ (names : ℕ) (h : Header) (l : Lists) (g : Header) (r : Lists) where
 
       pub merge-commit : (c : Counts) → v ≡ verdict.Fits c → (used : ℕ) → used ≡ before (l .mappings) (h .mappings) → (t : Lists) → t ≡ lists ta tb tc om out
           → length ta ≡ 8192 → length tb ≡ 8192 → length tc ≡ 8192 → length om ≡ 16384 → length out ≡ 393216 → Commit h used c l t
-      unfolding countsFit
+      unfolding outcomeFits
       merge-commit c f used u t w la lb lc lm lv =
           let s = left-facts in
           let a = s .fit in
@@ -235,11 +236,11 @@ module _ (names : ℕ) (h : Header) (l : Lists) (g : Header) (r : Lists) where
           (w ∙ rw (sym (t .symbols), sym (t .partial), sym (t .not-found), sym (t .mappings), sym (t .intervals), sym u) refl)
 
 -- the lengths that were tested are those of the lists
-pub sized-same : (names : ℕ) (h : Header) {l x : Lengths} (m : List ℕ) (g : Header) {e y : Lengths} (k : List ℕ) {b : Bool} → b ≡ bothSized names h l m g e k → l ≡ x → e ≡ y → b ≡ bothSized names h x m g y k
-sized-same names h {l} {x} m g {e} {y} k z p q = z ∙ ap (λ (u : Lengths). bothSized names h u m g e k) p ∙ ap (λ (u : Lengths). bothSized names h x m g u k) q
+pub both-fit-same : (names : ℕ) (h : Header) {l x : Lengths} (m : List ℕ) (g : Header) {e y : Lengths} (k : List ℕ) {b : Bool} → b ≡ bothFit names h l m g e k → l ≡ x → e ≡ y → b ≡ bothFit names h x m g y k
+both-fit-same names h {l} {x} m g {e} {y} k z p q = z ∙ ap (λ (u : Lengths). bothFit names h u m g e k) p ∙ ap (λ (u : Lengths). bothFit names h x m g u k) q
 
-pub size-same : (h : Header) {l x : Lengths} (m : List ℕ) {b : Bool} → b ≡ sizedOf h l m → l ≡ x → b ≡ sizedOf h x m
-size-same h {l} {x} m z p = z ∙ ap (λ (u : Lengths). sizedOf h u m) p
+pub fits-same : (h : Header) {l x : Lengths} (m : List ℕ) {b : Bool} → b ≡ metadataFits h l m → l ≡ x → b ≡ metadataFits h x m
+fits-same h {l} {x} m z p = z ∙ ap (λ (u : Lengths). metadataFits h u m) p
 
 -- ---- laws of opening and finishing
 
@@ -249,27 +250,27 @@ flat-count m v zero t o = refl
 flat-count m v (suc j) t o = ap suc (flat-count m v j (t + 1) (o + countAt m t))
 
 module _ (h : Header) (l : Lists) where
-  pub finish-unsized : (b : Bool) → b ≡ sizedOf h (lengthsOf l) (l .mappings) → b ≡ false → answer 15 [] ≡ finishAnswer h l
+  pub finish-unfit : (b : Bool) → b ≡ metadataFits h (lengthsOf l) (l .mappings) → b ≡ false → answer 15 [] ≡ finishAnswer h l
   unfolding finishAnswer
-  finish-unsized b e d = rw (sym e ∙ d) refl
+  finish-unfit b e d = rw (sym e ∙ d) refl
 
-  pub finish-done : (b : Bool) → b ≡ sizedOf h (lengthsOf l) (l .mappings) → b ≡ true → answer 0 (numbersOf h) ≡ finishAnswer h l
+  pub finish-done : (b : Bool) → b ≡ metadataFits h (lengthsOf l) (l .mappings) → b ≡ true → answer 0 (numbersOf h) ≡ finishAnswer h l
   unfolding finishAnswer valuesOf metadataOf
   finish-done b e d =
-      let f = sized-facts h (lengthsOf l) (l .mappings) (sym e ∙ d) .fit in
+      let f = metadata-fitting h (lengthsOf l) (l .mappings) (sym e ∙ d) .fit in
       let p = length-take-le (h .symbols) (l .symbols) (f .symbols-used) in
       let q = length-take-le (h .partial) (l .partial) (f .partial-used) in
       let r = length-take-le (h .«not_found») (l .not-found) (f .not-found-used) in
       let s = flat-count (l .mappings) (l .intervals) (h .mappings) 0 0 in
       rw (sym e ∙ d, p, q, r, s) refl
 
-  pub open-unsized : (b : Bool) → b ≡ sizedOf h (lengthsOf l) (l .mappings) → b ≡ false → Open h l (opening.Refused BadMemory) l
+  pub open-unfit : (b : Bool) → b ≡ metadataFits h (lengthsOf l) (l .mappings) → b ≡ false → Open h l (opening.Refused BadMemory) l
   unfolding openAnswer openLists
-  open-unsized b e d = let f = sym e ∙ d in record { answers = rw f refl; holds = rw f refl }
+  open-unfit b e d = let f = sym e ∙ d in record { answers = rw f refl; holds = rw f refl }
 
-  module _ (b : Bool) (e : b ≡ sizedOf h (lengthsOf l) (l .mappings)) (d : b ≡ true) where
-    pub open-facts : Sized h (lengthsOf l) (l .mappings)
-    open-facts = sized-facts h (lengthsOf l) (l .mappings) (sym e ∙ d)
+  module _ (b : Bool) (e : b ≡ metadataFits h (lengthsOf l) (l .mappings)) (d : b ≡ true) where
+    pub open-facts : MetadataFitting h (lengthsOf l) (l .mappings)
+    open-facts = metadata-fitting h (lengthsOf l) (l .mappings) (sym e ∙ d)
 
     abbrev kept : List Mapping
     kept = enterAll [] (mappingsFrom (l .mappings) (l .intervals) 0 0 (h .mappings))

@@ -26,7 +26,7 @@ use Rattle.metadata_gather.specs.declared.plan.Planned.the-variants.{Fault, Lai
 use Rattle.metadata_form.specs.declared.header.Header.{Header}
 use Rattle.metadata_form.specs.declared.header.Lengths.{Lengths}
 use Rattle.metadata_form.specs.declared.header.Counts.{Counts}
-use Rattle.metadata_form.specs.Header.{Sized, Fitting, Lists, lists, lengthsOf, headerFields, metadataOf, countsFit}
+use Rattle.metadata_form.specs.Header.{MetadataFitting, Fitting, Lists, lists, lengthsOf, headerFields, metadataOf, outcomeFits}
 use Rattle.metadata_form.specs.Over.{over}
 use Rattle.metadata_gather.specs.Sets.{AllUnited, IsUnited}
 use Rattle.metadata_merge.specs.Room.{merged-few, merged-short}
@@ -47,7 +47,7 @@ countsOf a b c q k = record { symbols = a; partial = b; «not_found» = c; mappi
 unfoldable pub decideOf : Planned → ℕ → ℕ → ℕ → Lengths → Verdict
 unfolding refusalOf
 decideOf (Fault n) a b c l = Refused (refusalOf n)
-decideOf (Laid q k) a b c l = cond (countsFit (countsOf a b c q k) l) (Fits (countsOf a b c q k)) (Refused NoRoom)
+decideOf (Laid q k) a b c l = cond (outcomeFits (countsOf a b c q k) l) (Fits (countsOf a b c q k)) (Refused NoRoom)
 
 -- the rooms of the lent lists, and what a merge is given
 abbrev pub roomsOf : Lists → Rooms
@@ -203,7 +203,7 @@ pub record Fitted (x : Outcome) (f : Fields) (l : Lengths) (c : Counts) (ta tb t
   pub mappings : take (2 * c .mappings) om ≡ mappingWords (value .mappings)
   pub n-intervals : c .intervals ≡ countIntervals (value .mappings)
   pub intervals : take (3 * c .intervals) out ≡ intervalWords (value .mappings)
-  pub room : countsFit c l ≡ true
+  pub room : outcomeFits c l ≡ true
 
 -- what a verdict says of the outcome x
 abbrev pub Decided : Outcome → Fields → Lengths → Verdict → List ℕ → List ℕ → List ℕ → List ℕ → List ℕ → Type 0
@@ -221,11 +221,11 @@ module _ (names : ℕ) (h : Header) (l : Lists) (g : Header) (r : Lists) (ka : B
   abbrev ends : List Mapping → Metadata
   ends ms = together (left names h l g r) (right names h l g r) ms
 
-  counts-same : (ms : List Mapping) (q k : ℕ) → q ≡ length ms → k ≡ countIntervals ms → fits (roomsOf l) (ends ms) ≡ countsFit (countsOf ca cb cd q k) (lengthsOf l)
-  unfolding fits countsFit together opened metadataOf
+  counts-same : (ms : List Mapping) (q k : ℕ) → q ≡ length ms → k ≡ countIntervals ms → fits (roomsOf l) (ends ms) ≡ outcomeFits (countsOf ca cb cd q k) (lengthsOf l)
+  unfolding fits outcomeFits together opened metadataOf
   counts-same ms q k a b = rw (s .symbols .united .how-many, s .partial .united .how-many, s .not-found .united .how-many, a, b) refl
 
-  laid-fits : (ms : List Mapping) (q k : ℕ) → Stands ms om' q out' k → (b : Bool) → countsFit (countsOf ca cb cd q k) (lengthsOf l) ≡ b
+  laid-fits : (ms : List Mapping) (q k : ℕ) → Stands ms om' q out' k → (b : Bool) → outcomeFits (countsOf ca cb cd q k) (lengthsOf l) ≡ b
       → Decided (cond b (done (ends ms)) (stopped (answer 2 []))) (fieldsOf (headerFields h) (headerFields g)) (lengthsOf l) (cond b (Fits (countsOf ca cb cd q k)) (Refused NoRoom)) ta tb tc om' out'
   unfolding together opened metadataOf
   laid-fits ms q k d false e = refl
@@ -265,9 +265,9 @@ module _ (names : ℕ) (h : Header) (l : Lists) (g : Header) (r : Lists) (ka : B
       let x = merged-few (all names h l g r) ms b in
       let y = merged-short (all names h l g r) ms b in
       let d = stands ms om out om' out' q k f (omega arith) (omega arith) in
-      subst (λ (t : Bool). Decided (cond t (done (ends ms)) (stopped (answer 2 []))) (fieldsOf (headerFields h) (headerFields g)) (lengthsOf l) (cond (countsFit (countsOf ca cb cd q k) (lengthsOf l)) (Fits (countsOf ca cb cd q k)) (Refused NoRoom)) ta tb tc om' out')
+      subst (λ (t : Bool). Decided (cond t (done (ends ms)) (stopped (answer 2 []))) (fieldsOf (headerFields h) (headerFields g)) (lengthsOf l) (cond (outcomeFits (countsOf ca cb cd q k) (lengthsOf l)) (Fits (countsOf ca cb cd q k)) (Refused NoRoom)) ta tb tc om' out')
       (sym (counts-same ms q k (d .how-many) (d .how-long)))
-      (laid-fits ms q k d (countsFit (countsOf ca cb cd q k) (lengthsOf l)) refl)
+      (laid-fits ms q k d (outcomeFits (countsOf ca cb cd q k) (lengthsOf l)) refl)
 
   cases : (p : Planned) (d n f : Bool) → endPlan p om' out' ≡ planOn (cond d (cond n (cond f 0 1) 3) 11) om out (all names h l g r)
       → Decided (cond d (cond n (cond f (ifMerged (roomsOf l) (left names h l g r) (right names h l g r) (byName (all names h l g r))) (stopped (answer 1 []))) (stopped (answer 3 []))) (stopped (answer 11 [])))
@@ -291,12 +291,12 @@ pub decide-fault : (p : Planned) (a b c : ℕ) (l : Lengths) (n : ℕ) (r : Refu
 unfolding decideOf
 decide-fault p a b c l n r e d = ap (λ (x : Refusal). Refused x) d ∙ ap (λ (x : Planned). decideOf x a b c l) (sym e)
 
-pub decide-fits : (p : Planned) (a b c : ℕ) (l : Lengths) (q k : ℕ) (t : Bool) → p ≡ Laid q k → t ≡ countsFit (countsOf a b c q k) l → t ≡ true → Fits (countsOf a b c q k) ≡ decideOf p a b c l
+pub decide-fits : (p : Planned) (a b c : ℕ) (l : Lengths) (q k : ℕ) (t : Bool) → p ≡ Laid q k → t ≡ outcomeFits (countsOf a b c q k) l → t ≡ true → Fits (countsOf a b c q k) ≡ decideOf p a b c l
 unfolding decideOf
 decide-fits p a b c l q k t e d y =
     sym (ap (λ (x : Planned). decideOf x a b c l) e ∙ ap (λ (x : Bool). cond x (Fits (countsOf a b c q k)) (Refused NoRoom)) (sym d ∙ y))
 
-pub decide-short : (p : Planned) (a b c : ℕ) (l : Lengths) (q k : ℕ) (t : Bool) → p ≡ Laid q k → t ≡ countsFit (countsOf a b c q k) l → t ≡ false → Refused NoRoom ≡ decideOf p a b c l
+pub decide-short : (p : Planned) (a b c : ℕ) (l : Lengths) (q k : ℕ) (t : Bool) → p ≡ Laid q k → t ≡ outcomeFits (countsOf a b c q k) l → t ≡ false → Refused NoRoom ≡ decideOf p a b c l
 unfolding decideOf
 decide-short p a b c l q k t e d y =
     sym (ap (λ (x : Planned). decideOf x a b c l) e ∙ ap (λ (x : Bool). cond x (Fits (countsOf a b c q k)) (Refused NoRoom)) (sym d ∙ y))
@@ -306,8 +306,8 @@ decide-short p a b c l q k t e d y =
 pub record Plannable (names : ℕ) (h : Header) (len : Lengths) (l : Lists) (g : Header) (r : Lists) (sa sb sc sm sv : ℕ) : Type 0 where
   pub few-names : names ≤ 4096
   pub own : len ≡ lengthsOf l
-  pub left-sized : Sized h (lengthsOf l) (l .mappings)
-  pub right-sized : Sized g (lengthsOf r) (r .mappings)
+  pub left-fitting : MetadataFitting h (lengthsOf l) (l .mappings)
+  pub right-fitting : MetadataFitting g (lengthsOf r) (r .mappings)
   pub room-a : sa ≡ 8192
   pub room-b : sb ≡ 8192
   pub room-c : sc ≡ 8192
@@ -343,26 +343,26 @@ committed h used c l t = record {
 module _ (names : ℕ) (h : Header) (len : Lengths) (l : Lists) (g : Header) (r : Lists) (sa sb sc sm sv : ℕ) (p : Plannable names h len l g r sa sb sc sm sv) where
   pub set-a : (h .symbols ≤ length (l .symbols)) × (g .symbols ≤ length (r .symbols)) × (h .symbols + g .symbols ≤ sa) × (sa < 4294967296)
   set-a =
-      let a = p .left-sized .fit in let b = p .right-sized .fit in let c = p .room-a in
+      let a = p .left-fitting .fit in let b = p .right-fitting .fit in let c = p .room-a in
       let d = a .symbols-lent in let e = a .symbols-used in let f = b .symbols-lent in let i = b .symbols-used in
       (e, i, omega arith, omega arith)
 
   pub set-b : (h .partial ≤ length (l .partial)) × (g .partial ≤ length (r .partial)) × (h .partial + g .partial ≤ sb) × (sb < 4294967296)
   set-b =
-      let a = p .left-sized .fit in let b = p .right-sized .fit in let c = p .room-b in
+      let a = p .left-fitting .fit in let b = p .right-fitting .fit in let c = p .room-b in
       let d = a .partial-lent in let e = a .partial-used in let f = b .partial-lent in let i = b .partial-used in
       (e, i, omega arith, omega arith)
 
   pub set-c : (h .«not_found» ≤ length (l .not-found)) × (g .«not_found» ≤ length (r .not-found)) × (h .«not_found» + g .«not_found» ≤ sc) × (sc < 4294967296)
   set-c =
-      let a = p .left-sized .fit in let b = p .right-sized .fit in let c = p .room-c in
+      let a = p .left-fitting .fit in let b = p .right-fitting .fit in let c = p .room-c in
       let d = a .not-found-lent in let e = a .not-found-used in let f = b .not-found-lent in let i = b .not-found-used in
       (e, i, omega arith, omega arith)
 
   pub planable : Planable (l .mappings) (h .mappings) (l .intervals) (r .mappings) (g .mappings) (r .intervals) names sm sv
   planable =
-      let a = p .left-sized .fit in let b = p .right-sized .fit in
-      let c = p .left-sized .sum in let d = p .right-sized .sum in
+      let a = p .left-fitting .fit in let b = p .right-fitting .fit in
+      let c = p .left-fitting .sum in let d = p .right-fitting .sum in
       let e = a .maps-lent in let f = a .maps-used in let i = a .spans-lent in let j = a .spans-whole in
       let k = b .maps-lent in let m = b .maps-used in let n = b .spans-lent in let o = b .spans-whole in
       record {

@@ -11,7 +11,7 @@ use metadata_form::header::Lengths;
 use metadata_form::header::counted;
 use metadata_form::header::differs;
 use metadata_form::header::merged_header;
-use metadata_form::header::sized;
+use metadata_form::header::metadata_fits;
 use metadata_form::header::total;
 use metadata_gather::sets::alone;
 use metadata_gather::sides::lose_repeats;
@@ -19,7 +19,7 @@ ghost use mathlib.Core.Path.{_≡_};
 ghost use mathlib.Core.Bool.{_&&_};
 ghost use lib.ListN.{length};
 ghost use Rattle.metadata_form.specs.Header.{lists, lengthsOf};
-ghost use Rattle.metadata_merge.specs.Merger.{finishedOf, finishAnswer, bothSized, lengthsBy, Merge, Open};
+ghost use Rattle.metadata_merge.specs.Merger.{finishedOf, finishAnswer, bothFit, lengthsBy, Merge, Open};
 
 // What opening answers: the header with the counts that are left, or 15.
 pub enum OpenedMetadata {
@@ -57,7 +57,7 @@ const BOTH_MAPPING_WORDS: usize = 16384;
 const BOTH_INTERVAL_WORDS: usize = 393216;
 
 // The lengths of five lists.
-fn lengths(
+fn lengths_by(
     symbols: usize,
     partial: usize,
     not_found: usize,
@@ -76,65 +76,71 @@ fn lengths(
 }
 
 // Whether the number of names and both sides' memory are of the form.
-fn both_sized(
+fn both_fit(
     names: usize,
-    h: Header,
-    l: Lengths,
-    m: &[u32],
-    g: Header,
-    e: Lengths,
-    k: &[u32],
+    header: Header,
+    lengths: Lengths,
+    mappings: &[u32],
+    added: Header,
+    added_lengths: Lengths,
+    added_mappings: &[u32],
 ) -> bool
-    requires { ⌜ (l .mappings ≡ length (now m)) × (e .mappings ≡ length (now k)) ⌝ }
-    ensures { λ r. ⌜ r ≡ bothSized names h l (now (m .entry)) g e (now (k .entry)) ⌝ }
+    requires { ⌜ (lengths .mappings ≡ length (now mappings)) × («added_lengths» .mappings ≡ length (now «added_mappings»)) ⌝ }
+    ensures { λ r. ⌜ r ≡ bothFit names header lengths (now (mappings .entry)) added «added_lengths» (now («added_mappings» .entry)) ⌝ }
 {
     if NAMES < names {
         return false;
     }
-    if !sized(h, l, m) {
+    if !metadata_fits(header, lengths, mappings) {
         return false;
     }
-    sized(g, e, k)
+    metadata_fits(added, added_lengths, added_mappings)
 }
 
 // The first metadata loses its repeats: equal entries of a set once, and of two mappings with one name the last, at the place
 // of the first. Places that are freed hold 0.
 pub fn open(
-    h: Header,
+    header: Header,
     symbols: &mut [u32],
     partial: &mut [u32],
     not_found: &mut [u32],
     mappings: &mut [u32],
     intervals: &mut [u32],
 ) -> OpenedMetadata
-    ensures { λ r. ⌜ Open h (lists (now (symbols .entry)) (now (partial .entry)) (now («not_found» .entry)) (now (mappings .entry)) (now (intervals .entry))) r (lists (now (symbols .exit)) (now (partial .exit)) (now («not_found» .exit)) (now (mappings .exit)) (now (intervals .exit))) ⌝ }
+    ensures { λ r. ⌜ Open header (lists (now (symbols .entry)) (now (partial .entry)) (now («not_found» .entry)) (now (mappings .entry)) (now (intervals .entry))) r (lists (now (symbols .exit)) (now (partial .exit)) (now («not_found» .exit)) (now (mappings .exit)) (now (intervals .exit))) ⌝ }
 {
-    let l = lengths(
+    let lengths = lengths_by(
         symbols.len(),
         partial.len(),
         not_found.len(),
         mappings.len(),
         intervals.len(),
     );
-    if !sized(h, l, mappings) {
+    if !metadata_fits(header, lengths, mappings) {
         return OpenedMetadata::Refused(Refusal::BadMemory);
     }
-    let mut s = [0u32; ENTRIES];
-    let mut p = [0u32; ENTRIES];
-    let mut n = [0u32; ENTRIES];
-    let mut m = [0u32; MAPPING_WORDS];
-    let mut v = [0u32; INTERVAL_WORDS];
-    let used = total(mappings, h.mappings);
-    let a = alone(symbols, h.symbols, &mut s);
-    let b = alone(partial, h.partial, &mut p);
-    let c = alone(not_found, h.not_found, &mut n);
-    let k = lose_repeats(mappings, h.mappings, intervals, &mut m, &mut v);
+    let mut out_symbols = [0u32; ENTRIES];
+    let mut out_partial = [0u32; ENTRIES];
+    let mut out_not_found = [0u32; ENTRIES];
+    let mut out_mappings = [0u32; MAPPING_WORDS];
+    let mut out_intervals = [0u32; INTERVAL_WORDS];
+    let used = total(mappings, header.mappings);
+    let a = alone(symbols, header.symbols, &mut out_symbols);
+    let b = alone(partial, header.partial, &mut out_partial);
+    let c = alone(not_found, header.not_found, &mut out_not_found);
+    let laid = lose_repeats(
+        mappings,
+        header.mappings,
+        intervals,
+        &mut out_mappings,
+        &mut out_intervals,
+    );
     let counts = Counts {
         symbols: a,
         partial: b,
         not_found: c,
-        mappings: k.mappings,
-        intervals: k.intervals,
+        mappings: laid.mappings,
+        intervals: laid.intervals,
     };
     commit(
         symbols,
@@ -142,16 +148,16 @@ pub fn open(
         not_found,
         mappings,
         intervals,
-        h,
+        header,
         used,
         counts,
-        &s,
-        &p,
-        &n,
-        &m,
-        &v,
+        &out_symbols,
+        &out_partial,
+        &out_not_found,
+        &out_mappings,
+        &out_intervals,
     );
-    let r = counted(h, counts);
+    let r = counted(header, counts);
     OpenedMetadata::Done(r)
 }
 
@@ -159,88 +165,96 @@ pub fn open(
 // names were handed out. A refused merge changes nothing.
 pub fn merge(
     names: usize,
-    h: Header,
+    header: Header,
     symbols: &mut [u32],
     partial: &mut [u32],
     not_found: &mut [u32],
     mappings: &mut [u32],
     intervals: &mut [u32],
-    g: Header,
+    added: Header,
     added_symbols: &[u32],
     added_partial: &[u32],
     added_not_found: &[u32],
     added_mappings: &[u32],
     added_intervals: &[u32],
 ) -> MergedMetadata
-    ensures { λ r. ⌜ Merge names h (lists (now (symbols .entry)) (now (partial .entry)) (now («not_found» .entry)) (now (mappings .entry)) (now (intervals .entry))) g (lists (now («added_symbols» .entry)) (now («added_partial» .entry)) (now («added_not_found» .entry)) (now («added_mappings» .entry)) (now («added_intervals» .entry))) r (lists (now (symbols .exit)) (now (partial .exit)) (now («not_found» .exit)) (now (mappings .exit)) (now (intervals .exit))) ⌝ }
+    ensures { λ r. ⌜ Merge names header (lists (now (symbols .entry)) (now (partial .entry)) (now («not_found» .entry)) (now (mappings .entry)) (now (intervals .entry))) added (lists (now («added_symbols» .entry)) (now («added_partial» .entry)) (now («added_not_found» .entry)) (now («added_mappings» .entry)) (now («added_intervals» .entry))) r (lists (now (symbols .exit)) (now (partial .exit)) (now («not_found» .exit)) (now (mappings .exit)) (now (intervals .exit))) ⌝ }
 {
-    let l = lengths(
+    let lengths = lengths_by(
         symbols.len(),
         partial.len(),
         not_found.len(),
         mappings.len(),
         intervals.len(),
     );
-    let e = lengths(
+    let added_lengths = lengths_by(
         added_symbols.len(),
         added_partial.len(),
         added_not_found.len(),
         added_mappings.len(),
         added_intervals.len(),
     );
-    if !both_sized(names, h, l, mappings, g, e, added_mappings) {
+    if !both_fit(
+        names,
+        header,
+        lengths,
+        mappings,
+        added,
+        added_lengths,
+        added_mappings,
+    ) {
         return MergedMetadata::Refused(Refusal::BadMemory);
     }
-    let field = differs(h, g);
+    let field = differs(header, added);
     if field != 0 {
         return MergedMetadata::Refused(Refusal::Differ(field));
     }
-    let mut s = [0u32; BOTH_ENTRIES];
-    let mut p = [0u32; BOTH_ENTRIES];
-    let mut n = [0u32; BOTH_ENTRIES];
-    let mut m = [0u32; BOTH_MAPPING_WORDS];
-    let mut v = [0u32; BOTH_INTERVAL_WORDS];
+    let mut out_symbols = [0u32; BOTH_ENTRIES];
+    let mut out_partial = [0u32; BOTH_ENTRIES];
+    let mut out_not_found = [0u32; BOTH_ENTRIES];
+    let mut out_mappings = [0u32; BOTH_MAPPING_WORDS];
+    let mut out_intervals = [0u32; BOTH_INTERVAL_WORDS];
     let verdict = outcome(
         names,
-        h,
-        l,
+        header,
+        lengths,
         symbols,
         partial,
         not_found,
         mappings,
         intervals,
-        g,
+        added,
         added_symbols,
         added_partial,
         added_not_found,
         added_mappings,
         added_intervals,
-        &mut s,
-        &mut p,
-        &mut n,
-        &mut m,
-        &mut v,
+        &mut out_symbols,
+        &mut out_partial,
+        &mut out_not_found,
+        &mut out_mappings,
+        &mut out_intervals,
     );
     match verdict {
         Verdict::Refused(why) => MergedMetadata::Refused(why),
-        Verdict::Fits(c) => {
-            let used = total(mappings, h.mappings);
+        Verdict::Fits(counts) => {
+            let used = total(mappings, header.mappings);
             commit(
                 symbols,
                 partial,
                 not_found,
                 mappings,
                 intervals,
-                h,
+                header,
                 used,
-                c,
-                &s,
-                &p,
-                &n,
-                &m,
-                &v,
+                counts,
+                &out_symbols,
+                &out_partial,
+                &out_not_found,
+                &out_mappings,
+                &out_intervals,
             );
-            let r = merged_header(h, g, c);
+            let r = merged_header(header, added, counts);
             MergedMetadata::Done(r)
         }
     }
@@ -248,24 +262,24 @@ pub fn merge(
 
 // The gathered metadata is finished: it stays as it is.
 pub fn finish(
-    h: Header,
+    header: Header,
     symbols: &[u32],
     partial: &[u32],
     not_found: &[u32],
     mappings: &[u32],
     intervals: &[u32],
 ) -> FinishedMetadata
-    ensures { λ r. ⌜ finishedOf r ≡ finishAnswer h (lists (now (symbols .entry)) (now (partial .entry)) (now («not_found» .entry)) (now (mappings .entry)) (now (intervals .entry))) ⌝ }
+    ensures { λ r. ⌜ finishedOf r ≡ finishAnswer header (lists (now (symbols .entry)) (now (partial .entry)) (now («not_found» .entry)) (now (mappings .entry)) (now (intervals .entry))) ⌝ }
 {
-    let l = lengths(
+    let lengths = lengths_by(
         symbols.len(),
         partial.len(),
         not_found.len(),
         mappings.len(),
         intervals.len(),
     );
-    if !sized(h, l, mappings) {
+    if !metadata_fits(header, lengths, mappings) {
         return FinishedMetadata::Refused(Refusal::BadMemory);
     }
-    FinishedMetadata::Done(h)
+    FinishedMetadata::Done(header)
 }

@@ -3,7 +3,7 @@ use leaves::refusal::Refusal;
 use metadata_form::header::Counts;
 use metadata_form::header::Header;
 use metadata_form::header::Lengths;
-use metadata_form::header::fits;
+use metadata_form::header::outcome_fits;
 use metadata_form::over::lay_over;
 use metadata_form::words::wide;
 use metadata_gather::plan::Planned;
@@ -45,43 +45,56 @@ fn refusal_of(number: u32) -> Refusal
 }
 
 // Whether the name numbers besides the mappings' were handed out, of both sides.
-fn rest_known(names: usize, h: Header, g: Header, a: bool, b: bool, c: bool) -> bool
-    ensures { λ r. ⌜ r ≡ restOf names h g a b c ⌝ }
+fn rest_known(
+    names: usize,
+    header: Header,
+    added: Header,
+    symbols_known: bool,
+    partial_known: bool,
+    not_found_known: bool,
+) -> bool
+    ensures { λ r. ⌜ r ≡ restOf names header added «symbols_known» «partial_known» «not_found_known» ⌝ }
 {
-    if names <= wide(h.dataset) {
+    if names <= wide(header.dataset) {
         return false;
     }
-    if names <= wide(g.dataset) {
+    if names <= wide(added.dataset) {
         return false;
     }
-    if !a {
+    if !symbols_known {
         return false;
     }
-    if !b {
+    if !partial_known {
         return false;
     }
-    c
+    not_found_known
 }
 
 // A plan's refusal, or 2 where the outcome does not fit, or the counts.
-fn decide(p: Planned, symbols: usize, partial: usize, not_found: usize, l: Lengths) -> Verdict
-    ensures { λ r. ⌜ r ≡ decideOf p symbols partial «not_found» l ⌝ }
+fn decide(
+    planned: Planned,
+    symbols: usize,
+    partial: usize,
+    not_found: usize,
+    lengths: Lengths,
+) -> Verdict
+    ensures { λ r. ⌜ r ≡ decideOf planned symbols partial «not_found» lengths ⌝ }
 {
-    match p {
+    match planned {
         Planned::Fault(number) => {
             let r = refusal_of(number);
             Verdict::Refused(r)
         }
         Planned::Laid(mappings, intervals) => {
-            let c = Counts {
+            let counts = Counts {
                 symbols: symbols,
                 partial: partial,
                 not_found: not_found,
                 mappings: mappings,
                 intervals: intervals,
             };
-            if fits(c, l) {
-                Verdict::Fits(c)
+            if outcome_fits(counts, lengths) {
+                Verdict::Fits(counts)
             } else {
                 Verdict::Refused(Refusal::NoRoom)
             }
@@ -89,55 +102,69 @@ fn decide(p: Planned, symbols: usize, partial: usize, not_found: usize, l: Lengt
     }
 }
 
-// The outcome of a merge whose six fields agree: its lists stand in s, p, n, m and v, or it is refused.
+// The outcome of a merge whose six fields agree: its lists stand in `out_symbols` and so on, or it is refused.
 pub fn outcome(
     names: usize,
-    h: Header,
-    l: Lengths,
+    header: Header,
+    lengths: Lengths,
     symbols: &[u32],
     partial: &[u32],
     not_found: &[u32],
     mappings: &[u32],
     intervals: &[u32],
-    g: Header,
+    added: Header,
     added_symbols: &[u32],
     added_partial: &[u32],
     added_not_found: &[u32],
     added_mappings: &[u32],
     added_intervals: &[u32],
-    s: &mut [u32],
-    p: &mut [u32],
-    n: &mut [u32],
-    m: &mut [u32],
-    v: &mut [u32],
+    out_symbols: &mut [u32],
+    out_partial: &mut [u32],
+    out_not_found: &mut [u32],
+    out_mappings: &mut [u32],
+    out_intervals: &mut [u32],
 ) -> Verdict
-    requires { ⌜ Plannable names h l (lists (now symbols) (now partial) (now «not_found») (now mappings) (now intervals)) g (lists (now «added_symbols») (now «added_partial») (now «added_not_found») (now «added_mappings») (now «added_intervals»)) (length (now s)) (length (now p)) (length (now n)) (length (now m)) (length (now v)) ⌝ }
-    ensures { λ r. ⌜ Outcomes names h (lists (now (symbols .entry)) (now (partial .entry)) (now («not_found» .entry)) (now (mappings .entry)) (now (intervals .entry))) g (lists (now («added_symbols» .entry)) (now («added_partial» .entry)) (now («added_not_found» .entry)) (now («added_mappings» .entry)) (now («added_intervals» .entry))) r (now (s .exit)) (now (p .exit)) (now (n .exit)) (now (m .exit)) (now (v .exit)) ⌝ }
+    requires { ⌜ Plannable names header lengths (lists (now symbols) (now partial) (now «not_found») (now mappings) (now intervals)) added (lists (now «added_symbols») (now «added_partial») (now «added_not_found») (now «added_mappings») (now «added_intervals»)) (length (now «out_symbols»)) (length (now «out_partial»)) (length (now «out_not_found»)) (length (now «out_mappings»)) (length (now «out_intervals»)) ⌝ }
+    ensures { λ r. ⌜ Outcomes names header (lists (now (symbols .entry)) (now (partial .entry)) (now («not_found» .entry)) (now (mappings .entry)) (now (intervals .entry))) added (lists (now («added_symbols» .entry)) (now («added_partial» .entry)) (now («added_not_found» .entry)) (now («added_mappings» .entry)) (now («added_intervals» .entry))) r (now («out_symbols» .exit)) (now («out_partial» .exit)) (now («out_not_found» .exit)) (now («out_mappings» .exit)) (now («out_intervals» .exit)) ⌝ }
 {
-    let a = unite(symbols, h.symbols, added_symbols, g.symbols, names, s);
-    let b = unite(partial, h.partial, added_partial, g.partial, names, p);
+    let a = unite(
+        symbols,
+        header.symbols,
+        added_symbols,
+        added.symbols,
+        names,
+        out_symbols,
+    );
+    let b = unite(
+        partial,
+        header.partial,
+        added_partial,
+        added.partial,
+        names,
+        out_partial,
+    );
     let c = unite(
         not_found,
-        h.not_found,
+        header.not_found,
         added_not_found,
-        g.not_found,
+        added.not_found,
         names,
-        n,
+        out_not_found,
     );
-    let rest = rest_known(names, h, g, a.known, b.known, c.known);
+    let rest = rest_known(names, header, added, a.known, b.known, c.known);
     let planned = plan(
         mappings,
-        h.mappings,
+        header.mappings,
         intervals,
         added_mappings,
-        g.mappings,
+        added.mappings,
         added_intervals,
         names,
         rest,
-        m,
-        v,
+        out_mappings,
+        out_intervals,
     );
-    decide(planned, a.count, b.count, c.count, l)
+    decide(planned, a.count, b.count, c.count, lengths)
 }
 
 // The words of a mapping and of an interval.
@@ -145,38 +172,38 @@ const MAPPING_WORDS: usize = 2;
 
 const INTERVAL_WORDS: usize = 3;
 
-// The outcome in s, p, n, m and v, laid over the lent lists, of which the header's counts and `used` intervals were in use.
+// The outcome's lists laid over the lent ones, of which the header's counts and `used` intervals were in use.
 pub fn commit(
     symbols: &mut [u32],
     partial: &mut [u32],
     not_found: &mut [u32],
     mappings: &mut [u32],
     intervals: &mut [u32],
-    h: Header,
+    header: Header,
     used: usize,
-    c: Counts,
-    s: &[u32],
-    p: &[u32],
-    n: &[u32],
-    m: &[u32],
-    v: &[u32],
+    counts: Counts,
+    out_symbols: &[u32],
+    out_partial: &[u32],
+    out_not_found: &[u32],
+    out_mappings: &[u32],
+    out_intervals: &[u32],
 )
-    requires { ⌜ Commit h used c (lists (now symbols) (now partial) (now «not_found») (now mappings) (now intervals)) (lists (now s) (now p) (now n) (now m) (now v)) ⌝ }
-    ensures { λ _. ⌜ lists (now (symbols .exit)) (now (partial .exit)) (now («not_found» .exit)) (now (mappings .exit)) (now (intervals .exit)) ≡ committed h used c (lists (now (symbols .entry)) (now (partial .entry)) (now («not_found» .entry)) (now (mappings .entry)) (now (intervals .entry))) (lists (now (s .entry)) (now (p .entry)) (now (n .entry)) (now (m .entry)) (now (v .entry))) ⌝ }
+    requires { ⌜ Commit header used counts (lists (now symbols) (now partial) (now «not_found») (now mappings) (now intervals)) (lists (now «out_symbols») (now «out_partial») (now «out_not_found») (now «out_mappings») (now «out_intervals»)) ⌝ }
+    ensures { λ _. ⌜ lists (now (symbols .exit)) (now (partial .exit)) (now («not_found» .exit)) (now (mappings .exit)) (now (intervals .exit)) ≡ committed header used counts (lists (now (symbols .entry)) (now (partial .entry)) (now («not_found» .entry)) (now (mappings .entry)) (now (intervals .entry))) (lists (now («out_symbols» .entry)) (now («out_partial» .entry)) (now («out_not_found» .entry)) (now («out_mappings» .entry)) (now («out_intervals» .entry))) ⌝ }
 {
-    lay_over(symbols, h.symbols, s, c.symbols);
-    lay_over(partial, h.partial, p, c.partial);
-    lay_over(not_found, h.not_found, n, c.not_found);
+    lay_over(symbols, header.symbols, out_symbols, counts.symbols);
+    lay_over(partial, header.partial, out_partial, counts.partial);
+    lay_over(not_found, header.not_found, out_not_found, counts.not_found);
     lay_over(
         mappings,
-        MAPPING_WORDS * h.mappings,
-        m,
-        MAPPING_WORDS * c.mappings,
+        MAPPING_WORDS * header.mappings,
+        out_mappings,
+        MAPPING_WORDS * counts.mappings,
     );
     lay_over(
         intervals,
         INTERVAL_WORDS * used,
-        v,
-        INTERVAL_WORDS * c.intervals,
+        out_intervals,
+        INTERVAL_WORDS * counts.intervals,
     );
 }

@@ -10,8 +10,8 @@ use crate::state::EMPTY;
 use crate::state::GONE;
 use crate::state::STANDING;
 use crate::state::WAITING;
+use crate::state::arrays_fit;
 use crate::state::entry_or_zero;
-use crate::state::memory;
 use leaves::frame::Head;
 use leaves::frame::read_within;
 use leaves::refusal::Refusal;
@@ -24,7 +24,7 @@ ghost use Rattle.theory.specs.Answer.{answer};
 ghost use Rattle.records_rules.specs.Machine.{says, record-at, damage-at};
 ghost use Rattle.records_rules.specs.Bytes.{streamsOf};
 ghost use Rattle.records_rules.specs.View.{packed, recIn};
-ghost use Rattle.records_rules.specs.State.{answerOf, rightMemory, Room, Untouched, rightStreams, opening, gotOf, StateOk, Says, StreamsOpened};
+ghost use Rattle.records_rules.specs.State.{answerOf, arraysFit, Room, Untouched, rightStreams, opening, gotOf, StateOk, Says, StreamsOpened};
 ghost use Rattle.records.specs.Merge.{turnOf, openingOf};
 
 // What a read found: the end is 0, damage its reason, a record 4.
@@ -219,24 +219,22 @@ pub fn next(
     heap: &mut [u8],
 ) -> Turned
     ensures { λ r. ⌜ r .held ≤ held ⌝ }
-    ensures { λ r. ⌜ (rightMemory held (length (now (marks .entry))) (length (now (times .entry))) (length (now (places .entry))) (length (now (heads .entry))) (length (now (heap .entry))) ≡ false
+    ensures { λ r. ⌜ (arraysFit held (length (now (marks .entry))) (length (now (times .entry))) (length (now (places .entry))) (length (now (heads .entry))) (length (now (heap .entry))) ≡ false
         → (turnOf (r .answer) ≡ answer 15 []) × (r .held ≡ held)
         × Untouched (now (marks .entry)) (now (times .entry)) (now (places .entry)) (now (heads .entry)) (now (heap .entry)) (now (marks .exit)) (now (times .exit)) (now (places .exit)) (now (heads .exit)) (now (heap .exit))) ⌝ }
-    ensures { λ r. ⌜ (rightMemory held (length (now (marks .entry))) (length (now (times .entry))) (length (now (places .entry))) (length (now (heads .entry))) (length (now (heap .entry))) ≡ true
+    ensures { λ r. ⌜ (arraysFit held (length (now (marks .entry))) (length (now (times .entry))) (length (now (places .entry))) (length (now (heads .entry))) (length (now (heap .entry))) ≡ true
         → (n : ℕ) → n ≤ 256 → StateOk n held (now (marks .entry)) (now (times .entry)) (now (places .entry)) (now (heads .entry)) (now (heap .entry))
         → Says (streamsOf (now (buffer .entry)) (now (cuts .entry))) n (now (marks .entry)) (now (times .entry)) (now (places .entry)) (now (heads .entry))
         (turnOf (r .answer)) (r .held) (now (marks .exit)) (now (times .exit)) (now (places .exit)) (now (heads .exit)) (now (heap .exit))) ⌝ }
 {
-    if memory(
+    if !arrays_fit(
         held,
         marks.len(),
         times.len(),
         places.len(),
         heads.len(),
         heap.len(),
-    )
-        == 0
-    {
+    ) {
         let refusal = Turn::Refused(Refusal::BadMemory);
         return Turned {
             held,
@@ -257,37 +255,35 @@ pub fn open(
     heads: &mut [u64],
     heap: &mut [u8],
 ) -> Opening
-    ensures { λ r. ⌜ openingOf r ≡ opening (rightMemory 0 (length (now (marks .entry))) (length (now (times .entry))) (length (now (places .entry))) (length (now (heads .entry))) (length (now (heap .entry))))
+    ensures { λ r. ⌜ openingOf r ≡ opening (arraysFit 0 (length (now (marks .entry))) (length (now (times .entry))) (length (now (places .entry))) (length (now (heads .entry))) (length (now (heap .entry))))
         (rightStreams (length (now (buffer .entry))) (now (cuts .entry)) (length (now (hints .entry)))) (length (now (cuts .entry)) - 1) ⌝ }
-    ensures { λ r. ⌜ ((rightMemory 0 (length (now (marks .entry))) (length (now (times .entry))) (length (now (places .entry))) (length (now (heads .entry))) (length (now (heap .entry)))
+    ensures { λ r. ⌜ ((arraysFit 0 (length (now (marks .entry))) (length (now (times .entry))) (length (now (places .entry))) (length (now (heads .entry))) (length (now (heap .entry)))
         && rightStreams (length (now (buffer .entry))) (now (cuts .entry)) (length (now (hints .entry)))) ≡ false
         → Untouched (now (marks .entry)) (now (times .entry)) (now (places .entry)) (now (heads .entry)) (now (heap .entry)) (now (marks .exit)) (now (times .exit)) (now (places .exit)) (now (heads .exit)) (now (heap .exit))) ⌝ }
-    ensures { λ r. ⌜ ((rightMemory 0 (length (now (marks .entry))) (length (now (times .entry))) (length (now (places .entry))) (length (now (heads .entry))) (length (now (heap .entry)))
+    ensures { λ r. ⌜ ((arraysFit 0 (length (now (marks .entry))) (length (now (times .entry))) (length (now (places .entry))) (length (now (heads .entry))) (length (now (heap .entry)))
         && rightStreams (length (now (buffer .entry))) (now (cuts .entry)) (length (now (hints .entry)))) ≡ true
         → StreamsOpened (length (now (cuts .entry)) - 1) (now (hints .entry)) (now (marks .exit)) (now (times .exit)) (now (places .exit)) (now (heads .exit)) (now (heap .exit))) ⌝ }
 {
-    if memory(
+    if !arrays_fit(
         0,
         marks.len(),
         times.len(),
         places.len(),
         heads.len(),
         heap.len(),
-    )
-        == 0
-    {
+    ) {
         let refusal = Refusal::BadMemory;
         return Opening::Refused(refusal);
     }
-    if streams_right(buffer.len() as u64, cuts, hints.len()) == 0 {
+    if !streams_right(buffer.len() as u64, cuts, hints.len()) {
         let refusal = Refusal::BadStreams;
         return Opening::Refused(refusal);
     }
-    let n = cuts.len() - 1;
-    lay_streams(n, hints, marks, times, places, heads, heap);
-    heapify(times, heap, n);
+    let streams = cuts.len() - 1;
+    lay_streams(streams, hints, marks, times, places, heads, heap);
+    heapify(times, heap, streams);
     Opening::Opened {
-        streams: n,
-        held: n,
+        streams: streams,
+        held: streams,
     }
 }

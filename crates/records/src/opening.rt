@@ -1,4 +1,4 @@
-// The parts of an opening: are the streams right, and each of them laid at its hint. Document 01, "Merging records".
+// The parts of an opening: whether the streams are right, and each of them laid at its hint. Document 01, "Merging records".
 use crate::state::EMPTY;
 use crate::state::GONE;
 use crate::state::PLACES;
@@ -9,7 +9,6 @@ ghost use mathlib.Core.Bool.{_||_};
 ghost use Prim.Native.Nat.{_-_, _<_, _≤_};
 ghost use lib.Dec.{eqb};
 ghost use lib.ListN.{length};
-ghost use Rattle.theory.specs.Answer.{bit};
 ghost use Rattle.records_rules.specs.State.{Room, riseTo, rightStreams};
 ghost use Rattle.records_rules.specs.Opening.{markAt, numberAt, Laid};
 
@@ -18,81 +17,79 @@ const FEWEST_CUTS: usize = 2;
 
 const MOST_CUTS: usize = 257;
 
-// Do the cuts never fall? 1: they don't.
-fn rising(cuts: &[u64]) -> u64
+// Whether the cuts never fall.
+fn rising(cuts: &[u64]) -> bool
     requires { ⌜ 1 ≤ length (now cuts) ⌝ }
-    ensures { λ r. ⌜ r ≡ bit (riseTo (length (now (cuts .entry)) - 1) (now (cuts .entry))) ⌝ }
+    ensures { λ r. ⌜ r ≡ riseTo (length (now (cuts .entry)) - 1) (now (cuts .entry)) ⌝ }
 {
     let mut i = 0;
     while i + 1 < cuts.len() {
         if cuts[i + 1] < cuts[i] {
-            return 0;
+            return false;
         }
         i = i + 1;
     }
-    1
+    true
 }
 
-// Are the hints right? 1: none, or one a stream.
-fn hints_right(hints: usize, streams: usize) -> u64
-    ensures { λ r. ⌜ r ≡ bit (eqb hints 0 || eqb hints streams) ⌝ }
+// Whether the hints are right: none, or one a stream.
+fn hints_right(hints: usize, streams: usize) -> bool
+    ensures { λ r. ⌜ r ≡ (eqb hints 0 || eqb hints streams) ⌝ }
 {
     if hints == 0 {
-        return 1;
+        return true;
     }
-    if hints == streams {
-        return 1;
-    }
-    0
+    hints == streams
 }
 
-// Are the streams right? 1: at least one and at most 256, the cuts from 0 to the buffer's length without a fall, and no hint or one a stream.
-pub fn streams_right(size: u64, cuts: &[u64], hints: usize) -> u64
-    ensures { λ r. ⌜ r ≡ bit (rightStreams size (now (cuts .entry)) hints) ⌝ }
+// Whether the streams are right: at least one and at most 256, the cuts from 0 to the buffer's length without a fall, and no hint
+// or one a stream; where not, 12.
+pub fn streams_right(size: u64, cuts: &[u64], hints: usize) -> bool
+    ensures { λ r. ⌜ r ≡ rightStreams size (now (cuts .entry)) hints ⌝ }
 {
     let count = cuts.len();
     if count < FEWEST_CUTS {
-        return 0;
+        return false;
     }
     if MOST_CUTS < count {
-        return 0;
+        return false;
     }
     if cuts[0] != 0 {
-        return 0;
+        return false;
     }
     if cuts[count - 1] != size {
-        return 0;
+        return false;
     }
-    if hints_right(hints, count - 1) == 0 {
-        return 0;
+    if !hints_right(hints, count - 1) {
+        return false;
     }
     rising(cuts)
 }
 
-// The mark of a place where n streams are laid: those of the streams wait.
-fn mark_at(i: usize, n: usize) -> u8
-    ensures { λ r. ⌜ r ≡ markAt n i ⌝ }
+// The mark of a place where so many streams are laid: those of the streams wait.
+fn mark_at(i: usize, streams: usize) -> u8
+    ensures { λ r. ⌜ r ≡ markAt streams i ⌝ }
 {
-    if i < n {
+    if i < streams {
         return WAITING;
     }
     GONE
 }
 
-// The stream number in a place of the heap where n streams are laid.
-fn number_at(i: usize, n: usize) -> u8
+// The stream number in a place of the heap where so many streams are laid.
+fn number_at(i: usize, streams: usize) -> u8
     requires { ⌜ i < 256 ⌝ }
-    ensures { λ r. ⌜ r ≡ numberAt n i ⌝ }
+    ensures { λ r. ⌜ r ≡ numberAt streams i ⌝ }
 {
-    if i < n {
+    if i < streams {
         return i as u8;
     }
     0
 }
 
-// Each of n streams waits at its hint, from its first byte on; the other places are empty.
+// Each of so many streams waits at its hint, from its first byte on; the other places are empty.
 pub fn lay_streams(
-    n: usize,
+    streams: usize,
     hints: &[u64],
     marks: &mut [u8],
     times: &mut [u64],
@@ -100,16 +97,16 @@ pub fn lay_streams(
     heads: &mut [u64],
     heap: &mut [u8],
 )
-    requires { ⌜ Room n (now marks) (now times) (now places) (now heads) (now heap) ⌝ }
-    ensures { λ _. ⌜ Laid n 256 (now (hints .entry)) (now (marks .exit)) (now (times .exit)) (now (places .exit)) (now (heads .exit)) (now (heap .exit)) ⌝ }
+    requires { ⌜ Room streams (now marks) (now times) (now places) (now heads) (now heap) ⌝ }
+    ensures { λ _. ⌜ Laid streams 256 (now (hints .entry)) (now (marks .exit)) (now (times .exit)) (now (places .exit)) (now (heads .exit)) (now (heap .exit)) ⌝ }
 {
     let mut i = 0;
     while i < PLACES {
-        marks[i] = mark_at(i, n);
+        marks[i] = mark_at(i, streams);
         times[i] = entry_or_zero(hints, i);
         places[i] = EMPTY;
         heads[i] = EMPTY;
-        heap[i] = number_at(i, n);
+        heap[i] = number_at(i, streams);
         i = i + 1;
     }
 }

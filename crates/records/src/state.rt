@@ -1,8 +1,7 @@
-// What the tests and the laying of the merge's arrays share: the places, the marks, and what is right of what is lent.
+// What the tests and the laying of the merge's arrays share: the places, the marks, and the test of what is lent (15).
 ghost use mathlib.Core.Path.{_≡_};
 ghost use lib.ListN.{getD};
-ghost use Rattle.theory.specs.Answer.{bit};
-ghost use Rattle.records_rules.specs.State.{rightMemory};
+ghost use Rattle.records_rules.specs.State.{arraysFit};
 
 // The places of each array that is lent, and what an empty one holds.
 pub const PLACES: usize = 256;
@@ -16,36 +15,33 @@ pub const WAITING: u8 = 1;
 
 pub const STANDING: u8 = 2;
 
-// Is what is lent right? 1: each array has 256 places, and no more of the heap is in use.
-pub fn memory(
+// Whether the arrays fit: each has 256 places, and no more of the heap is in use; where not, 15.
+pub fn arrays_fit(
     held: usize,
     marks: usize,
     times: usize,
     places: usize,
     heads: usize,
     heap: usize,
-) -> u64
-    ensures { λ r. ⌜ r ≡ bit (rightMemory held marks times places heads heap) ⌝ }
+) -> bool
+    ensures { λ r. ⌜ r ≡ arraysFit held marks times places heads heap ⌝ }
 {
     if PLACES < held {
-        return 0;
+        return false;
     }
     if marks != PLACES {
-        return 0;
+        return false;
     }
     if times != PLACES {
-        return 0;
+        return false;
     }
     if places != PLACES {
-        return 0;
+        return false;
     }
     if heads != PLACES {
-        return 0;
+        return false;
     }
-    if heap != PLACES {
-        return 0;
-    }
-    1
+    heap == PLACES
 }
 
 // The entry p of a list, or 0 where the list is shorter.

@@ -15,8 +15,7 @@ use Rattle.records_rules.specs.Machine.{waiting, start}
 use Rattle.records_rules.specs.View.{tab, statusOf, statusesOf}
 use Rattle.records_rules.specs.Sift.{Heaped}
 use Rattle.records_rules.specs.Holds.{Holds, holds-moved}
-use Rattle.theory.specs.Answer.{bit}
-use Rattle.records_rules.specs.State.{rightMemory, rightStreams, Room, riseTo, padded, StreamsOpened}
+use Rattle.records_rules.specs.State.{arraysFit, rightStreams, Room, riseTo, padded, StreamsOpened}
 
 -- ---- each place of the 256 is laid
 
@@ -133,21 +132,13 @@ module _ {n : ℕ} {hints ms ts cs hs hp : List ℕ} (few : n ≤ 256) (given : 
 
 -- ---- the tests
 
-pub bit-no : (x : Bool) {r : ℕ} → r ≡ bit x → r ≡ 0 → x ≡ false
-bit-no true e z = absurd (omega arith)
-bit-no false e z = refl
-
-pub bit-yes : (x : Bool) {r : ℕ} → r ≡ bit x → r ≢ 0 → x ≡ true
-bit-yes true e d = refl
-bit-yes false e d = absurd (d e)
-
 both : (x y : Bool) → (x && y) ≡ true → (x ≡ true) × (y ≡ true)
 both true y e = (refl, e)
 both false y e = let z : _≡_ {A = ℕ} 0 1 = cc in absurd (omega arith)
 
-pub right-room : (held : ℕ) (ms ts cs hs hp : List ℕ) → rightMemory held (length ms) (length ts) (length cs) (length hs) (length hp) ≡ true → Room held ms ts cs hs hp
-unfolding rightMemory
-right-room held ms ts cs hs hp e =
+pub arrays-room : (held : ℕ) (ms ts cs hs hp : List ℕ) → arraysFit held (length ms) (length ts) (length cs) (length hs) (length hp) ≡ true → Room held ms ts cs hs hp
+unfolding arraysFit
+arrays-room held ms ts cs hs hp e =
     let a = both _ _ e in
     let b = both _ _ (a .1) in
     let c = both _ _ (b .1) in

@@ -24,8 +24,8 @@ answerOf end = answer 0 []
 -- ---- what is lent
 
 -- "a heap in arrays of 256 places": a length or a number in use that is not right gets 15
-unfoldable pub rightMemory : ℕ → ℕ → ℕ → ℕ → ℕ → ℕ → Bool
-rightMemory held marks times places heads heap =
+unfoldable pub arraysFit : ℕ → ℕ → ℕ → ℕ → ℕ → ℕ → Bool
+arraysFit held marks times places heads heap =
     leb held 256 && (eqb marks 256 && (eqb times 256 && (eqb places 256 && (eqb heads 256 && eqb heap 256))))
 
 -- what the inner functions need of it

@@ -1,29 +1,29 @@
 -- What the functions of `telling` promise, and how one call of the merge after another leads to the whole text. Assumes nothing.
-use mathlib.Core.Path.{_≡_, refl, ap, _∙_}
-use mathlib.Core.Logic.{_≢_}
+use mathlib.Core.Path.{_≡_, refl, sym, ap, subst, _∙_}
 use Prim.Native.Nat.{ℕ, zero, suc, _-_, _+_, _*_, _≤_, _<_}
 use native.Mathlib.Omega.{arith}
 use mathlib.Core.List.{List, [], _∷_}
 use lib.ListN.{length, replicate}
-use mathlib.Core.Bool.{Bool, true, _&&_}
+use mathlib.Core.Bool.{Bool, true, false, _&&_}
+use lib.Dec.{T}
 use borrow.Author.Tests.{le-leb, eq-eqb}
 use Rattle.theory.specs.Answer as theory
 use Rattle.records_rules.specs.Machine.{Stream, record-at, damage-at, Status, Answer, says, end, Turn, turn, next, answer, rest, start}
 use Rattle.records_rules.specs.Bytes.{streamsOf}
 use Rattle.records_rules.specs.Kept.{total}
 use Rattle.records_rules.specs.View.{tab, statusesOf}
-use Rattle.records_rules.specs.State.{answerOf, rightMemory, rightStreams, padded, opening, StateOk, StreamsOpened}
+use Rattle.records_rules.specs.State.{answerOf, arraysFit, rightStreams, padded, opening, StateOk, StreamsOpened}
 use Rattle.lines.specs.Lines.{recordLine, damageLine, endLine, Lays}
 use Rattle.replay_text.specs.Replay.{lineOf}
 use Rattle.replay_text.specs.ReplayLaws.{linesLeft, left-says, Writing, writing-start, writing-says, writing-end}
 
--- 1 where an answer is the last
-unfoldable pub lastOf : Answer → ℕ
-lastOf (says p y) = 0
-lastOf end = 1
+-- whether an answer is the last
+unfoldable pub lastOf : Answer → Bool
+lastOf (says p y) = false
+lastOf end = true
 
 -- the line of the answer x is laid, and `last` says whether it is the last
-pub record Line (text : List ℕ) (at : ℕ) (x : Answer) (r last : ℕ) (text′ : List ℕ) : Type 0 where
+pub record Line (text : List ℕ) (at : ℕ) (x : Answer) (r : ℕ) (last : Bool) (text′ : List ℕ) : Type 0 where
   pub lays : Lays text at (lineOf x) r text′
   pub short : r ≤ at + 63
   pub ends : last ≡ lastOf x
@@ -33,7 +33,7 @@ pub record Line (text : List ℕ) (at : ℕ) (x : Answer) (r last : ℕ) (text�
 module _ (text : List ℕ) (at r : ℕ) (text′ : List ℕ) (short : r ≤ at + 63) where
   pub line-record : (x : Answer) (stream place size kind instrument time : ℕ)
       → theory.answer 0 (stream ∷ place ∷ size ∷ kind ∷ instrument ∷ time ∷ []) ≡ answerOf x
-      → Lays text at (recordLine stream time instrument) r text′ → Line text at x r 0 text′
+      → Lays text at (recordLine stream time instrument) r text′ → Line text at x r false text′
   unfolding lineOf lastOf
   line-record (says p (record-at a c)) stream place size kind instrument time e l =
       let e₁ : stream ≡ p = cc in
@@ -43,14 +43,14 @@ module _ (text : List ℕ) (at r : ℕ) (text′ : List ℕ) (short : r ≤ at +
   line-record (says p (damage-at a k)) stream place size kind instrument time e l = let z : _≡_ {A = ℕ} 0 13 = cc in absurd (omega arith)
   line-record end stream place size kind instrument time e l = let z : _≡_ {A = ℕ} 0 1 = cc in absurd (omega arith)
 
-  pub line-end : (x : Answer) → theory.answer 0 [] ≡ answerOf x → Lays text at endLine r text′ → Line text at x r 1 text′
+  pub line-end : (x : Answer) → theory.answer 0 [] ≡ answerOf x → Lays text at endLine r text′ → Line text at x r true text′
   unfolding lineOf lastOf
   line-end (says p (record-at a c)) e l = let z : _≡_ {A = ℕ} 0 1 = cc in absurd (omega arith)
   line-end (says p (damage-at a k)) e l = let z : _≡_ {A = ℕ} 0 13 = cc in absurd (omega arith)
   line-end end e l = record { lays = l; short = short; ends = refl }
 
   pub line-damage : (x : Answer) (stream place reason : ℕ) → theory.answer 13 (stream ∷ place ∷ reason ∷ []) ≡ answerOf x
-      → Lays text at (damageLine stream place) r text′ → Line text at x r 0 text′
+      → Lays text at (damageLine stream place) r text′ → Line text at x r false text′
   unfolding lineOf lastOf
   line-damage (says p (record-at a c)) stream place reason e l = let z : _≡_ {A = ℕ} 0 13 = cc in absurd (omega arith)
   line-damage (says p (damage-at a k)) stream place reason e l =
@@ -70,8 +70,8 @@ pub record Places (held : ℕ) (ms ts cs hs hp : List ℕ) : Type 0 where
   pub heads : length hs ≡ 256
   pub heap : length hp ≡ 256
 
-pub places-right : {held : ℕ} {ms ts cs hs hp : List ℕ} → Places held ms ts cs hs hp → rightMemory held (length ms) (length ts) (length cs) (length hs) (length hp) ≡ true
-unfolding rightMemory
+pub places-right : {held : ℕ} {ms ts cs hs hp : List ℕ} → Places held ms ts cs hs hp → arraysFit held (length ms) (length ts) (length cs) (length hs) (length hp) ≡ true
+unfolding arraysFit
 places-right {held} {ms} {ts} {cs} {hs} {hp} p =
     rw (
       le-leb held 256 (p .few),
@@ -83,7 +83,7 @@ places-right {held} {ms} {ts} {cs} {hs} {hp} p =
     )
 
 -- a call's line is laid, and what it leaves is the machine's
-pub record Told (b : ℕ → Stream) (n : ℕ) (ms ts cs hs text : List ℕ) (at r last held : ℕ) (ms' ts' cs' hs' hp' text' : List ℕ) : Type 0 where
+pub record Told (b : ℕ → Stream) (n : ℕ) (ms ts cs hs text : List ℕ) (at r : ℕ) (last : Bool) (held : ℕ) (ms' ts' cs' hs' hp' text' : List ℕ) : Type 0 where
   pub line : Line text at (answer (next b (statusesOf n ms ts cs hs))) r last text'
   pub leaves : statusesOf n ms' ts' cs' hs' ≡ rest (next b (statusesOf n ms ts cs hs))
   pub sound : StateOk n held ms' ts' cs' hs' hp'
@@ -98,23 +98,23 @@ pub record Ready (b : ℕ → Stream) (n held : ℕ) (ms ts cs hs hp text : List
 -- ---- call after call
 
 module _ {b : ℕ → Stream} {whole text₀ : List ℕ} {ss : List Status} {text : List ℕ} {at : ℕ} (w : Writing b whole text₀ ss text at)
-    {r last : ℕ} {text' : List ℕ} (l : Line text at (answer (next b ss)) r last text') where
+    {r : ℕ} {last : Bool} {text' : List ℕ} (l : Line text at (answer (next b ss)) r last text') where
   -- not the last: less is to come
-  pub writing-more : last ≢ 1 → length text' ≡ length text → Writing b whole text₀ (rest (next b ss)) text' r × (total b (rest (next b ss)) < total b ss)
+  pub writing-more : last ≡ false → length text' ≡ length text → Writing b whole text₀ (rest (next b ss)) text' r × (total b (rest (next b ss)) < total b ss)
   unfolding answer rest lastOf
   writing-more d k = go (next b ss) refl l
     where
       go : (t : Turn) → next b ss ≡ t → Line text at (answer t) r last text' → Writing b whole text₀ (rest t) text' r × (total b (rest t) < total b ss)
       go (turn (says p y) ss') e m = (writing-says w e (m .lays) (m .short) k, omega (arith, left-says b ss ss' p y e .1))
-      go (turn end ss') e m = absurd (d (m .ends))
+      go (turn end ss') e m = absurd (subst T (sym (m .ends) ∙ d) tt)
 
   -- the last: the whole is written
-  pub writing-last : last ≡ 1 → Lays text₀ 0 whole r text'
+  pub writing-last : last ≡ true → Lays text₀ 0 whole r text'
   unfolding answer rest lastOf lineOf
   writing-last d = go (next b ss) refl l
     where
       go : (t : Turn) → next b ss ≡ t → Line text at (answer t) r last text' → Lays text₀ 0 whole r text'
-      go (turn (says p y) ss') e m = absurd (omega (arith, m .ends))
+      go (turn (says p y) ss') e m = absurd (subst T (sym d ∙ m .ends) tt)
       go (turn end ss') e m = writing-end w e (m .lays)
 
 -- the loop: the state is sound, and so much is written
@@ -129,9 +129,9 @@ stepping-start {b} {n} {held} {ms} {ts} {cs} {hs} {hp} {text} r =
     record { places = r .places; sound = r .sound; writing = writing-start b text (statusesOf n ms ts cs hs) (r .room) }
 
 module _ {b : ℕ → Stream} {n : ℕ} {whole text₀ : List ℕ} {size : ℕ} {ms ts cs hs hp text : List ℕ} {at : ℕ}
-    (s : Stepping b n whole text₀ size ms ts cs hs hp text at) {r last held : ℕ} {ms' ts' cs' hs' hp' text' : List ℕ}
+    (s : Stepping b n whole text₀ size ms ts cs hs hp text at) {r : ℕ} {last : Bool} {held : ℕ} {ms' ts' cs' hs' hp' text' : List ℕ}
     (t : Told b n ms ts cs hs text at r last held ms' ts' cs' hs' hp' text') where
-  pub stepping-more : last ≢ 1 → length text' ≡ length text → Places held ms' ts' cs' hs' hp'
+  pub stepping-more : last ≡ false → length text' ≡ length text → Places held ms' ts' cs' hs' hp'
       → Stepping b n whole text₀ held ms' ts' cs' hs' hp' text' r × (total b (statusesOf n ms' ts' cs' hs') < total b (statusesOf n ms ts cs hs))
   stepping-more d k p =
       let w = writing-more (s .writing) (t .line) d k in (
@@ -139,7 +139,7 @@ module _ {b : ℕ → Stream} {n : ℕ} {whole text₀ : List ℕ} {size : ℕ} 
         rw (t .leaves) (w .1),
       )
 
-  pub stepping-last : last ≡ 1 → Lays text₀ 0 whole r text'
+  pub stepping-last : last ≡ true → Lays text₀ 0 whole r text'
   stepping-last d = writing-last (s .writing) (t .line) d
 
 -- ---- an opening
@@ -164,7 +164,7 @@ no-hints (suc n) = ap (λ (r : List ℕ). 0 ∷ r) (no-hints n)
 
 module _ {buffer cuts ms₀ ts₀ cs₀ hs₀ hp₀ text : List ℕ} (m : Mergeable buffer cuts ms₀ ts₀ cs₀ hs₀ hp₀ text) where
   abbrev memory : Bool
-  memory = rightMemory 0 (length ms₀) (length ts₀) (length cs₀) (length hs₀) (length hp₀)
+  memory = arraysFit 0 (length ms₀) (length ts₀) (length cs₀) (length hs₀) (length hp₀)
 
   abbrev streams : Bool
   streams = rightStreams (length buffer) cuts 0

@@ -22,16 +22,17 @@ ghost use Rattle.lines.specs.Lines.{Lays};
 ghost use Rattle.replay_text.specs.ReplayLaws.{linesLeft};
 ghost use Rattle.replay_text.specs.Telling.{Line, Places, Told, Ready, Cut, Mergeable};
 
-// A line that was written: the place behind it, and 1 where it is the last.
+// A line that was written: the place behind it, and whether it is the last.
 struct Wrote {
     at: usize,
-    last: u64,
+    last: bool,
 }
 
-// What a call of the merge answered is written: the place behind its line, 1 where it is the last, and the streams that the heap holds.
+// What a call of the merge answered is written: the place behind its line, whether it is the last, and the streams that the heap
+// holds.
 struct Stepped {
     at: usize,
-    last: u64,
+    last: bool,
     held: usize,
 }
 
@@ -50,11 +51,11 @@ fn line(answer: Turn, text: &mut [u8], at: usize) -> Wrote
             time,
         } => Wrote {
             at: record_line(text, at, stream, time, instrument),
-            last: 0,
+            last: false,
         },
         Turn::End => Wrote {
             at: word(text, at, b"end\n"),
-            last: 1,
+            last: true,
         },
         Turn::Refused(refusal) => match refusal {
             Refusal::Damaged {
@@ -63,9 +64,9 @@ fn line(answer: Turn, text: &mut [u8], at: usize) -> Wrote
                 reason: _,
             } => Wrote {
                 at: damage_line(text, at, stream, place),
-                last: 0,
+                last: false,
             },
-            _ => Wrote { at, last: 1 },
+            _ => Wrote { at, last: true },
         },
     }
 }
@@ -131,7 +132,7 @@ fn steps(
         );
         at = written.at;
         size = written.held;
-        if written.last == 1 {
+        if written.last {
             return at;
         }
     }

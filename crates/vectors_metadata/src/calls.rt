@@ -88,107 +88,107 @@ fn finished_says(finished: FinishedMetadata, before: Header) -> Said {
 
 // Opens the lent part of a side.
 fn opens(
-    a: Side,
+    side: Side,
     symbols: &mut [u32],
     partial: &mut [u32],
     not_found: &mut [u32],
     mappings: &mut [u32],
     intervals: &mut [u32],
 ) -> Said
-    requires { ⌜ Within a (length (now symbols)) (length (now partial)) (length (now «not_found»)) (length (now mappings)) (length (now intervals)) ⌝ }
+    requires { ⌜ Within side (length (now symbols)) (length (now partial)) (length (now «not_found»)) (length (now mappings)) (length (now intervals)) ⌝ }
 {
-    let h = a.header;
-    let i = a.symbols;
-    let j = a.partial;
-    let k = a.not_found;
-    let m = a.mappings;
-    let v = a.intervals;
+    let header = side.header;
+    let i = side.symbols;
+    let j = side.partial;
+    let k = side.not_found;
+    let m = side.mappings;
+    let v = side.intervals;
     let opened = metadata_merge::merger::open(
-        h,
+        header,
         &mut symbols[..i],
         &mut partial[..j],
         &mut not_found[..k],
         &mut mappings[..m],
         &mut intervals[..v],
     );
-    opened_says(opened, h)
+    opened_says(opened, header)
 }
 
 // Finishes the lent part of a side.
 fn finishes(
-    a: Side,
+    side: Side,
     symbols: &[u32],
     partial: &[u32],
     not_found: &[u32],
     mappings: &[u32],
     intervals: &[u32],
 ) -> Said
-    requires { ⌜ Within a (length (now symbols)) (length (now partial)) (length (now «not_found»)) (length (now mappings)) (length (now intervals)) ⌝ }
+    requires { ⌜ Within side (length (now symbols)) (length (now partial)) (length (now «not_found»)) (length (now mappings)) (length (now intervals)) ⌝ }
 {
-    let h = a.header;
-    let i = a.symbols;
-    let j = a.partial;
-    let k = a.not_found;
-    let m = a.mappings;
-    let v = a.intervals;
+    let header = side.header;
+    let i = side.symbols;
+    let j = side.partial;
+    let k = side.not_found;
+    let m = side.mappings;
+    let v = side.intervals;
     let finished = metadata_merge::merger::finish(
-        h,
+        header,
         &symbols[..i],
         &partial[..j],
         &not_found[..k],
         &mappings[..m],
         &intervals[..v],
     );
-    finished_says(finished, h)
+    finished_says(finished, header)
 }
 
-// Merges the lent part of the side b into that of the side a.
+// Merges the lent part of the added side into that of the side.
 fn merges(
     names: u64,
-    a: Side,
+    side: Side,
     symbols: &mut [u32],
     partial: &mut [u32],
     not_found: &mut [u32],
     mappings: &mut [u32],
     intervals: &mut [u32],
-    b: Side,
+    added: Side,
     added_symbols: &[u32],
     added_partial: &[u32],
     added_not_found: &[u32],
     added_mappings: &[u32],
     added_intervals: &[u32],
 ) -> Said
-    requires { ⌜ Within a (length (now symbols)) (length (now partial)) (length (now «not_found»)) (length (now mappings)) (length (now intervals)) ⌝ }
-    requires { ⌜ Within b (length (now «added_symbols»)) (length (now «added_partial»)) (length (now «added_not_found»)) (length (now «added_mappings»)) (length (now «added_intervals»)) ⌝ }
+    requires { ⌜ Within side (length (now symbols)) (length (now partial)) (length (now «not_found»)) (length (now mappings)) (length (now intervals)) ⌝ }
+    requires { ⌜ Within added (length (now «added_symbols»)) (length (now «added_partial»)) (length (now «added_not_found»)) (length (now «added_mappings»)) (length (now «added_intervals»)) ⌝ }
 {
-    let h = a.header;
-    let g = b.header;
-    let i = a.symbols;
-    let j = a.partial;
-    let k = a.not_found;
-    let m = a.mappings;
-    let v = a.intervals;
-    let bi = b.symbols;
-    let bj = b.partial;
-    let bk = b.not_found;
-    let bm = b.mappings;
-    let bv = b.intervals;
+    let header = side.header;
+    let added_header = added.header;
+    let i = side.symbols;
+    let j = side.partial;
+    let k = side.not_found;
+    let m = side.mappings;
+    let v = side.intervals;
+    let bi = added.symbols;
+    let bj = added.partial;
+    let bk = added.not_found;
+    let bm = added.mappings;
+    let bv = added.intervals;
     let merged = metadata_merge::merger::merge(
         names as usize,
-        h,
+        header,
         &mut symbols[..i],
         &mut partial[..j],
         &mut not_found[..k],
         &mut mappings[..m],
         &mut intervals[..v],
-        g,
+        added_header,
         &added_symbols[..bi],
         &added_partial[..bj],
         &added_not_found[..bk],
         &added_mappings[..bm],
         &added_intervals[..bv],
     );
-    merged_says(merged, h)
+    merged_says(merged, header)
 }
 
 // Whether a call says what stands at a place, and leaves the side behind its 0, or, refused, the side that it was handed.
@@ -216,11 +216,11 @@ fn is_expected(
     } else {
         handed
     };
-    let h = said.header;
+    let header = said.header;
     is_side(
         text,
         place,
-        h,
+        header,
         symbols,
         partial,
         not_found,
@@ -231,60 +231,119 @@ fn is_expected(
 
 // A line `SIDE = NUMBER`, behind 0 the side as it then is.
 pub fn open(text: &[u8], at: usize) -> bool {
-    let mut s = entries();
-    let mut p = entries();
-    let mut n = entries();
-    let mut m = mapping_words();
-    let mut v = interval_words();
-    let a = side_at(text, at, &mut s, &mut p, &mut n, &mut m, &mut v);
-    let said = opens(a, &mut s, &mut p, &mut n, &mut m, &mut v);
-    let behind = vectors_text::past_equals(text, a.next);
-    is_expected(text, behind, at, said, &s, &p, &n, &m, &v)
+    let mut symbols = entries();
+    let mut partial = entries();
+    let mut not_found = entries();
+    let mut mappings = mapping_words();
+    let mut intervals = interval_words();
+    let side = side_at(
+        text,
+        at,
+        &mut symbols,
+        &mut partial,
+        &mut not_found,
+        &mut mappings,
+        &mut intervals,
+    );
+    let said = opens(
+        side,
+        &mut symbols,
+        &mut partial,
+        &mut not_found,
+        &mut mappings,
+        &mut intervals,
+    );
+    let behind = vectors_text::past_equals(text, side.next);
+    is_expected(
+        text,
+        behind,
+        at,
+        said,
+        &symbols,
+        &partial,
+        &not_found,
+        &mappings,
+        &intervals,
+    )
 }
 
 // The same for finishing.
 pub fn finish(text: &[u8], at: usize) -> bool {
-    let mut s = entries();
-    let mut p = entries();
-    let mut n = entries();
-    let mut m = mapping_words();
-    let mut v = interval_words();
-    let a = side_at(text, at, &mut s, &mut p, &mut n, &mut m, &mut v);
-    let said = finishes(a, &s, &p, &n, &m, &v);
-    let behind = vectors_text::past_equals(text, a.next);
-    is_expected(text, behind, at, said, &s, &p, &n, &m, &v)
+    let mut symbols = entries();
+    let mut partial = entries();
+    let mut not_found = entries();
+    let mut mappings = mapping_words();
+    let mut intervals = interval_words();
+    let side = side_at(
+        text,
+        at,
+        &mut symbols,
+        &mut partial,
+        &mut not_found,
+        &mut mappings,
+        &mut intervals,
+    );
+    let said = finishes(side, &symbols, &partial, &not_found, &mappings, &intervals);
+    let behind = vectors_text::past_equals(text, side.next);
+    is_expected(
+        text,
+        behind,
+        at,
+        said,
+        &symbols,
+        &partial,
+        &not_found,
+        &mappings,
+        &intervals,
+    )
 }
 
 // A line `NAMES SIDE SIDE = NUMBER`, behind 0 the first side as it then is, behind 6 the field.
 pub fn merge(text: &[u8], at: usize) -> bool {
-    let mut i = entries();
-    let mut j = entries();
-    let mut k = entries();
-    let mut w = mapping_words();
-    let mut x = interval_words();
-    let mut s = entries();
-    let mut p = entries();
-    let mut n = entries();
-    let mut m = mapping_words();
-    let mut v = interval_words();
+    let mut symbols = entries();
+    let mut partial = entries();
+    let mut not_found = entries();
+    let mut mappings = mapping_words();
+    let mut intervals = interval_words();
+    let mut added_symbols = entries();
+    let mut added_partial = entries();
+    let mut added_not_found = entries();
+    let mut added_mappings = mapping_words();
+    let mut added_intervals = interval_words();
     let names = vectors_text::number_at(text, at);
-    let a = side_at(text, names.next, &mut i, &mut j, &mut k, &mut w, &mut x);
-    let b = side_at(text, a.next, &mut s, &mut p, &mut n, &mut m, &mut v);
+    let side = side_at(
+        text,
+        names.next,
+        &mut symbols,
+        &mut partial,
+        &mut not_found,
+        &mut mappings,
+        &mut intervals,
+    );
+    let added = side_at(
+        text,
+        side.next,
+        &mut added_symbols,
+        &mut added_partial,
+        &mut added_not_found,
+        &mut added_mappings,
+        &mut added_intervals,
+    );
     merge_sides(
         text,
         names,
-        a,
-        &mut i,
-        &mut j,
-        &mut k,
-        &mut w,
-        &mut x,
-        b,
-        &s,
-        &p,
-        &n,
-        &m,
-        &v,
+        side,
+        &mut symbols,
+        &mut partial,
+        &mut not_found,
+        &mut mappings,
+        &mut intervals,
+        added,
+        &added_symbols,
+        &added_partial,
+        &added_not_found,
+        &added_mappings,
+        &added_intervals,
     )
 }
 
@@ -292,49 +351,49 @@ pub fn merge(text: &[u8], at: usize) -> bool {
 fn merge_sides(
     text: &[u8],
     names: Token,
-    a: Side,
+    side: Side,
     symbols: &mut [u32],
     partial: &mut [u32],
     not_found: &mut [u32],
     mappings: &mut [u32],
     intervals: &mut [u32],
-    b: Side,
+    added: Side,
     added_symbols: &[u32],
     added_partial: &[u32],
     added_not_found: &[u32],
     added_mappings: &[u32],
     added_intervals: &[u32],
 ) -> bool
-    requires { ⌜ Within a (length (now symbols)) (length (now partial)) (length (now «not_found»)) (length (now mappings)) (length (now intervals)) ⌝ }
-    requires { ⌜ Within b (length (now «added_symbols»)) (length (now «added_partial»)) (length (now «added_not_found»)) (length (now «added_mappings»)) (length (now «added_intervals»)) ⌝ }
+    requires { ⌜ Within side (length (now symbols)) (length (now partial)) (length (now «not_found»)) (length (now mappings)) (length (now intervals)) ⌝ }
+    requires { ⌜ Within added (length (now «added_symbols»)) (length (now «added_partial»)) (length (now «added_not_found»)) (length (now «added_mappings»)) (length (now «added_intervals»)) ⌝ }
 {
     let said = merges(
         names.value,
-        a,
+        side,
         symbols,
         partial,
         not_found,
         mappings,
         intervals,
-        b,
+        added,
         added_symbols,
         added_partial,
         added_not_found,
         added_mappings,
         added_intervals,
     );
-    let g = b.header;
+    let added_header = added.header;
     let kept = is_side(
         text,
-        a.next,
-        g,
+        side.next,
+        added_header,
         added_symbols,
         added_partial,
         added_not_found,
         added_mappings,
         added_intervals,
     );
-    let behind = vectors_text::past_equals(text, b.next);
+    let behind = vectors_text::past_equals(text, added.next);
     let expected = is_expected(
         text,
         behind,

@@ -19,10 +19,10 @@ struct Numbers {
     next: usize,
 }
 
-// A call: how many streams the heap holds after it, and 1 where it answered the end.
+// A call: how many streams the heap holds after it, and whether it answered the end.
 struct Called {
     held: usize,
-    ended: u64,
+    ended: bool,
 }
 
 // Room for a buffer.
@@ -95,8 +95,8 @@ fn print_refusal(refusal: Refusal) {
     io::write_all(1, b"\n");
 }
 
-// Prints an answer; 1 where it is the end.
-fn print_turn(answer: Turn) -> u64 {
+// Prints an answer, and answers whether it is the end.
+fn print_turn(answer: Turn) -> bool {
     match answer {
         Turn::Record {
             stream,
@@ -114,15 +114,15 @@ fn print_turn(answer: Turn) -> u64 {
                 instrument as u64,
                 time,
             );
-            0
+            false
         }
         Turn::End => {
             io::write_all(1, b"end\n");
-            1
+            true
         }
         Turn::Refused(refusal) => {
             print_refusal(refusal);
-            0
+            false
         }
     }
 }
@@ -163,7 +163,7 @@ fn to_end(
     while calls < MOST_CALLS {
         let called = call(buffer, cuts, size, marks, times, places, heads, heap);
         size = called.held;
-        if called.ended == 1 {
+        if called.ended {
             return size;
         }
         calls += 1;

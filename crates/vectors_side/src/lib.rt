@@ -202,39 +202,39 @@ fn from_bool(b: bool) -> u64 {
 }
 
 // Whether the header at a place of the text is this one.
-fn same_header(text: &[u8], at: usize, h: Header) -> Compared {
-    let mut c = Compared {
+fn same_header(text: &[u8], at: usize, header: Header) -> Compared {
+    let mut so_far = Compared {
         same: true,
         next: at,
     };
-    c = number_too(text, c, from_8(h.version));
-    c = number_too(text, c, from_32(h.dataset));
-    c = number_too(text, c, from_16(h.schema));
-    c = number_too(text, c, h.start);
-    c = number_too(text, c, h.end);
-    c = number_too(text, c, h.limit);
-    c = number_too(text, c, from_8(h.stype_in));
-    c = number_too(text, c, from_8(h.stype_out));
-    c = number_too(text, c, from_bool(h.ts_out));
-    c = number_too(text, c, h.symbol_cstr_len);
-    c = number_too(text, c, h.symbols as u64);
-    c = number_too(text, c, h.partial as u64);
-    c = number_too(text, c, h.not_found as u64);
-    number_too(text, c, h.mappings as u64)
+    so_far = number_too(text, so_far, from_8(header.version));
+    so_far = number_too(text, so_far, from_32(header.dataset));
+    so_far = number_too(text, so_far, from_16(header.schema));
+    so_far = number_too(text, so_far, header.start);
+    so_far = number_too(text, so_far, header.end);
+    so_far = number_too(text, so_far, header.limit);
+    so_far = number_too(text, so_far, from_8(header.stype_in));
+    so_far = number_too(text, so_far, from_8(header.stype_out));
+    so_far = number_too(text, so_far, from_bool(header.ts_out));
+    so_far = number_too(text, so_far, header.symbol_cstr_len);
+    so_far = number_too(text, so_far, header.symbols as u64);
+    so_far = number_too(text, so_far, header.partial as u64);
+    so_far = number_too(text, so_far, header.not_found as u64);
+    number_too(text, so_far, header.mappings as u64)
 }
 
 // Whether the side at a place of the text is this header with these lists, every place of them.
 pub fn is_side(
     text: &[u8],
     at: usize,
-    h: Header,
+    header: Header,
     symbols: &[u32],
     partial: &[u32],
     not_found: &[u32],
     mappings: &[u32],
     intervals: &[u32],
 ) -> bool {
-    let head = same_header(text, at, h);
+    let head = same_header(text, at, header);
     let a = list_too(text, head, symbols);
     let b = list_too(text, a, partial);
     let c = list_too(text, b, not_found);

@@ -10,8 +10,8 @@ points-fit-requires c κs = search needs
 returns : tie.Need-returns
 returns c = search (needs, fits-table)
 
-sized-requires : tie.Need-sized-requires
-sized-requires c κs = search needs
+metadata-fits-requires : tie.Need-metadata-fits-requires
+metadata-fits-requires c κs = search needs
 
 returns-2 : tie.Need-returns-2
 returns-2 c = search (needs, fits-metadata)
@@ -25,4 +25,4 @@ returns-3 c = search (needs, fits-list)
 pub memory-fits-spec : {M : Type 1} → statement M
 memory-fits-spec =
     tie.close
-    (tie.spec points-fit-requires returns sized-requires returns-2 is-memory-requires returns-3)
+    (tie.spec points-fit-requires returns metadata-fits-requires returns-2 is-memory-requires returns-3)

@@ -8,34 +8,34 @@ use Rattle.metadata_form.proofs.header.differs.Tie as tie
 
 returns : tie.Need-returns
 unfolding differsAt
-returns c = rw (ne-eqb (c .before .before .before .args .h .version) (c .before .before .before .args .g .version) (c .if1 .taken)) refl
+returns c = rw (ne-eqb (c .before .before .before .args .header .version) (c .before .before .before .args .added .version) (c .if1 .taken)) refl
 
 returns-2 : tie.Need-returns-2
 unfolding differsAt
-returns-2 c = rw (eq-eqb (c .before .before .before .before .before .before .args .h .version) (c .before .before .before .before .before .before .args .g .version) (c .before .before .before .if1 .left), ne-eqb (c .before .before .before .before .before .before .args .h .dataset) (c .before .before .before .before .before .before .args .g .dataset) (c .if2 .taken)) refl
+returns-2 c = rw (eq-eqb (c .before .before .before .before .before .before .args .header .version) (c .before .before .before .before .before .before .args .added .version) (c .before .before .before .if1 .left), ne-eqb (c .before .before .before .before .before .before .args .header .dataset) (c .before .before .before .before .before .before .args .added .dataset) (c .if2 .taken)) refl
 
 returns-3 : tie.Need-returns-3
 unfolding differsAt
-returns-3 c = rw (eq-eqb (c .before .before .before .before .before .before .before .before .before .args .h .version) (c .before .before .before .before .before .before .before .before .before .args .g .version) (c .before .before .before .before .before .before .if1 .left), eq-eqb (c .before .before .before .before .before .before .before .before .before .args .h .dataset) (c .before .before .before .before .before .before .before .before .before .args .g .dataset) (c .before .before .before .if2 .left), ne-eqb (c .before .before .before .before .before .before .before .before .before .args .h .«stype_in») (c .before .before .before .before .before .before .before .before .before .args .g .«stype_in») (c .if3 .taken)) refl
+returns-3 c = rw (eq-eqb (c .before .before .before .before .before .before .before .before .before .args .header .version) (c .before .before .before .before .before .before .before .before .before .args .added .version) (c .before .before .before .before .before .before .if1 .left), eq-eqb (c .before .before .before .before .before .before .before .before .before .args .header .dataset) (c .before .before .before .before .before .before .before .before .before .args .added .dataset) (c .before .before .before .if2 .left), ne-eqb (c .before .before .before .before .before .before .before .before .before .args .header .«stype_in») (c .before .before .before .before .before .before .before .before .before .args .added .«stype_in») (c .if3 .taken)) refl
 
 returns-4 : tie.Need-returns-4
 unfolding differsAt
-returns-4 c = rw (eq-eqb (c .before .before .before .before .before .before .before .before .before .before .before .before .args .h .version) (c .before .before .before .before .before .before .before .before .before .before .before .before .args .g .version) (c .before .before .before .before .before .before .before .before .before .if1 .left), eq-eqb (c .before .before .before .before .before .before .before .before .before .before .before .before .args .h .dataset) (c .before .before .before .before .before .before .before .before .before .before .before .before .args .g .dataset) (c .before .before .before .before .before .before .if2 .left), eq-eqb (c .before .before .before .before .before .before .before .before .before .before .before .before .args .h .«stype_in») (c .before .before .before .before .before .before .before .before .before .before .before .before .args .g .«stype_in») (c .before .before .before .if3 .left), ne-eqb (c .before .before .before .before .before .before .before .before .before .before .before .before .args .h .«stype_out») (c .before .before .before .before .before .before .before .before .before .before .before .before .args .g .«stype_out») (c .if4 .taken)) refl
+returns-4 c = rw (eq-eqb (c .before .before .before .before .before .before .before .before .before .before .before .before .args .header .version) (c .before .before .before .before .before .before .before .before .before .before .before .before .args .added .version) (c .before .before .before .before .before .before .before .before .before .if1 .left), eq-eqb (c .before .before .before .before .before .before .before .before .before .before .before .before .args .header .dataset) (c .before .before .before .before .before .before .before .before .before .before .before .before .args .added .dataset) (c .before .before .before .before .before .before .if2 .left), eq-eqb (c .before .before .before .before .before .before .before .before .before .before .before .before .args .header .«stype_in») (c .before .before .before .before .before .before .before .before .before .before .before .before .args .added .«stype_in») (c .before .before .before .if3 .left), ne-eqb (c .before .before .before .before .before .before .before .before .before .before .before .before .args .header .«stype_out») (c .before .before .before .before .before .before .before .before .before .before .before .before .args .added .«stype_out») (c .if4 .taken)) refl
 
 same-requires : tie.Need-same-requires
 same-requires c κs = search needs
 
 returns-5 : tie.Need-returns-5
 unfolding differsAt
-returns-5 c = rw (eq-eqb (c .before .before .before .before .before .before .before .before .before .before .before .before .before .before .args .h .version) (c .before .before .before .before .before .before .before .before .before .before .before .before .before .before .args .g .version) (c .before .before .before .before .before .before .before .before .before .before .before .if1 .left), eq-eqb (c .before .before .before .before .before .before .before .before .before .before .before .before .before .before .args .h .dataset) (c .before .before .before .before .before .before .before .before .before .before .before .before .before .before .args .g .dataset) (c .before .before .before .before .before .before .before .before .if2 .left), eq-eqb (c .before .before .before .before .before .before .before .before .before .before .before .before .before .before .args .h .«stype_in») (c .before .before .before .before .before .before .before .before .before .before .before .before .before .before .args .g .«stype_in») (c .before .before .before .before .before .if3 .left), eq-eqb (c .before .before .before .before .before .before .before .before .before .before .before .before .before .before .args .h .«stype_out») (c .before .before .before .before .before .before .before .before .before .before .before .before .before .before .args .g .«stype_out») (c .before .before .if4 .left), sym (c .before .same .ensures) ∙ not-true _ (c .if5 .taken)) refl
+returns-5 c = rw (eq-eqb (c .before .before .before .before .before .before .before .before .before .before .before .before .before .before .args .header .version) (c .before .before .before .before .before .before .before .before .before .before .before .before .before .before .args .added .version) (c .before .before .before .before .before .before .before .before .before .before .before .if1 .left), eq-eqb (c .before .before .before .before .before .before .before .before .before .before .before .before .before .before .args .header .dataset) (c .before .before .before .before .before .before .before .before .before .before .before .before .before .before .args .added .dataset) (c .before .before .before .before .before .before .before .before .if2 .left), eq-eqb (c .before .before .before .before .before .before .before .before .before .before .before .before .before .before .args .header .«stype_in») (c .before .before .before .before .before .before .before .before .before .before .before .before .before .before .args .added .«stype_in») (c .before .before .before .before .before .if3 .left), eq-eqb (c .before .before .before .before .before .before .before .before .before .before .before .before .before .before .args .header .«stype_out») (c .before .before .before .before .before .before .before .before .before .before .before .before .before .before .args .added .«stype_out») (c .before .before .if4 .left), sym (c .before .same .ensures) ∙ not-true _ (c .if5 .taken)) refl
 
 returns-6 : tie.Need-returns-6
 unfolding differsAt
-returns-6 c = rw (eq-eqb (c .before .before .before .before .before .before .before .before .before .before .before .before .before .before .before .before .before .args .h .version) (c .before .before .before .before .before .before .before .before .before .before .before .before .before .before .before .before .before .args .g .version) (c .before .before .before .before .before .before .before .before .before .before .before .before .before .before .if1 .left), eq-eqb (c .before .before .before .before .before .before .before .before .before .before .before .before .before .before .before .before .before .args .h .dataset) (c .before .before .before .before .before .before .before .before .before .before .before .before .before .before .before .before .before .args .g .dataset) (c .before .before .before .before .before .before .before .before .before .before .before .if2 .left), eq-eqb (c .before .before .before .before .before .before .before .before .before .before .before .before .before .before .before .before .before .args .h .«stype_in») (c .before .before .before .before .before .before .before .before .before .before .before .before .before .before .before .before .before .args .g .«stype_in») (c .before .before .before .before .before .before .before .before .if3 .left), eq-eqb (c .before .before .before .before .before .before .before .before .before .before .before .before .before .before .before .before .before .args .h .«stype_out») (c .before .before .before .before .before .before .before .before .before .before .before .before .before .before .before .before .before .args .g .«stype_out») (c .before .before .before .before .before .if4 .left), sym (c .before .before .before .before .same .ensures) ∙ not-false _ (c .before .before .before .if5 .left), ne-eqb (c .before .before .before .before .before .before .before .before .before .before .before .before .before .before .before .before .before .args .h .«symbol_cstr_len») (c .before .before .before .before .before .before .before .before .before .before .before .before .before .before .before .before .before .args .g .«symbol_cstr_len») (c .if6 .taken)) refl
+returns-6 c = rw (eq-eqb (c .before .before .before .before .before .before .before .before .before .before .before .before .before .before .before .before .before .args .header .version) (c .before .before .before .before .before .before .before .before .before .before .before .before .before .before .before .before .before .args .added .version) (c .before .before .before .before .before .before .before .before .before .before .before .before .before .before .if1 .left), eq-eqb (c .before .before .before .before .before .before .before .before .before .before .before .before .before .before .before .before .before .args .header .dataset) (c .before .before .before .before .before .before .before .before .before .before .before .before .before .before .before .before .before .args .added .dataset) (c .before .before .before .before .before .before .before .before .before .before .before .if2 .left), eq-eqb (c .before .before .before .before .before .before .before .before .before .before .before .before .before .before .before .before .before .args .header .«stype_in») (c .before .before .before .before .before .before .before .before .before .before .before .before .before .before .before .before .before .args .added .«stype_in») (c .before .before .before .before .before .before .before .before .if3 .left), eq-eqb (c .before .before .before .before .before .before .before .before .before .before .before .before .before .before .before .before .before .args .header .«stype_out») (c .before .before .before .before .before .before .before .before .before .before .before .before .before .before .before .before .before .args .added .«stype_out») (c .before .before .before .before .before .if4 .left), sym (c .before .before .before .before .same .ensures) ∙ not-false _ (c .before .before .before .if5 .left), ne-eqb (c .before .before .before .before .before .before .before .before .before .before .before .before .before .before .before .before .before .args .header .«symbol_cstr_len») (c .before .before .before .before .before .before .before .before .before .before .before .before .before .before .before .before .before .args .added .«symbol_cstr_len») (c .if6 .taken)) refl
 
 returns-7 : tie.Need-returns-7
 unfolding differsAt
-returns-7 c = rw (eq-eqb (c .before .before .before .before .before .before .before .before .before .before .before .before .before .before .before .before .before .args .h .version) (c .before .before .before .before .before .before .before .before .before .before .before .before .before .before .before .before .before .args .g .version) (c .before .before .before .before .before .before .before .before .before .before .before .before .before .before .if1 .left), eq-eqb (c .before .before .before .before .before .before .before .before .before .before .before .before .before .before .before .before .before .args .h .dataset) (c .before .before .before .before .before .before .before .before .before .before .before .before .before .before .before .before .before .args .g .dataset) (c .before .before .before .before .before .before .before .before .before .before .before .if2 .left), eq-eqb (c .before .before .before .before .before .before .before .before .before .before .before .before .before .before .before .before .before .args .h .«stype_in») (c .before .before .before .before .before .before .before .before .before .before .before .before .before .before .before .before .before .args .g .«stype_in») (c .before .before .before .before .before .before .before .before .if3 .left), eq-eqb (c .before .before .before .before .before .before .before .before .before .before .before .before .before .before .before .before .before .args .h .«stype_out») (c .before .before .before .before .before .before .before .before .before .before .before .before .before .before .before .before .before .args .g .«stype_out») (c .before .before .before .before .before .if4 .left), sym (c .before .before .before .before .same .ensures) ∙ not-false _ (c .before .before .before .if5 .left), eq-eqb (c .before .before .before .before .before .before .before .before .before .before .before .before .before .before .before .before .before .args .h .«symbol_cstr_len») (c .before .before .before .before .before .before .before .before .before .before .before .before .before .before .before .before .before .args .g .«symbol_cstr_len») (c .if6 .left)) refl
+returns-7 c = rw (eq-eqb (c .before .before .before .before .before .before .before .before .before .before .before .before .before .before .before .before .before .args .header .version) (c .before .before .before .before .before .before .before .before .before .before .before .before .before .before .before .before .before .args .added .version) (c .before .before .before .before .before .before .before .before .before .before .before .before .before .before .if1 .left), eq-eqb (c .before .before .before .before .before .before .before .before .before .before .before .before .before .before .before .before .before .args .header .dataset) (c .before .before .before .before .before .before .before .before .before .before .before .before .before .before .before .before .before .args .added .dataset) (c .before .before .before .before .before .before .before .before .before .before .before .if2 .left), eq-eqb (c .before .before .before .before .before .before .before .before .before .before .before .before .before .before .before .before .before .args .header .«stype_in») (c .before .before .before .before .before .before .before .before .before .before .before .before .before .before .before .before .before .args .added .«stype_in») (c .before .before .before .before .before .before .before .before .if3 .left), eq-eqb (c .before .before .before .before .before .before .before .before .before .before .before .before .before .before .before .before .before .args .header .«stype_out») (c .before .before .before .before .before .before .before .before .before .before .before .before .before .before .before .before .before .args .added .«stype_out») (c .before .before .before .before .before .if4 .left), sym (c .before .before .before .before .same .ensures) ∙ not-false _ (c .before .before .before .if5 .left), eq-eqb (c .before .before .before .before .before .before .before .before .before .before .before .before .before .before .before .before .before .args .header .«symbol_cstr_len») (c .before .before .before .before .before .before .before .before .before .before .before .before .before .before .before .before .before .args .added .«symbol_cstr_len») (c .if6 .left)) refl
 
 pub differs-spec : {M : Type 1} → statement M
 differs-spec =

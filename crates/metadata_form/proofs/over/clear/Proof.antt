@@ -16,16 +16,16 @@ abbrev μ-loop : tie.MeasureT-loop
 μ-loop d₀ at k j₀ d j = k - j
 
 loop-holds : tie.Need-loop-holds Inv-loop μ-loop
-loop-holds c = (omega arith, refl, paste-zero (now (c .args .d)) (c .args .at) (replicate (c .args .k) 0))
+loop-holds c = (omega arith, refl, paste-zero (now (c .args .list)) (c .args .at) (replicate (c .args .count) 0))
 
-add-d : tie.Need-add-d Inv-loop μ-loop
-add-d c = omega arith
+add-list : tie.Need-add-list Inv-loop μ-loop
+add-list c = omega arith
 
-mul-d : tie.Need-mul-d Inv-loop μ-loop
-mul-d c = omega arith
+mul-list : tie.Need-mul-list Inv-loop μ-loop
+mul-list c = omega arith
 
-slice-write-d : tie.Need-slice-write-d Inv-loop μ-loop
-slice-write-d c = omega arith
+slice-write-list : tie.Need-slice-write-list Inv-loop μ-loop
+slice-write-list c = omega arith
 
 add-j : tie.Need-add-j Inv-loop μ-loop
 add-j c = omega arith
@@ -34,13 +34,13 @@ loop-less : tie.Need-loop-less Inv-loop μ-loop
 loop-less c = omega arith
 
 loop-again : tie.Need-loop-again Inv-loop μ-loop
-loop-again c = (omega arith, simp length-set (c .before .loop .inv .1), clear-turn (now (c .before .before .args .d)) (c .before .loop .d) (c .before .before .args .at) (c .before .before .args .k) (c .before .loop .j) (c .before .before .pre) (c .loop-test .taken) (c .before .loop .inv .2))
+loop-again c = (omega arith, simp length-set (c .before .loop .inv .1), clear-turn (now (c .before .before .args .list)) (c .before .loop .list) (c .before .before .args .at) (c .before .before .args .count) (c .before .loop .j) (c .before .before .pre) (c .loop-test .taken) (c .before .loop .inv .2))
 
 same-length : tie.Need-same-length Inv-loop μ-loop
 same-length c = c .before .loop .inv .1
 
 returns : tie.Need-returns Inv-loop μ-loop
-returns c = let e : c .before .loop .j ≡ c .before .before .args .k = omega arith in c .before .loop .inv .2 ∙ ap (paste (now (c .before .before .args .d)) (c .before .before .args .at) (replicate (c .before .before .args .k) 0)) e
+returns c = let e : c .before .loop .j ≡ c .before .before .args .count = omega arith in c .before .loop .inv .2 ∙ ap (paste (now (c .before .before .args .list)) (c .before .before .args .at) (replicate (c .before .before .args .count) 0)) e
 
 pub clear-spec : {M : Type 1} → statement M
 clear-spec =
@@ -49,9 +49,9 @@ clear-spec =
     Inv-loop
     μ-loop
     loop-holds
-    add-d
-    mul-d
-    slice-write-d
+    add-list
+    mul-list
+    slice-write-list
     add-j
     loop-less
     loop-again

@@ -16,19 +16,19 @@ abbrev μ-loop : tie.MeasureT-loop
 μ-loop d₀ t n j₀ d j = n - j
 
 loop-holds : tie.Need-loop-holds Inv-loop μ-loop
-loop-holds c = (omega arith, refl, paste-zero (now (c .args .d)) 0 (now (c .args .t)))
+loop-holds c = (omega arith, refl, paste-zero (now (c .args .list)) 0 (now (c .args .words)))
 
-mul-d : tie.Need-mul-d Inv-loop μ-loop
-mul-d c = omega arith
+mul-list : tie.Need-mul-list Inv-loop μ-loop
+mul-list c = omega arith
 
-shared-slice-read-d : tie.Need-shared-slice-read-d Inv-loop μ-loop
-shared-slice-read-d c = omega arith
+shared-slice-read-list : tie.Need-shared-slice-read-list Inv-loop μ-loop
+shared-slice-read-list c = omega arith
 
-mul-d-2 : tie.Need-mul-d-2 Inv-loop μ-loop
-mul-d-2 c = omega arith
+mul-list-2 : tie.Need-mul-list-2 Inv-loop μ-loop
+mul-list-2 c = omega arith
 
-slice-write-d : tie.Need-slice-write-d Inv-loop μ-loop
-slice-write-d c = omega arith
+slice-write-list : tie.Need-slice-write-list Inv-loop μ-loop
+slice-write-list c = omega arith
 
 add-j : tie.Need-add-j Inv-loop μ-loop
 add-j c = omega arith
@@ -37,13 +37,13 @@ loop-less : tie.Need-loop-less Inv-loop μ-loop
 loop-less c = omega arith
 
 loop-again : tie.Need-loop-again Inv-loop μ-loop
-loop-again c = (omega arith, simp length-set (c .before .before .loop .inv .1), copy-turn (now (c .before .before .before .args .d)) (c .before .before .loop .d) (now (c .before .before .before .args .t)) (c .before .before .before .args .n) (c .before .before .loop .j) (c .before .before .before .pre .0) (c .before .before .before .pre .1) (c .before .loop-test .taken) (c .before .before .loop .inv .2))
+loop-again c = (omega arith, simp length-set (c .before .before .loop .inv .1), copy-turn (now (c .before .before .before .args .list)) (c .before .before .loop .list) (now (c .before .before .before .args .words)) (c .before .before .before .args .count) (c .before .before .loop .j) (c .before .before .before .pre .0) (c .before .before .before .pre .1) (c .before .loop-test .taken) (c .before .before .loop .inv .2))
 
 same-length : tie.Need-same-length Inv-loop μ-loop
 same-length c = c .before .loop .inv .1
 
 returns : tie.Need-returns Inv-loop μ-loop
-returns c = let e : c .before .loop .j ≡ c .before .before .args .n = omega arith in c .before .loop .inv .2 ∙ ap (paste (now (c .before .before .args .d)) 0 (now (c .before .before .args .t))) e
+returns c = let e : c .before .loop .j ≡ c .before .before .args .count = omega arith in c .before .loop .inv .2 ∙ ap (paste (now (c .before .before .args .list)) 0 (now (c .before .before .args .words))) e
 
 pub copy-spec : {M : Type 1} → statement M
 copy-spec =
@@ -52,10 +52,10 @@ copy-spec =
     Inv-loop
     μ-loop
     loop-holds
-    mul-d
-    shared-slice-read-d
-    mul-d-2
-    slice-write-d
+    mul-list
+    shared-slice-read-list
+    mul-list-2
+    slice-write-list
     add-j
     loop-less
     loop-again

@@ -9,29 +9,29 @@ use Rattle.metadata_form.proofs.words.put_interval.Tie as tie
 mul-o : tie.Need-mul-o
 mul-o c = search needs
 
-mul-v : tie.Need-mul-v
-mul-v c = search needs
+mul-intervals : tie.Need-mul-intervals
+mul-intervals c = search needs
 
-slice-write-v : tie.Need-slice-write-v
-slice-write-v c = search needs
+slice-write-intervals : tie.Need-slice-write-intervals
+slice-write-intervals c = search needs
 
-add-v : tie.Need-add-v
-add-v c = search needs
+add-intervals : tie.Need-add-intervals
+add-intervals c = search needs
 
-mul-v-2 : tie.Need-mul-v-2
-mul-v-2 c = search needs
+mul-intervals-2 : tie.Need-mul-intervals-2
+mul-intervals-2 c = search needs
 
-slice-write-v-2 : tie.Need-slice-write-v-2
-slice-write-v-2 c = simp length-set (omega arith)
+slice-write-intervals-2 : tie.Need-slice-write-intervals-2
+slice-write-intervals-2 c = simp length-set (omega arith)
 
-add-v-2 : tie.Need-add-v-2
-add-v-2 c = search needs
+add-intervals-2 : tie.Need-add-intervals-2
+add-intervals-2 c = search needs
 
-mul-v-3 : tie.Need-mul-v-3
-mul-v-3 c = search needs
+mul-intervals-3 : tie.Need-mul-intervals-3
+mul-intervals-3 c = search needs
 
-slice-write-v-3 : tie.Need-slice-write-v-3
-slice-write-v-3 c = simp length-set (omega arith)
+slice-write-intervals-3 : tie.Need-slice-write-intervals-3
+slice-write-intervals-3 c = simp length-set (omega arith)
 
 same-length : tie.Need-same-length
 same-length c = search needs
@@ -45,13 +45,13 @@ put-interval-spec =
     tie.close
     (tie.spec
     mul-o
-    mul-v
-    slice-write-v
-    add-v
-    mul-v-2
-    slice-write-v-2
-    add-v-2
-    mul-v-3
-    slice-write-v-3
+    mul-intervals
+    slice-write-intervals
+    add-intervals
+    mul-intervals-2
+    slice-write-intervals-2
+    add-intervals-2
+    mul-intervals-3
+    slice-write-intervals-3
     same-length
     returns)

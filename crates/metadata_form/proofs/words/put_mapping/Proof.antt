@@ -9,23 +9,23 @@ use Rattle.metadata_form.proofs.words.put_mapping.Tie as tie
 mul-o : tie.Need-mul-o
 mul-o c = search needs
 
-mul-m : tie.Need-mul-m
-mul-m c = search needs
+mul-mappings : tie.Need-mul-mappings
+mul-mappings c = search needs
 
-slice-write-m : tie.Need-slice-write-m
-slice-write-m c = search needs
+slice-write-mappings : tie.Need-slice-write-mappings
+slice-write-mappings c = search needs
 
-cast-m : tie.Need-cast-m
-cast-m c = search needs
+cast-mappings : tie.Need-cast-mappings
+cast-mappings c = search needs
 
-add-m : tie.Need-add-m
-add-m c = search needs
+add-mappings : tie.Need-add-mappings
+add-mappings c = search needs
 
-mul-m-2 : tie.Need-mul-m-2
-mul-m-2 c = search needs
+mul-mappings-2 : tie.Need-mul-mappings-2
+mul-mappings-2 c = search needs
 
-slice-write-m-2 : tie.Need-slice-write-m-2
-slice-write-m-2 c = simp length-set (omega arith)
+slice-write-mappings-2 : tie.Need-slice-write-mappings-2
+slice-write-mappings-2 c = simp length-set (omega arith)
 
 same-length : tie.Need-same-length
 same-length c = search needs
@@ -37,4 +37,4 @@ returns c = search needs
 pub put-mapping-spec : {M : Type 1} → statement M
 put-mapping-spec =
     tie.close
-    (tie.spec mul-o mul-m slice-write-m cast-m add-m mul-m-2 slice-write-m-2 same-length returns)
+    (tie.spec mul-o mul-mappings slice-write-mappings cast-mappings add-mappings mul-mappings-2 slice-write-mappings-2 same-length returns)

@@ -17,11 +17,11 @@ same-length-2 c = search needs
 returns : tie.Need-returns
 returns c = added-old _ _ _ _ _ (c .before .before .before .before .before .before .pre .0) (c .before .before .before .before .before .before .pre .2) (c .before .index-of .ensures) (c .if1 .taken)
 
-mul-xs : tie.Need-mul-xs
-mul-xs c = search needs
+mul-numbers : tie.Need-mul-numbers
+mul-numbers c = search needs
 
-slice-write-xs : tie.Need-slice-write-xs
-slice-write-xs c = search needs
+slice-write-numbers : tie.Need-slice-write-numbers
+slice-write-numbers c = search needs
 
 add-mark : tie.Need-add-mark
 add-mark c = search needs
@@ -49,8 +49,8 @@ add-one-spec =
     same-length
     same-length-2
     returns
-    mul-xs
-    slice-write-xs
+    mul-numbers
+    slice-write-numbers
     add-mark
     mark-requires
     add-t11

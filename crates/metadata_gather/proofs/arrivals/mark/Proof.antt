@@ -16,21 +16,21 @@ wide-requires c κs = search needs
 returns : tie.Need-returns
 returns c = let e = c .before .wide .ensures in sym (set-out _ _ _ (omega arith))
 
-cast-at : tie.Need-cast-at
-cast-at c = search needs
+cast-marks : tie.Need-cast-marks
+cast-marks c = search needs
 
-mul-at : tie.Need-mul-at
-mul-at c = search needs
+mul-marks : tie.Need-mul-marks
+mul-marks c = search needs
 
-slice-write-at : tie.Need-slice-write-at
-slice-write-at c = search needs
+slice-write-marks : tie.Need-slice-write-marks
+slice-write-marks c = search needs
 
 same-length : tie.Need-same-length
 same-length c = search needs
 
 returns-2 : tie.Need-returns-2
-returns-2 c = ap (λ (u : ℕ). set (now (c .before .before .before .args .at)) u (c .before .before .before .args .k)) (c .before .wide .ensures)
+returns-2 c = ap (λ (u : ℕ). set (now (c .before .before .before .args .marks)) u (c .before .before .before .args .k)) (c .before .wide .ensures)
 
 pub mark-spec : {M : Type 1} → statement M
 mark-spec =
-    tie.close (tie.spec wide-requires returns cast-at mul-at slice-write-at same-length returns-2)
+    tie.close (tie.spec wide-requires returns cast-marks mul-marks slice-write-marks same-length returns-2)

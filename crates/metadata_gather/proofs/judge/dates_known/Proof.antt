@@ -27,7 +27,7 @@ is-dated-requires : tie.Need-is-dated-requires Inv-loop μ-loop
 is-dated-requires c κs = search needs
 
 returns : tie.Need-returns Inv-loop μ-loop
-returns c = spans-stop dated (now (c .before .before .before .before .before .before .args .v)) (c .before .before .before .before .loop .i) (c .before .before .before .before .before .before .args .n) (c .before .before .interval-at .ensures) (c .before .is-dated .ensures) (not-true _ (c .if1 .taken)) (c .before .before .before .loop-test .taken) ∙ c .before .before .before .before .loop .inv .1
+returns c = spans-stop dated (now (c .before .before .before .before .before .before .args .intervals)) (c .before .before .before .before .loop .i) (c .before .before .before .before .before .before .args .count) (c .before .before .interval-at .ensures) (c .before .is-dated .ensures) (not-true _ (c .if1 .taken)) (c .before .before .before .loop-test .taken) ∙ c .before .before .before .before .loop .inv .1
 
 add-i : tie.Need-add-i Inv-loop μ-loop
 add-i c = search needs
@@ -36,10 +36,10 @@ loop-less : tie.Need-loop-less Inv-loop μ-loop
 loop-less c = search needs
 
 loop-again : tie.Need-loop-again Inv-loop μ-loop
-loop-again c = (omega arith, spans-turn dated (now (c .before .before .before .before .before .before .args .v)) (c .before .before .before .before .loop .i) (c .before .before .before .before .before .before .args .n) (c .before .before .interval-at .ensures) (c .before .is-dated .ensures) (not-false _ (c .if1 .left)) (c .before .before .before .loop-test .taken) ∙ c .before .before .before .before .loop .inv .1)
+loop-again c = (omega arith, spans-turn dated (now (c .before .before .before .before .before .before .args .intervals)) (c .before .before .before .before .loop .i) (c .before .before .before .before .before .before .args .count) (c .before .before .interval-at .ensures) (c .before .is-dated .ensures) (not-false _ (c .if1 .left)) (c .before .before .before .loop-test .taken) ∙ c .before .before .before .before .loop .inv .1)
 
 returns-2 : tie.Need-returns-2 Inv-loop μ-loop
-returns-2 c = spans-end dated (now (c .before .before .before .args .v)) (c .before .loop .i) (c .before .before .before .args .n) (omega arith) ∙ c .before .loop .inv .1
+returns-2 c = spans-end dated (now (c .before .before .before .args .intervals)) (c .before .loop .i) (c .before .before .before .args .count) (omega arith) ∙ c .before .loop .inv .1
 
 pub dates-known-spec : {M : Type 1} → statement M
 dates-known-spec =

@@ -57,9 +57,9 @@ same-length-3 c = c .before .loop .inv .3
 
 returns : tie.Need-returns Inv-loop μ-loop
 returns c =
-    let e : c .before .loop .i ≡ c .before .before .before .before .before .before .args .n = omega arith in
+    let e : c .before .loop .i ≡ c .before .before .before .before .before .before .args .count = omega arith in
     let f = c .before .loop .inv .4 .few in
-    (omega arith, c .before .loop .inv .4 .there ∙ ap (picksOf (now (c .before .before .before .before .before .before .args .m))) e)
+    (omega arith, c .before .loop .inv .4 .there ∙ ap (picksOf (now (c .before .before .before .before .before .before .args .mappings))) e)
 
 pub picks-spec : {M : Type 1} → statement M
 picks-spec =

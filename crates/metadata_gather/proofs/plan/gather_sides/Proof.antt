@@ -8,13 +8,13 @@ use Rattle.metadata_gather.proofs.plan.gather_sides.Statement.{statemen
 use Rattle.metadata_gather.proofs.plan.gather_sides.Tie as tie
 
 lose-repeats-requires : tie.Need-lose-repeats-requires
-lose-repeats-requires c κs = left-sound _ _ _ _ _ _ (now (c .before .before .before .before .before .before .before .before .args .gm)) (now (c .before .before .before .before .before .before .before .before .args .gv)) (c .before .before .before .before .before .before .before .before .pre)
+lose-repeats-requires c κs = left-sound _ _ _ _ _ _ (now (c .before .before .before .before .before .before .before .before .args .both-mappings)) (now (c .before .before .before .before .before .before .before .before .args .both-intervals)) (c .before .before .before .before .before .before .before .before .pre)
 
 follow-requires : tie.Need-follow-requires
-follow-requires c κs = right-sound _ _ _ _ _ _ (now (c .before .before .before .before .before .before .before .before .before .before .before .before .before .before .before .args .gm)) (now (c .before .before .before .before .before .before .before .before .before .before .before .before .before .before .before .args .gv)) (c .before .before .before .before .before .before .before .before .before .before .before .before .before .before .before .pre) _ _ _ _ (c .before .before .before .before .before .before .lose-repeats .ensures) _ _ (c .before .before .before .before .before .before .lose-repeats .kept .1 .1 .1 .0) (c .before .before .before .before .before .before .lose-repeats .kept .1 .1 .1 .1 .0)
+follow-requires c κs = right-sound _ _ _ _ _ _ (now (c .before .before .before .before .before .before .before .before .before .before .before .before .before .before .before .args .both-mappings)) (now (c .before .before .before .before .before .before .before .before .before .before .before .before .before .before .before .args .both-intervals)) (c .before .before .before .before .before .before .before .before .before .before .before .before .before .before .before .pre) _ _ _ _ (c .before .before .before .before .before .before .lose-repeats .ensures) _ _ (c .before .before .before .before .before .before .lose-repeats .kept .1 .1 .1 .0) (c .before .before .before .before .before .before .lose-repeats .kept .1 .1 .1 .1 .0)
 
 add-t21 : tie.Need-add-t21
-add-t21 c = let a = q-small _ _ _ _ _ _ (now (c .before .before .before .before .before .before .before .before .before .before .before .before .before .before .before .before .before .before .before .before .args .gm)) (now (c .before .before .before .before .before .before .before .before .before .before .before .before .before .before .before .before .before .before .before .before .args .gv)) (c .before .before .before .before .before .before .before .before .before .before .before .before .before .before .before .before .before .before .before .before .pre) _ _ _ _ (c .before .before .before .before .before .before .before .before .before .before .before .lose-repeats .ensures) in omega arith
+add-t21 c = let a = q-small _ _ _ _ _ _ (now (c .before .before .before .before .before .before .before .before .before .before .before .before .before .before .before .before .before .before .before .before .args .both-mappings)) (now (c .before .before .before .before .before .before .before .before .before .before .before .before .before .before .before .before .before .before .before .before .args .both-intervals)) (c .before .before .before .before .before .before .before .before .before .before .before .before .before .before .before .before .before .before .before .before .pre) _ _ _ _ (c .before .before .before .before .before .before .before .before .before .before .before .lose-repeats .ensures) in omega arith
 
 same-length : tie.Need-same-length
 same-length c = search needs
@@ -23,7 +23,7 @@ same-length-2 : tie.Need-same-length-2
 same-length-2 c = search needs
 
 returns : tie.Need-returns
-returns c = both-stand _ _ _ _ _ _ (now (c .before .before .before .before .before .before .before .before .before .before .before .before .before .before .before .before .before .before .before .before .args .gm)) (now (c .before .before .before .before .before .before .before .before .before .before .before .before .before .before .before .before .before .before .before .before .args .gv)) (c .before .before .before .before .before .before .before .before .before .before .before .before .before .before .before .before .before .before .before .before .pre) _ _ _ _ (c .before .before .before .before .before .before .before .before .before .before .before .lose-repeats .ensures) _ _ _ (c .before .before .before .before .follow .ensures)
+returns c = both-stand _ _ _ _ _ _ (now (c .before .before .before .before .before .before .before .before .before .before .before .before .before .before .before .before .before .before .before .before .args .both-mappings)) (now (c .before .before .before .before .before .before .before .before .before .before .before .before .before .before .before .before .before .before .before .before .args .both-intervals)) (c .before .before .before .before .before .before .before .before .before .before .before .before .before .before .before .before .before .before .before .before .pre) _ _ _ _ (c .before .before .before .before .before .before .before .before .before .before .before .lose-repeats .ensures) _ _ _ (c .before .before .before .before .follow .ensures)
 
 pub gather-sides-spec : {M : Type 1} → statement M
 gather-sides-spec =

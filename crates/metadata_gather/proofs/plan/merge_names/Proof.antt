@@ -23,7 +23,7 @@ slice-aggregate-link-2 : tie.Need-slice-aggregate-link-2
 slice-aggregate-link-2 c = search needs
 
 link-requires : tie.Need-link-requires
-link-requires c κs = (c .before .before .before .before .before .before .before .before .before .before .pre .words, omega (arith, c .before .before .before .before .before .before .before .before .before .before .pre .count), λ t h. let a = c .before .before .before .before .before .before .before .before .before .before .pre .names t h in omega arith, full (c .before .before .before .before .before .before .before .before .before .before .args .q) 4096 (replicate 4096 (c .before .before .before .before .before .before .before .before .before .before .args .q)) refl)
+link-requires c κs = (c .before .before .before .before .before .before .before .before .before .before .pre .words, omega (arith, c .before .before .before .before .before .before .before .before .before .before .pre .count), λ t h. let a = c .before .before .before .before .before .before .before .before .before .before .pre .names t h in omega arith, full (c .before .before .before .before .before .before .before .before .before .before .args .count) 4096 (replicate 4096 (c .before .before .before .before .before .before .before .before .before .before .args .count)) refl)
 
 slice-aggregate-lay-names : tie.Need-slice-aggregate-lay-names
 slice-aggregate-lay-names c = search needs
@@ -47,7 +47,7 @@ same-length-3 : tie.Need-same-length-3
 same-length-3 c = search needs
 
 returns : tie.Need-returns
-returns c = c .before .before .before .before .before .before .lay-names .ensures ∙ ap (finishNames (now (c .before .before .before .before .before .before .before .before .before .before .before .before .before .before .before .before .before .before .before .before .before .before .before .before .before .before .args .om)) 0 (now (c .before .before .before .before .before .before .before .before .before .before .before .before .before .before .before .before .before .before .before .before .before .before .before .before .before .before .args .out)) 0) (all-by-name _ _ _ _ _ _ (c .before .before .before .before .before .before .before .before .before .before .before .before .before .before .before .before .before .before .before .before .before .before .before .before .before .before .pre) _ _ _ (c .before .before .before .before .before .before .before .before .before .before .before .before .before .before .before .before .before .before .before .offsets .ensures .1) (c .before .before .before .before .before .before .before .before .before .before .before .before .before .before .before .link .ensures) (omega (arith, c .before .before .before .before .before .before .before .before .before .before .before .before .before .before .before .before .before .before .before .before .before .before .before .before .before .before .pre .count)) (omega (arith, c .before .before .before .before .before .before .before .before .before .before .before .before .before .before .before .before .before .before .before .before .before .before .before .before .before .before .pre .count)) (omega arith))
+returns c = c .before .before .before .before .before .before .lay-names .ensures ∙ ap (finishNames (now (c .before .before .before .before .before .before .before .before .before .before .before .before .before .before .before .before .before .before .before .before .before .before .before .before .before .before .args .out-mappings)) 0 (now (c .before .before .before .before .before .before .before .before .before .before .before .before .before .before .before .before .before .before .before .before .before .before .before .before .before .before .args .out-intervals)) 0) (all-by-name _ _ _ _ _ _ (c .before .before .before .before .before .before .before .before .before .before .before .before .before .before .before .before .before .before .before .before .before .before .before .before .before .before .pre) _ _ _ (c .before .before .before .before .before .before .before .before .before .before .before .before .before .before .before .before .before .before .before .offsets .ensures .1) (c .before .before .before .before .before .before .before .before .before .before .before .before .before .before .before .link .ensures) (omega (arith, c .before .before .before .before .before .before .before .before .before .before .before .before .before .before .before .before .before .before .before .before .before .before .before .before .before .before .pre .count)) (omega (arith, c .before .before .before .before .before .before .before .before .before .before .before .before .before .before .before .before .before .before .before .before .before .before .before .before .before .before .pre .count)) (omega arith))
 
 pub merge-names-spec : {M : Type 1} → statement M
 merge-names-spec =

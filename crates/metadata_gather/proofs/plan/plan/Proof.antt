@@ -45,8 +45,8 @@ merge-names-requires c κs = plan-linkable _ _ _ _ _ _ _ _ _ (c .before .before 
 enum-told : tie.Need-enum-told
 enum-told c = search needs
 
-enum-known-r : tie.Need-enum-known-r
-enum-known-r c = search needs
+enum-known-merged : tie.Need-enum-known-merged
+enum-known-merged c = search needs
 
 same-length : tie.Need-same-length
 same-length c = search needs
@@ -66,7 +66,7 @@ same-length-4 c = search needs
 
 returns-3 : tie.Need-returns-3
 unfolding endPlan shownNames
-returns-3 c = plan-laid _ _ _ _ _ (c .before .before .before .before .before .before .before .before .before .before .before .before .before .before .before .before .before .before .before .before .gather-sides .ensures) _ _ _ _ _ _ _ _ _ (c .before .before .before .before .before .before .before .before .before .before .before .before .before .before .before .judge-sides .ensures) (c .before .before .before .before .before .before .before .before .before .before .before .before .before .before .if1 .left) (c .before .before .before .before .before .before .before .before .merge-names .ensures) (c .before .r .given .1)
+returns-3 c = plan-laid _ _ _ _ _ (c .before .before .before .before .before .before .before .before .before .before .before .before .before .before .before .before .before .before .before .before .gather-sides .ensures) _ _ _ _ _ _ _ _ _ (c .before .before .before .before .before .before .before .before .before .before .before .before .before .before .before .judge-sides .ensures) (c .before .before .before .before .before .before .before .before .before .before .before .before .before .before .if1 .left) (c .before .before .before .before .before .before .before .before .merge-names .ensures) (c .before .merged .given .1)
 
 pub plan-spec : {M : Type 1} → statement M
 plan-spec =
@@ -84,7 +84,7 @@ plan-spec =
     slice-aggregate-merge-names-3
     merge-names-requires
     enum-told
-    enum-known-r
+    enum-known-merged
     same-length
     same-length-2
     returns-2

@@ -18,7 +18,7 @@ same-length : tie.Need-same-length
 same-length c = search needs
 
 returns : tie.Need-returns
-returns c = all-alone _ (now (c .before .before .before .before .before .before .before .before .args .t)) _ _ _ (c .before .before .before .add-all .ensures)
+returns c = all-alone _ (now (c .before .before .before .before .before .before .before .before .args .out)) _ _ _ (c .before .before .before .add-all .ensures)
 
 pub alone-spec : {M : Type 1} → statement M
 alone-spec = tie.close (tie.spec slice-aggregate-add-all add-all-requires same-length returns)

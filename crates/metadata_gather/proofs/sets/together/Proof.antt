@@ -21,13 +21,13 @@ slice-aggregate-add-all-2 : tie.Need-slice-aggregate-add-all-2
 slice-aggregate-add-all-2 c = search needs
 
 add-all-requires-2 : tie.Need-add-all-requires-2
-add-all-requires-2 c κs = let l = length-take-le (c .before .before .before .before .before .before .before .before .before .before .before .args .n) (now (c .before .before .before .before .before .before .before .before .before .before .before .args .a)) (c .before .before .before .before .before .before .before .before .before .before .before .pre .0) in let f = first-few _ (now (c .before .before .before .before .before .before .before .before .before .before .before .args .t)) _ _ _ (c .before .before .before .before .before .add-all .ensures) in (omega arith, omega (arith, c .before .before .before .before .before .before .before .before .before .before .before .pre .3), c .before .before .before .before .before .before .before .before .before .before .before .pre .1, subst (Marked _) (sym (c .before .before .before .before .before .add-all .ensures .stand)) (c .before .before .before .before .before .add-all .ensures .marks))
+add-all-requires-2 c κs = let l = length-take-le (c .before .before .before .before .before .before .before .before .before .before .before .args .left-count) (now (c .before .before .before .before .before .before .before .before .before .before .before .args .left)) (c .before .before .before .before .before .before .before .before .before .before .before .pre .0) in let f = first-few _ (now (c .before .before .before .before .before .before .before .before .before .before .before .args .out)) _ _ _ (c .before .before .before .before .before .add-all .ensures) in (omega arith, omega (arith, c .before .before .before .before .before .before .before .before .before .before .before .pre .3), c .before .before .before .before .before .before .before .before .before .before .before .pre .1, subst (Marked _) (sym (c .before .before .before .before .before .add-all .ensures .stand)) (c .before .before .before .before .before .add-all .ensures .marks))
 
 same-length : tie.Need-same-length
 same-length c = search needs
 
 returns : tie.Need-returns
-returns c = all-united _ _ (now (c .before .before .before .before .before .before .before .before .before .before .before .before .before .before .before .args .t)) _ _ _ (c .before .before .before .before .before .before .before .before .before .add-all .ensures) _ _ _ (c .before .before .before .add-all2 .ensures)
+returns c = all-united _ _ (now (c .before .before .before .before .before .before .before .before .before .before .before .before .before .before .before .args .out)) _ _ _ (c .before .before .before .before .before .before .before .before .before .add-all .ensures) _ _ _ (c .before .before .before .add-all2 .ensures)
 
 pub together-spec : {M : Type 1} → statement M
 together-spec =

@@ -37,7 +37,7 @@ same-length-2 : tie.Need-same-length-2
 same-length-2 c = search needs
 
 returns : tie.Need-returns
-returns c = c .before .before .before .before .lay-places .ensures ∙ ap (layAll (now (c .before .before .before .before .before .before .before .before .before .before .before .before .before .before .before .before .before .before .before .args .gm)) (c .before .before .before .before .before .before .before .before .before .before .before .before .before .before .before .before .before .before .before .args .q) (now (c .before .before .before .before .before .before .before .before .before .before .before .before .before .before .before .before .before .before .before .args .gv)) (c .before .before .before .before .before .before .before .before .before .before .before .before .before .before .before .before .before .before .before .args .k)) (side-picked _ _ _ _ _ (c .before .before .before .before .before .before .before .before .before .before .before .before .before .offsets .ensures .1) (c .before .before .before .before .before .before .before .before .before .before .count-up .ensures))
+returns c = c .before .before .before .before .lay-places .ensures ∙ ap (layAll (now (c .before .before .before .before .before .before .before .before .before .before .before .before .before .before .before .before .before .before .before .args .both-mappings)) (c .before .before .before .before .before .before .before .before .before .before .before .before .before .before .before .before .before .before .before .args .laid-mappings) (now (c .before .before .before .before .before .before .before .before .before .before .before .before .before .before .before .before .before .before .before .args .both-intervals)) (c .before .before .before .before .before .before .before .before .before .before .before .before .before .before .before .before .before .before .before .args .laid-intervals)) (side-picked _ _ _ _ _ (c .before .before .before .before .before .before .before .before .before .before .before .before .before .offsets .ensures .1) (c .before .before .before .before .before .before .before .before .before .before .count-up .ensures))
 
 pub follow-spec : {M : Type 1} → statement M
 follow-spec =

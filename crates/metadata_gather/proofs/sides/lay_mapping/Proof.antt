@@ -17,11 +17,11 @@ name-at-requires c κs = search needs
 count-at-requires : tie.Need-count-at-requires
 count-at-requires c κs = search needs
 
-mul-o : tie.Need-mul-o
-mul-o c = search needs
+mul-start : tie.Need-mul-start
+mul-start c = search needs
 
-shared-slice-read-o : tie.Need-shared-slice-read-o
-shared-slice-read-o c = search needs
+shared-slice-read-start : tie.Need-shared-slice-read-start
+shared-slice-read-start c = search needs
 
 put-mapping-requires : tie.Need-put-mapping-requires
 put-mapping-requires c κs = search needs
@@ -43,10 +43,10 @@ same-length-2 c = search needs
 
 returns : tie.Need-returns
 returns c = (
-  c .before .before .before .before .before .before .put-mapping .ensures ∙ ap (λ (u : ℕ). putMapping (now (c .before .before .before .before .before .before .before .before .before .before .before .before .before .before .before .before .args .gm)) (c .before .before .before .before .before .before .before .before .before .before .before .before .before .before .before .before .args .q) u (c .before .before .before .before .before .before .before .before .before .count-at .result)) (c .before .before .before .before .before .before .before .before .before .before .name-at .ensures)
-      ∙ ap (putMapping (now (c .before .before .before .before .before .before .before .before .before .before .before .before .before .before .before .before .args .gm)) (c .before .before .before .before .before .before .before .before .before .before .before .before .before .before .before .before .args .q) (nameAt (now (c .before .before .before .before .before .before .before .before .before .before .before .before .before .before .before .before .args .m)) (c .before .before .before .before .before .before .before .before .before .before .before .before .before .before .before .before .args .j))) (c .before .before .before .before .before .before .before .before .before .count-at .ensures),
-  c .before .before .copy-intervals .ensures ∙ ap (layIntervals (now (c .before .before .before .before .before .before .before .before .before .before .before .before .before .before .before .before .args .gv)) (c .before .before .before .before .before .before .before .before .before .before .before .before .before .before .before .before .args .k)) (rest-list _ _ _ _ _ _ refl (c .before .before .before .before .before .before .before .before .before .count-at .ensures)),
-  ap (λ (u : ℕ). c .before .before .before .before .before .before .before .before .before .before .before .before .before .before .before .before .args .k + u) (c .before .before .before .before .before .before .before .before .before .count-at .ensures),
+  c .before .before .before .before .before .before .put-mapping .ensures ∙ ap (λ (u : ℕ). putMapping (now (c .before .before .before .before .before .before .before .before .before .before .before .before .before .before .before .before .args .both-mappings)) (c .before .before .before .before .before .before .before .before .before .before .before .before .before .before .before .before .args .laid-mappings) u (c .before .before .before .before .before .before .before .before .before .count-at .result)) (c .before .before .before .before .before .before .before .before .before .before .name-at .ensures)
+      ∙ ap (putMapping (now (c .before .before .before .before .before .before .before .before .before .before .before .before .before .before .before .before .args .both-mappings)) (c .before .before .before .before .before .before .before .before .before .before .before .before .before .before .before .before .args .laid-mappings) (nameAt (now (c .before .before .before .before .before .before .before .before .before .before .before .before .before .before .before .before .args .mappings)) (c .before .before .before .before .before .before .before .before .before .before .before .before .before .before .before .before .args .i))) (c .before .before .before .before .before .before .before .before .before .count-at .ensures),
+  c .before .before .copy-intervals .ensures ∙ ap (layIntervals (now (c .before .before .before .before .before .before .before .before .before .before .before .before .before .before .before .before .args .both-intervals)) (c .before .before .before .before .before .before .before .before .before .before .before .before .before .before .before .before .args .laid-intervals)) (rest-list _ _ _ _ _ _ refl (c .before .before .before .before .before .before .before .before .before .count-at .ensures)),
+  ap (λ (u : ℕ). c .before .before .before .before .before .before .before .before .before .before .before .before .before .before .before .before .args .laid-intervals + u) (c .before .before .before .before .before .before .before .before .before .count-at .ensures),
 )
 
 pub lay-mapping-spec : {M : Type 1} → statement M
@@ -55,8 +55,8 @@ lay-mapping-spec =
     (tie.spec
     name-at-requires
     count-at-requires
-    mul-o
-    shared-slice-read-o
+    mul-start
+    shared-slice-read-start
     put-mapping-requires
     add-copy-intervals
     copy-intervals-requires

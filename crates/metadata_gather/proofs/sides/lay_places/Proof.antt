@@ -17,11 +17,11 @@ abbrev μ-loop : tie.MeasureT-loop
 loop-holds : tie.Need-loop-holds Inv-loop μ-loop
 loop-holds c = following-start _ _ _ _ _ _ _ _ _ (c .before .before .before .before .before .before .pre .room)
 
-mul-j : tie.Need-mul-j Inv-loop μ-loop
-mul-j c = omega (arith, c .before .before .before .before .before .before .before .before .pre .places)
+mul-place : tie.Need-mul-place Inv-loop μ-loop
+mul-place c = omega (arith, c .before .before .before .before .before .before .before .before .pre .places)
 
-shared-slice-read-j : tie.Need-shared-slice-read-j Inv-loop μ-loop
-shared-slice-read-j c = omega (arith, c .before .before .before .before .before .before .before .before .before .pre .places)
+shared-slice-read-place : tie.Need-shared-slice-read-place Inv-loop μ-loop
+shared-slice-read-place c = omega (arith, c .before .before .before .before .before .before .before .before .before .pre .places)
 
 add-lay-mapping : tie.Need-add-lay-mapping Inv-loop μ-loop
 add-lay-mapping c = omega (arith, c .before .before .before .before .before .before .before .before .before .before .pre .maps, c .before .before .before .before .before .before .before .before .before .before .pre .few)
@@ -58,8 +58,8 @@ lay-places-spec =
     Inv-loop
     μ-loop
     loop-holds
-    mul-j
-    shared-slice-read-j
+    mul-place
+    shared-slice-read-place
     add-lay-mapping
     lay-mapping-requires
     add-i

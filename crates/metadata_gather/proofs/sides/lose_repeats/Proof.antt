@@ -44,7 +44,7 @@ same-length-2 : tie.Need-same-length-2
 same-length-2 c = search needs
 
 returns : tie.Need-returns
-returns c = from-zero (c .before .before .before .before .lay-places .ensures) ∙ ap (layAll (now (c .before .before .before .before .before .before .before .before .before .before .before .before .before .before .before .before .before .before .before .before .before .before .before .args .gm)) 0 (now (c .before .before .before .before .before .before .before .before .before .before .before .before .before .before .before .before .before .before .before .before .before .before .before .args .gv)) 0) (first-picked _ _ _ _ _ _ (c .before .before .before .before .before .before .before .before .before .before .before .before .before .before .before .before .before .offsets .ensures .1) (omega (arith, c .before .before .before .before .before .before .before .before .before .before .before .before .before .before .before .before .before .before .before .before .before .before .before .pre .count, c .before .before .before .before .before .before .before .before .before .before .before .before .picks .ensures .0)) (c .before .before .before .before .before .before .before .before .before .before .before .before .picks .ensures .1))
+returns c = from-zero (c .before .before .before .before .lay-places .ensures) ∙ ap (layAll (now (c .before .before .before .before .before .before .before .before .before .before .before .before .before .before .before .before .before .before .before .before .before .before .before .args .both-mappings)) 0 (now (c .before .before .before .before .before .before .before .before .before .before .before .before .before .before .before .before .before .before .before .before .before .before .before .args .both-intervals)) 0) (first-picked _ _ _ _ _ _ (c .before .before .before .before .before .before .before .before .before .before .before .before .before .before .before .before .before .offsets .ensures .1) (omega (arith, c .before .before .before .before .before .before .before .before .before .before .before .before .before .before .before .before .before .before .before .before .before .before .before .pre .count, c .before .before .before .before .before .before .before .before .before .before .before .before .picks .ensures .0)) (c .before .before .before .before .before .before .before .before .before .before .before .before .picks .ensures .1))
 
 pub lose-repeats-spec : {M : Type 1} → statement M
 lose-repeats-spec =

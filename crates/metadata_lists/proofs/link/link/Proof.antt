@@ -27,23 +27,23 @@ name-at-requires c κs = omega (arith, c .before .before .before .before .before
 wide-requires : tie.Need-wide-requires Inv-loop μ-loop
 wide-requires c κs = search needs
 
-mul-nx : tie.Need-mul-nx Inv-loop μ-loop
-mul-nx c = let h = c .before .before .before .before .before .before .before .pre .2 (c .before .before .before .loop .i - 1) (omega arith) in let n = c .wide .ensures ∙ c .before .name-at .ensures in let z = c .before .before .before .loop .inv .2 in omega (arith, c .before .before .before .before .before .before .before .good .1 .1 .1 .0)
+mul-nexts : tie.Need-mul-nexts Inv-loop μ-loop
+mul-nexts c = let h = c .before .before .before .before .before .before .before .pre .2 (c .before .before .before .loop .i - 1) (omega arith) in let n = c .wide .ensures ∙ c .before .name-at .ensures in let z = c .before .before .before .loop .inv .2 in omega (arith, c .before .before .before .before .before .before .before .good .1 .1 .1 .0)
 
-slice-read-nx : tie.Need-slice-read-nx Inv-loop μ-loop
-slice-read-nx c = let h = c .before .before .before .before .before .before .before .before .pre .2 (c .before .before .before .before .loop .i - 1) (omega arith) in let n = c .before .wide .ensures ∙ c .before .before .name-at .ensures in let z = c .before .before .before .before .loop .inv .2 in omega arith
+slice-read-nexts : tie.Need-slice-read-nexts Inv-loop μ-loop
+slice-read-nexts c = let h = c .before .before .before .before .before .before .before .before .pre .2 (c .before .before .before .before .loop .i - 1) (omega arith) in let n = c .before .wide .ensures ∙ c .before .before .name-at .ensures in let z = c .before .before .before .before .loop .inv .2 in omega arith
 
-mul-nx-2 : tie.Need-mul-nx-2 Inv-loop μ-loop
-mul-nx-2 c = omega (arith, c .before .before .before .before .before .before .before .before .pre .1, c .before .before .before .before .before .before .before .before .good .1 .1 .0)
+mul-nexts-2 : tie.Need-mul-nexts-2 Inv-loop μ-loop
+mul-nexts-2 c = omega (arith, c .before .before .before .before .before .before .before .before .pre .1, c .before .before .before .before .before .before .before .before .good .1 .1 .0)
 
-slice-write-nx : tie.Need-slice-write-nx Inv-loop μ-loop
-slice-write-nx c = omega (arith, c .before .before .before .before .before .before .before .before .pre .1)
+slice-write-nexts : tie.Need-slice-write-nexts Inv-loop μ-loop
+slice-write-nexts c = omega (arith, c .before .before .before .before .before .before .before .before .pre .1)
 
-mul-head : tie.Need-mul-head Inv-loop μ-loop
-mul-head c = let h = c .before .before .before .before .before .before .before .before .pre .2 (c .before .before .before .before .loop .i - 1) (omega arith) in let n = c .before .wide .ensures ∙ c .before .before .name-at .ensures in let z = c .before .before .before .before .loop .inv .2 in omega (arith, c .before .before .before .before .before .before .before .before .good .1 .1 .1 .0)
+mul-firsts : tie.Need-mul-firsts Inv-loop μ-loop
+mul-firsts c = let h = c .before .before .before .before .before .before .before .before .pre .2 (c .before .before .before .before .loop .i - 1) (omega arith) in let n = c .before .wide .ensures ∙ c .before .before .name-at .ensures in let z = c .before .before .before .before .loop .inv .2 in omega (arith, c .before .before .before .before .before .before .before .before .good .1 .1 .1 .0)
 
-slice-write-head : tie.Need-slice-write-head Inv-loop μ-loop
-slice-write-head c = let h = c .before .before .before .before .before .before .before .before .pre .2 (c .before .before .before .before .loop .i - 1) (omega arith) in let n = c .before .wide .ensures ∙ c .before .before .name-at .ensures in let z = c .before .before .before .before .loop .inv .2 in omega arith
+slice-write-firsts : tie.Need-slice-write-firsts Inv-loop μ-loop
+slice-write-firsts c = let h = c .before .before .before .before .before .before .before .before .pre .2 (c .before .before .before .before .loop .i - 1) (omega arith) in let n = c .before .wide .ensures ∙ c .before .before .name-at .ensures in let z = c .before .before .before .before .loop .inv .2 in omega arith
 
 loop-less : tie.Need-loop-less Inv-loop μ-loop
 loop-less c = omega arith
@@ -79,12 +79,12 @@ link-spec =
     sub-i
     name-at-requires
     wide-requires
-    mul-nx
-    slice-read-nx
-    mul-nx-2
-    slice-write-nx
-    mul-head
-    slice-write-head
+    mul-nexts
+    slice-read-nexts
+    mul-nexts-2
+    slice-write-nexts
+    mul-firsts
+    slice-write-firsts
     loop-less
     loop-again
     same-length

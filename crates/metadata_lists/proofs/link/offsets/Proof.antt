@@ -20,11 +20,11 @@ loop-holds : tie.Need-loop-holds Inv-loop μ-loop
 unfolding before
 loop-holds c = (omega arith, refl, refl, λ s h. absurd (omega arith))
 
-mul-off : tie.Need-mul-off Inv-loop μ-loop
-mul-off c = omega (arith, c .before .before .before .before .pre .1, c .before .before .before .before .good .1 .1 .0)
+mul-starts : tie.Need-mul-starts Inv-loop μ-loop
+mul-starts c = omega (arith, c .before .before .before .before .pre .1, c .before .before .before .before .good .1 .1 .0)
 
-slice-write-off : tie.Need-slice-write-off Inv-loop μ-loop
-slice-write-off c = omega (arith, c .before .before .before .before .pre .1)
+slice-write-starts : tie.Need-slice-write-starts Inv-loop μ-loop
+slice-write-starts c = omega (arith, c .before .before .before .before .pre .1)
 
 count-at-requires : tie.Need-count-at-requires Inv-loop μ-loop
 count-at-requires c κs = omega (arith, c .before .before .before .before .pre .0)
@@ -32,8 +32,8 @@ count-at-requires c κs = omega (arith, c .before .before .before .before .pre .
 add-o : tie.Need-add-o Inv-loop μ-loop
 add-o c =
     let n = c .count-at .ensures in
-    let u : before (c .before .before .before .before .before .args .m .now) (c .before .before .loop .t + 1) ≤ before (c .before .before .before .before .before .args .m .now) (c .before .before .before .before .before .args .total) = before-up (c .before .before .before .before .before .args .m .now) (c .before .before .loop .t + 1) (c .before .before .before .before .before .args .total) (omega arith) in
-    omega (arith, before-next (c .before .before .before .before .before .args .m .now) (c .before .before .loop .t), c .before .before .before .before .before .pre .2, c .before .before .loop .inv .2)
+    let u : before (c .before .before .before .before .before .args .mappings .now) (c .before .before .loop .t + 1) ≤ before (c .before .before .before .before .before .args .mappings .now) (c .before .before .before .before .before .args .count) = before-up (c .before .before .before .before .before .args .mappings .now) (c .before .before .loop .t + 1) (c .before .before .before .before .before .args .count) (omega arith) in
+    omega (arith, before-next (c .before .before .before .before .before .args .mappings .now) (c .before .before .loop .t), c .before .before .before .before .before .pre .2, c .before .before .loop .inv .2)
 
 add-t : tie.Need-add-t Inv-loop μ-loop
 add-t c = omega arith
@@ -46,8 +46,8 @@ loop-again c =
     let n = c .count-at .ensures in (
       omega arith,
       simp length-set (c .before .before .loop .inv .1),
-      omega (arith, before-next (c .before .before .before .before .before .args .m .now) (c .before .before .loop .t), c .before .before .loop .inv .2),
-      off-turn (c .before .before .before .before .before .args .m .now) (c .before .before .loop .off) _ (c .before .before .loop .t) (c .before .before .loop .o) (omega (arith, c .before .before .before .before .before .pre .1)) (c .before .before .loop .inv .2) refl (c .before .before .loop .inv .3),
+      omega (arith, before-next (c .before .before .before .before .before .args .mappings .now) (c .before .before .loop .t), c .before .before .loop .inv .2),
+      off-turn (c .before .before .before .before .before .args .mappings .now) (c .before .before .loop .starts) _ (c .before .before .loop .t) (c .before .before .loop .o) (omega (arith, c .before .before .before .before .before .pre .1)) (c .before .before .loop .inv .2) refl (c .before .before .loop .inv .3),
     )
 
 same-length : tie.Need-same-length Inv-loop μ-loop
@@ -55,7 +55,7 @@ same-length c = c .before .loop .inv .1
 
 returns : tie.Need-returns Inv-loop μ-loop
 returns c =
-    let z : c .before .loop .t ≡ c .before .before .before .before .args .total = omega arith in
+    let z : c .before .loop .t ≡ c .before .before .before .before .args .count = omega arith in
     (c .before .loop .inv .2 ∙ ap (before _) z, λ s h. c .before .loop .inv .3 s (omega arith))
 
 pub offsets-spec : {M : Type 1} → statement M
@@ -65,8 +65,8 @@ offsets-spec =
     Inv-loop
     μ-loop
     loop-holds
-    mul-off
-    slice-write-off
+    mul-starts
+    slice-write-starts
     count-at-requires
     add-o
     add-t

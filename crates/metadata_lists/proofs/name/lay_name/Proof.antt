@@ -5,7 +5,7 @@ use Prim.Native.Nat.{ℕ, _≤_, _<_, _+_, _-_, _*_}
 use native.Mathlib.Omega.{arith}
 use borrow.Author.Needs.{needs}
 use lib.ListN.{length, getD}
-use Rattle.metadata_lists.specs.declared.heads.Walked.{Walked}
+use Rattle.metadata_lists.specs.declared.heads.WalkLaid.{WalkLaid}
 use Rattle.metadata_form.specs.Words.{laid-length}
 use Rattle.metadata_lists.specs.Heads.{endedOf}
 use Rattle.metadata_lists.specs.Name.{Going, Ready, start-going, turn-needs, turn-conflict, turn-going, turn-further, going-end}
@@ -32,11 +32,11 @@ copy-intervals-requires c κs =
     let d = c .before .before .before .loop .inv .0 .same in
     (omega arith, omega arith, omega (arith, c .before .before .before .loop .inv .1))
 
-mul-p : tie.Need-mul-p Inv-loop μ-loop
-mul-p c = let a = c .before .before .before .before .before .before .before .before .before .before .before .before .before .pre .offs in omega (arith, c .before .before .before .before .before .before .before .before .before .before .before .before .before .good .1 .1 .1 .0)
+mul-start : tie.Need-mul-start Inv-loop μ-loop
+mul-start c = let a = c .before .before .before .before .before .before .before .before .before .before .before .before .before .pre .offs in omega (arith, c .before .before .before .before .before .before .before .before .before .before .before .before .before .good .1 .1 .1 .0)
 
-shared-slice-read-p : tie.Need-shared-slice-read-p Inv-loop μ-loop
-shared-slice-read-p c = let a = c .before .before .before .before .before .before .before .before .before .before .before .before .before .before .pre .offs in omega arith
+shared-slice-read-start : tie.Need-shared-slice-read-start Inv-loop μ-loop
+shared-slice-read-start c = let a = c .before .before .before .before .before .before .before .before .before .before .before .before .before .before .pre .offs in omega arith
 
 count-at-requires : tie.Need-count-at-requires Inv-loop μ-loop
 count-at-requires c κs = omega (arith, c .before .before .before .before .before .before .before .before .before .before .before .before .before .before .pre .words, c .before .before .before .before .before .before .loop-test)
@@ -70,15 +70,15 @@ returns : tie.Need-returns Inv-loop μ-loop
 unfolding endedOf
 returns c =
     turn-conflict _ _ _ _ _ _ _ _ _ (c .before .before .before .before .before .before .before .before .before .before .before .before .before .before .before .before .before .before .before .before .before .before .pre) _ _ _ _ (c .before .before .before .before .before .before .before .before .before .before .before .before .before .before .before .loop .inv .0) (c .before .before .before .before .before .before .before .before .before .before .before .before .before .before .loop-test .taken) _ _ (sym (c .before .before .before .before .before .before .before .before .before .before .before .before .before .before .before .loop .inv .1)) (c .before .before .before .before .before .before .before .before .before .before .before .copy-intervals .ensures) _ _ refl (c .before .before .before .before .before .before .before .count-at .ensures) (c .before .before .before .before .merge-intervals .last .1 .1 .1 .1 .1 .1 .0)
-    (ap (λ (q : Walked). endedOf q (c .before .before .before .before .merge-intervals .last .1 .1 .1 .1 .1 .1 .0)) (sym (c .enum-told .given .1)) ∙ c .before .before .before .before .merge-intervals .ensures)
+    (ap (λ (q : WalkLaid). endedOf q (c .before .before .before .before .merge-intervals .last .1 .1 .1 .1 .1 .1 .0)) (sym (c .enum-told .given .1)) ∙ c .before .before .before .before .merge-intervals .ensures)
 
-enum-known-w : tie.Need-enum-known-w Inv-loop μ-loop
-enum-known-w c = search needs
+enum-known-walked : tie.Need-enum-known-walked Inv-loop μ-loop
+enum-known-walked c = search needs
 
-sub-n : tie.Need-sub-n Inv-loop μ-loop
-sub-n c =
+sub-laid : tie.Need-sub-laid Inv-loop μ-loop
+sub-laid c =
     (turn-going _ _ _ _ _ _ _ _ _ (c .before .before .before .before .before .before .before .before .before .before .before .before .before .before .before .before .before .before .before .before .before .before .before .pre) _ _ _ _ (c .before .before .before .before .before .before .before .before .before .before .before .before .before .before .before .before .loop .inv .0) (c .before .before .before .before .before .before .before .before .before .before .before .before .before .before .before .loop-test .taken) _ _ (sym (c .before .before .before .before .before .before .before .before .before .before .before .before .before .before .before .before .loop .inv .1)) (c .before .before .before .before .before .before .before .before .before .before .before .before .copy-intervals .ensures) _ _ refl (c .before .before .before .before .before .before .before .before .count-at .ensures) _ _ _
-    (ap (λ (q : Walked). endedOf q (c .before .before .before .before .before .merge-intervals .last .1 .1 .1 .1 .1 .1 .0)) (sym (c .before .w .given .1)) ∙ c .before .before .before .before .before .merge-intervals .ensures) (c .before .before .before .before .before .merge-intervals .kept .1 .1 .1 .1 .1 .1 .0) refl) .1
+    (ap (λ (q : WalkLaid). endedOf q (c .before .before .before .before .before .merge-intervals .last .1 .1 .1 .1 .1 .1 .0)) (sym (c .before .walked .given .1)) ∙ c .before .before .before .before .before .merge-intervals .ensures) (c .before .before .before .before .before .merge-intervals .kept .1 .1 .1 .1 .1 .1 .0) refl) .1
 
 mul-j : tie.Need-mul-j Inv-loop μ-loop
 mul-j c = let a = c .before .before .before .before .before .before .before .before .before .before .before .before .before .before .before .before .before .before .before .before .before .before .before .pre .links in omega (arith, c .before .before .before .before .before .before .before .before .before .before .before .before .before .before .before .before .before .before .before .before .before .before .before .good .1 .1 .1 .1 .0)
@@ -92,7 +92,7 @@ loop-less c = let f = turn-further _ _ _ _ _ _ _ _ _ (c .before .before .before 
 loop-again : tie.Need-loop-again Inv-loop μ-loop
 loop-again c = (
   (turn-going _ _ _ _ _ _ _ _ _ (c .before .before .before .before .before .before .before .before .before .before .before .before .before .before .before .before .before .before .before .before .before .before .before .before .pre) _ _ _ _ (c .before .before .before .before .before .before .before .before .before .before .before .before .before .before .before .before .before .loop .inv .0) (c .before .before .before .before .before .before .before .before .before .before .before .before .before .before .before .before .loop-test .taken) _ _ (sym (c .before .before .before .before .before .before .before .before .before .before .before .before .before .before .before .before .before .loop .inv .1)) (c .before .before .before .before .before .before .before .before .before .before .before .before .before .copy-intervals .ensures) _ _ refl (c .before .before .before .before .before .before .before .before .before .count-at .ensures) _ _ _
-      (ap (λ (q : Walked). endedOf q (c .before .before .before .before .before .before .merge-intervals .last .1 .1 .1 .1 .1 .1 .0)) (sym (c .before .before .w .given .1)) ∙ c .before .before .before .before .before .before .merge-intervals .ensures) (c .before .before .before .before .before .before .merge-intervals .kept .1 .1 .1 .1 .1 .1 .0) refl) .0,
+      (ap (λ (q : WalkLaid). endedOf q (c .before .before .before .before .before .before .merge-intervals .last .1 .1 .1 .1 .1 .1 .0)) (sym (c .before .before .walked .given .1)) ∙ c .before .before .before .before .before .before .merge-intervals .ensures) (c .before .before .before .before .before .before .merge-intervals .kept .1 .1 .1 .1 .1 .1 .0) refl) .0,
   laid-length _ _ _ _ (c .before .before .before .before .before .before .before .before .before .before .before .before .before .copy-intervals .ensures) ∙ c .before .before .before .before .before .before .before .before .before .before .before .before .before .before .before .before .before .loop .inv .1,
 )
 
@@ -118,8 +118,8 @@ lay-name-spec =
     loop-holds
     add-copy-intervals
     copy-intervals-requires
-    mul-p
-    shared-slice-read-p
+    mul-start
+    shared-slice-read-start
     count-at-requires
     add-merge-intervals
     merge-intervals-requires
@@ -127,8 +127,8 @@ lay-name-spec =
     same-length
     same-length-2
     returns
-    enum-known-w
-    sub-n
+    enum-known-walked
+    sub-laid
     mul-j
     shared-slice-read-j
     loop-less

@@ -5,7 +5,7 @@ use Prim.Native.Nat.{ℕ, _≤_, _<_, _+_, _-_, _*_}
 use native.Mathlib.Omega.{arith}
 use borrow.Author.Needs.{needs}
 use lib.ListN.{length, getD}
-use Rattle.metadata_lists.specs.declared.names.Names.{Names}
+use Rattle.metadata_lists.specs.declared.names.NamesLaid.{NamesLaid}
 use Rattle.metadata_lists.specs.Names.{endNames}
 use Rattle.metadata_lists.specs.NamesLaying.{AllReady, Laying, start-laying, place-ready, turn-fails, turn-lays, laying-end}
 use Rattle.metadata_lists.proofs.names.lay_names.Statement.{statement}
@@ -52,7 +52,7 @@ same-length-3 c = c .before .before .before .before .before .before .before .bef
 
 returns : tie.Need-returns Inv-loop μ-loop
 unfolding endNames
-returns c = turn-fails _ _ _ _ _ _ _ _ _ (c .before .before .before .before .before .before .before .before .before .before .before .before .before .before .before .before .before .before .before .before .before .before .pre) _ _ _ _ _ _ _ (c .before .before .before .before .before .before .before .before .before .before .before .before .before .loop .inv .0) (c .before .before .before .before .before .before .before .before .before .before .before .before .loop-test .taken) (c .before .before .before .before .before .before .before .before .lay-place .last .1 .1 .1 .1 .1 .1 .1 .1 .0) (c .before .before .before .before .before .before .before .before .lay-place .last .1 .1 .1 .1 .1 .1 .1 .1 .1 .1 .0) (ap (λ (x : Names). endNames x (c .before .before .before .before .before .before .before .before .lay-place .last .1 .1 .1 .1 .1 .1 .1 .1 .0) (c .before .before .before .before .before .before .before .before .lay-place .last .1 .1 .1 .1 .1 .1 .1 .1 .1 .1 .0)) (sym (c .enum-told .given .1)) ∙ c .before .before .before .before .before .before .before .before .lay-place .ensures)
+returns c = turn-fails _ _ _ _ _ _ _ _ _ (c .before .before .before .before .before .before .before .before .before .before .before .before .before .before .before .before .before .before .before .before .before .before .pre) _ _ _ _ _ _ _ (c .before .before .before .before .before .before .before .before .before .before .before .before .before .loop .inv .0) (c .before .before .before .before .before .before .before .before .before .before .before .before .loop-test .taken) (c .before .before .before .before .before .before .before .before .lay-place .last .1 .1 .1 .1 .1 .1 .1 .1 .0) (c .before .before .before .before .before .before .before .before .lay-place .last .1 .1 .1 .1 .1 .1 .1 .1 .1 .1 .0) (ap (λ (x : NamesLaid). endNames x (c .before .before .before .before .before .before .before .before .lay-place .last .1 .1 .1 .1 .1 .1 .1 .1 .0) (c .before .before .before .before .before .before .before .before .lay-place .last .1 .1 .1 .1 .1 .1 .1 .1 .1 .1 .0)) (sym (c .enum-told .given .1)) ∙ c .before .before .before .before .before .before .before .before .lay-place .ensures)
 
 enum-known-r : tie.Need-enum-known-r Inv-loop μ-loop
 enum-known-r c = search needs
@@ -65,7 +65,7 @@ loop-less c = omega arith
 
 loop-again : tie.Need-loop-again Inv-loop μ-loop
 loop-again c = (
-  turn-lays _ _ _ _ _ _ _ _ _ (c .before .before .before .before .before .before .before .before .before .before .before .before .before .before .before .before .before .before .before .before .before .before .before .pre) _ _ _ _ _ _ _ (c .before .before .before .before .before .before .before .before .before .before .before .before .before .before .loop .inv .0) (c .before .before .before .before .before .before .before .before .before .before .before .before .before .loop-test .taken) _ _ _ _ (c .before .before .before .before .before .before .before .before .before .lay-place .kept .1 .1 .1 .1 .1 .1 .1 .1 .0) (c .before .before .before .before .before .before .before .before .before .lay-place .kept .1 .1 .1 .1 .1 .1 .1 .1 .1 .1 .0) (ap (λ (x : Names). endNames x (c .before .before .before .before .before .before .before .before .before .lay-place .last .1 .1 .1 .1 .1 .1 .1 .1 .0) (c .before .before .before .before .before .before .before .before .before .lay-place .last .1 .1 .1 .1 .1 .1 .1 .1 .1 .1 .0)) (sym (c .before .r .given .1)) ∙ c .before .before .before .before .before .before .before .before .before .lay-place .ensures),
+  turn-lays _ _ _ _ _ _ _ _ _ (c .before .before .before .before .before .before .before .before .before .before .before .before .before .before .before .before .before .before .before .before .before .before .before .pre) _ _ _ _ _ _ _ (c .before .before .before .before .before .before .before .before .before .before .before .before .before .before .loop .inv .0) (c .before .before .before .before .before .before .before .before .before .before .before .before .before .loop-test .taken) _ _ _ _ (c .before .before .before .before .before .before .before .before .before .lay-place .kept .1 .1 .1 .1 .1 .1 .1 .1 .0) (c .before .before .before .before .before .before .before .before .before .lay-place .kept .1 .1 .1 .1 .1 .1 .1 .1 .1 .1 .0) (ap (λ (x : NamesLaid). endNames x (c .before .before .before .before .before .before .before .before .before .lay-place .last .1 .1 .1 .1 .1 .1 .1 .1 .0) (c .before .before .before .before .before .before .before .before .before .lay-place .last .1 .1 .1 .1 .1 .1 .1 .1 .1 .1 .0)) (sym (c .before .r .given .1)) ∙ c .before .before .before .before .before .before .before .before .before .lay-place .ensures),
   c .before .before .before .before .before .before .before .before .before .lay-place .kept .1 .1 .1 .1 .1 .1 .1 .0 ∙ c .before .before .before .before .before .before .before .before .before .before .before .before .before .before .loop .inv .1,
 )
 

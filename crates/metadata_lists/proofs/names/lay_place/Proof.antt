@@ -3,7 +3,7 @@ use mathlib.Core.Path.{_≡_, refl, sym, ap, _∙_}
 use Prim.Native.Nat.{ℕ, _≤_, _<_, _+_, _-_, _*_}
 use native.Mathlib.Omega.{arith}
 use lib.ListN.{length, getD}
-use Rattle.metadata_lists.specs.declared.heads.Walked.{Walked}
+use Rattle.metadata_lists.specs.declared.heads.WalkLaid.{WalkLaid}
 use Rattle.metadata_lists.specs.Heads.{endedOf}
 use Rattle.metadata_lists.specs.Names.{endNames, place-skip, place-conflict, place-laid, laid-bound}
 use borrow.Author.Needs.{needs}
@@ -27,21 +27,21 @@ unfolding endNames
 returns c = place-skip _ _ _ _ _ _ _ _ _ _ _ (c .before .before .wide .ensures ∙ c .before .before .before .name-at .ensures) (c .if1 .taken)
 
 lay-name-requires : tie.Need-lay-name-requires
-lay-name-requires c κs = c .before .before .before .before .before .before .before .before .before .before .before .before .before .before .pre .5 (ap (λ (y : ℕ). getD (c .before .before .before .before .before .before .before .before .before .before .before .before .before .before .args .head .now) y 0) (sym (c .before .before .before .before .wide .ensures ∙ c .before .before .before .before .before .name-at .ensures)) ∙ c .before .before .if1 .left)
+lay-name-requires c κs = c .before .before .before .before .before .before .before .before .before .before .before .before .before .before .pre .5 (ap (λ (y : ℕ). getD (c .before .before .before .before .before .before .before .before .before .before .before .before .before .before .args .firsts .now) y 0) (sym (c .before .before .before .before .wide .ensures ∙ c .before .before .before .before .before .name-at .ensures)) ∙ c .before .before .if1 .left)
 
 enum-told : tie.Need-enum-told
 enum-told c = search needs
 
-enum-known-w : tie.Need-enum-known-w
-enum-known-w c = search needs
+enum-known-walked : tie.Need-enum-known-walked
+enum-known-walked c = search needs
 
-sub-c : tie.Need-sub-c
-sub-c c = (laid-bound _ _ _ _ _ _ (c .before .before .before .before .before .before .before .lay-name .last .1 .1 .1 .1 .1 .1 .1 .0) _ _ (ap (λ (x : Walked). endedOf x (c .before .before .before .before .before .before .before .lay-name .last .1 .1 .1 .1 .1 .1 .1 .0)) (sym (c .before .w .given .1)) ∙ c .before .before .before .before .before .before .before .lay-name .ensures)) .0
+sub-size : tie.Need-sub-size
+sub-size c = (laid-bound _ _ _ _ _ _ (c .before .before .before .before .before .before .before .lay-name .last .1 .1 .1 .1 .1 .1 .1 .0) _ _ (ap (λ (x : WalkLaid). endedOf x (c .before .before .before .before .before .before .before .lay-name .last .1 .1 .1 .1 .1 .1 .1 .0)) (sym (c .before .walked .given .1)) ∙ c .before .before .before .before .before .before .before .lay-name .ensures)) .0
 
 put-mapping-requires : tie.Need-put-mapping-requires
 put-mapping-requires c κs =
-    let b = laid-bound _ _ _ _ _ _ (c .before .before .before .before .before .before .before .before .lay-name .last .1 .1 .1 .1 .1 .1 .1 .0) _ _ (ap (λ (x : Walked). endedOf x (c .before .before .before .before .before .before .before .before .lay-name .last .1 .1 .1 .1 .1 .1 .1 .0)) (sym (c .before .before .w .given .1)) ∙ c .before .before .before .before .before .before .before .before .lay-name .ensures) in
-    let r = c .before .before .before .before .before .before .before .before .before .before .before .before .before .before .before .before .before .before .before .before .before .before .before .pre .5 (ap (λ (y : ℕ). getD (c .before .before .before .before .before .before .before .before .before .before .before .before .before .before .before .before .before .before .before .before .before .before .before .args .head .now) y 0) (sym (c .before .before .before .before .before .before .before .before .before .before .before .before .before .wide .ensures ∙ c .before .before .before .before .before .before .before .before .before .before .before .before .before .before .name-at .ensures)) ∙ c .before .before .before .before .before .before .before .before .before .before .before .if1 .left) .room in
+    let b = laid-bound _ _ _ _ _ _ (c .before .before .before .before .before .before .before .before .lay-name .last .1 .1 .1 .1 .1 .1 .1 .0) _ _ (ap (λ (x : WalkLaid). endedOf x (c .before .before .before .before .before .before .before .before .lay-name .last .1 .1 .1 .1 .1 .1 .1 .0)) (sym (c .before .before .walked .given .1)) ∙ c .before .before .before .before .before .before .before .before .lay-name .ensures) in
+    let r = c .before .before .before .before .before .before .before .before .before .before .before .before .before .before .before .before .before .before .before .before .before .before .before .pre .5 (ap (λ (y : ℕ). getD (c .before .before .before .before .before .before .before .before .before .before .before .before .before .before .before .before .before .before .before .before .before .before .before .args .firsts .now) y 0) (sym (c .before .before .before .before .before .before .before .before .before .before .before .before .before .wide .ensures ∙ c .before .before .before .before .before .before .before .before .before .before .before .before .before .before .name-at .ensures)) ∙ c .before .before .before .before .before .before .before .before .before .before .before .if1 .left) .room in
     (omega (arith, c .before .before .before .before .before .before .before .before .before .before .before .before .before .before .before .before .before .before .before .before .before .before .before .pre .0), omega (arith, c .before .before .before .before .before .before .before .before .before .before .before .before .before .before .before .before .before .before .before .before .before .before .before .pre .4))
 
 add-t30 : tie.Need-add-t30
@@ -55,7 +55,7 @@ same-length-2 c = search needs
 
 returns-2 : tie.Need-returns-2
 unfolding endNames
-returns-2 c = place-conflict _ _ _ _ _ _ _ _ _ (c .before .before .before .before .before .before .lay-name .last .1 .1 .1 .1 .1 .1 .1 .0) _ _ (c .before .before .before .before .before .before .before .before .before .before .before .wide .ensures ∙ c .before .before .before .before .before .before .before .before .before .before .before .before .name-at .ensures) (c .before .before .before .before .before .before .before .before .before .if1 .left) (ap (λ (x : Walked). endedOf x (c .before .before .before .before .before .before .lay-name .last .1 .1 .1 .1 .1 .1 .1 .0)) (sym (c .enum-told .given .1)) ∙ c .before .before .before .before .before .before .lay-name .ensures)
+returns-2 c = place-conflict _ _ _ _ _ _ _ _ _ (c .before .before .before .before .before .before .lay-name .last .1 .1 .1 .1 .1 .1 .1 .0) _ _ (c .before .before .before .before .before .before .before .before .before .before .before .wide .ensures ∙ c .before .before .before .before .before .before .before .before .before .before .before .before .name-at .ensures) (c .before .before .before .before .before .before .before .before .before .if1 .left) (ap (λ (x : WalkLaid). endedOf x (c .before .before .before .before .before .before .lay-name .last .1 .1 .1 .1 .1 .1 .1 .0)) (sym (c .enum-told .given .1)) ∙ c .before .before .before .before .before .before .lay-name .ensures)
 
 same-length-3 : tie.Need-same-length-3
 same-length-3 c = search needs
@@ -68,7 +68,7 @@ same-length-5 c = search needs
 
 returns-3 : tie.Need-returns-3
 unfolding endNames
-returns-3 c = place-laid _ _ _ _ _ _ _ _ _ _ (c .before .before .before .before .before .before .before .before .before .before .before .lay-name .last .1 .1 .1 .1 .1 .1 .1 .0) _ _ _ _ (c .before .before .before .before .before .before .before .before .before .before .before .before .before .before .before .before .before .name-at .ensures) (ap (λ (y : ℕ). getD (c .before .before .before .before .before .before .before .before .before .before .before .before .before .before .before .before .before .before .before .before .before .before .before .before .before .before .args .head .now) y 0) (sym (c .before .before .before .before .before .before .before .before .before .before .before .before .before .before .before .before .wide .ensures)) ∙ c .before .before .before .before .before .before .before .before .before .before .before .before .before .before .if1 .left) (ap (λ (x : Walked). endedOf x (c .before .before .before .before .before .before .before .before .before .before .before .lay-name .last .1 .1 .1 .1 .1 .1 .1 .0)) (sym (c .before .before .before .before .before .w .given .1)) ∙ c .before .before .before .before .before .before .before .before .before .before .before .lay-name .ensures) refl (c .before .before .put-mapping .ensures)
+returns-3 c = place-laid _ _ _ _ _ _ _ _ _ _ (c .before .before .before .before .before .before .before .before .before .before .before .lay-name .last .1 .1 .1 .1 .1 .1 .1 .0) _ _ _ _ (c .before .before .before .before .before .before .before .before .before .before .before .before .before .before .before .before .before .name-at .ensures) (ap (λ (y : ℕ). getD (c .before .before .before .before .before .before .before .before .before .before .before .before .before .before .before .before .before .before .before .before .before .before .before .before .before .before .args .firsts .now) y 0) (sym (c .before .before .before .before .before .before .before .before .before .before .before .before .before .before .before .before .wide .ensures)) ∙ c .before .before .before .before .before .before .before .before .before .before .before .before .before .before .if1 .left) (ap (λ (x : WalkLaid). endedOf x (c .before .before .before .before .before .before .before .before .before .before .before .lay-name .last .1 .1 .1 .1 .1 .1 .1 .0)) (sym (c .before .before .before .before .before .walked .given .1)) ∙ c .before .before .before .before .before .before .before .before .before .before .before .lay-name .ensures) refl (c .before .before .put-mapping .ensures)
 
 pub lay-place-spec : {M : Type 1} → statement M
 lay-place-spec =
@@ -81,8 +81,8 @@ lay-place-spec =
     returns
     lay-name-requires
     enum-told
-    enum-known-w
-    sub-c
+    enum-known-walked
+    sub-size
     put-mapping-requires
     add-t30
     same-length

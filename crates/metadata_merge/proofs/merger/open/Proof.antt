@@ -6,44 +6,44 @@ use borrow.Author.Tests.{not-true, not-false}
 use denote.Ref.{now}
 use Rattle.metadata_form.specs.declared.header.Lengths.{Lengths}
 use Rattle.metadata_form.specs.Header.{lists}
-use Rattle.metadata_merge.specs.Merger.{size-same, open-unsized, open-facts, open-sound, open-commit, open-done}
+use Rattle.metadata_merge.specs.Merger.{fits-same, open-unfit, open-facts, open-sound, open-commit, open-done}
 use borrow.Author.Needs.{needs}
 use native.Mathlib.Omega.{arith}
 use Rattle.metadata_merge.proofs.merger.open.Statement.{statement}
 use Rattle.metadata_merge.proofs.merger.open.Tie as tie
 
-lengths-requires : tie.Need-lengths-requires
-lengths-requires c κs = tt
+lengths-by-requires : tie.Need-lengths-by-requires
+lengths-by-requires c κs = tt
 
-sized-requires : tie.Need-sized-requires
-sized-requires c κs = ap (λ (x : Lengths). x .mappings) (c .before .lengths .ensures)
+metadata-fits-requires : tie.Need-metadata-fits-requires
+metadata-fits-requires c κs = ap (λ (x : Lengths). x .mappings) (c .before .lengths-by .ensures)
 
 same-length : tie.Need-same-length
 same-length c = refl
 
 returns : tie.Need-returns
-returns c = open-unsized _ _ _ (size-same _ _ (c .before .sized .ensures) (c .before .before .before .lengths .ensures)) (not-true _ (c .if1 .taken))
+returns c = open-unfit _ _ _ (fits-same _ _ (c .before .metadata-fits .ensures) (c .before .before .before .lengths-by .ensures)) (not-true _ (c .if1 .taken))
 
 total-requires : tie.Need-total-requires
-total-requires c κs = let f = open-facts (c .before .before .before .before .before .before .before .before .before .before .args .h) (lists (now (c .before .before .before .before .before .before .before .before .before .before .args .symbols)) (now (c .before .before .before .before .before .before .before .before .before .before .args .partial)) (now (c .before .before .before .before .before .before .before .before .before .before .args .not-found)) (now (c .before .before .before .before .before .before .before .before .before .before .args .mappings)) (now (c .before .before .before .before .before .before .before .before .before .before .args .intervals))) _ (size-same _ _ (c .before .before .sized .ensures) (c .before .before .before .before .lengths .ensures)) (not-false _ (c .before .if1 .left)) .fit in let a = f .maps-lent in let b = f .maps-used in (b, omega arith)
+total-requires c κs = let f = open-facts (c .before .before .before .before .before .before .before .before .before .before .args .header) (lists (now (c .before .before .before .before .before .before .before .before .before .before .args .symbols)) (now (c .before .before .before .before .before .before .before .before .before .before .args .partial)) (now (c .before .before .before .before .before .before .before .before .before .before .args .not-found)) (now (c .before .before .before .before .before .before .before .before .before .before .args .mappings)) (now (c .before .before .before .before .before .before .before .before .before .before .args .intervals))) _ (fits-same _ _ (c .before .before .metadata-fits .ensures) (c .before .before .before .before .lengths-by .ensures)) (not-false _ (c .before .if1 .left)) .fit in let a = f .maps-lent in let b = f .maps-used in (b, omega arith)
 
 slice-aggregate-alone : tie.Need-slice-aggregate-alone
 slice-aggregate-alone c = search needs
 
 alone-requires : tie.Need-alone-requires
-alone-requires c κs = let f = open-facts (c .before .before .before .before .before .before .before .before .before .before .before .before .before .args .h) (lists (now (c .before .before .before .before .before .before .before .before .before .before .before .before .before .args .symbols)) (now (c .before .before .before .before .before .before .before .before .before .before .before .before .before .args .partial)) (now (c .before .before .before .before .before .before .before .before .before .before .before .before .before .args .not-found)) (now (c .before .before .before .before .before .before .before .before .before .before .before .before .before .args .mappings)) (now (c .before .before .before .before .before .before .before .before .before .before .before .before .before .args .intervals))) _ (size-same _ _ (c .before .before .before .before .before .sized .ensures) (c .before .before .before .before .before .before .before .lengths .ensures)) (not-false _ (c .before .before .before .before .if1 .left)) .fit in let a = f .symbols-lent in let b = f .symbols-used in let e = length-replicate {A = ℕ} 4096 0 in (b, omega arith, omega arith)
+alone-requires c κs = let f = open-facts (c .before .before .before .before .before .before .before .before .before .before .before .before .before .args .header) (lists (now (c .before .before .before .before .before .before .before .before .before .before .before .before .before .args .symbols)) (now (c .before .before .before .before .before .before .before .before .before .before .before .before .before .args .partial)) (now (c .before .before .before .before .before .before .before .before .before .before .before .before .before .args .not-found)) (now (c .before .before .before .before .before .before .before .before .before .before .before .before .before .args .mappings)) (now (c .before .before .before .before .before .before .before .before .before .before .before .before .before .args .intervals))) _ (fits-same _ _ (c .before .before .before .before .before .metadata-fits .ensures) (c .before .before .before .before .before .before .before .lengths-by .ensures)) (not-false _ (c .before .before .before .before .if1 .left)) .fit in let a = f .symbols-lent in let b = f .symbols-used in let e = length-replicate {A = ℕ} 4096 0 in (b, omega arith, omega arith)
 
 slice-aggregate-alone-2 : tie.Need-slice-aggregate-alone-2
 slice-aggregate-alone-2 c = search needs
 
 alone-requires-2 : tie.Need-alone-requires-2
-alone-requires-2 c κs = let f = open-facts (c .before .before .before .before .before .before .before .before .before .before .before .before .before .before .before .before .before .args .h) (lists (now (c .before .before .before .before .before .before .before .before .before .before .before .before .before .before .before .before .before .args .symbols)) (now (c .before .before .before .before .before .before .before .before .before .before .before .before .before .before .before .before .before .args .partial)) (now (c .before .before .before .before .before .before .before .before .before .before .before .before .before .before .before .before .before .args .not-found)) (now (c .before .before .before .before .before .before .before .before .before .before .before .before .before .before .before .before .before .args .mappings)) (now (c .before .before .before .before .before .before .before .before .before .before .before .before .before .before .before .before .before .args .intervals))) _ (size-same _ _ (c .before .before .before .before .before .before .before .before .before .sized .ensures) (c .before .before .before .before .before .before .before .before .before .before .before .lengths .ensures)) (not-false _ (c .before .before .before .before .before .before .before .before .if1 .left)) .fit in let a = f .partial-lent in let b = f .partial-used in let e = length-replicate {A = ℕ} 4096 0 in (b, omega arith, omega arith)
+alone-requires-2 c κs = let f = open-facts (c .before .before .before .before .before .before .before .before .before .before .before .before .before .before .before .before .before .args .header) (lists (now (c .before .before .before .before .before .before .before .before .before .before .before .before .before .before .before .before .before .args .symbols)) (now (c .before .before .before .before .before .before .before .before .before .before .before .before .before .before .before .before .before .args .partial)) (now (c .before .before .before .before .before .before .before .before .before .before .before .before .before .before .before .before .before .args .not-found)) (now (c .before .before .before .before .before .before .before .before .before .before .before .before .before .before .before .before .before .args .mappings)) (now (c .before .before .before .before .before .before .before .before .before .before .before .before .before .before .before .before .before .args .intervals))) _ (fits-same _ _ (c .before .before .before .before .before .before .before .before .before .metadata-fits .ensures) (c .before .before .before .before .before .before .before .before .before .before .before .lengths-by .ensures)) (not-false _ (c .before .before .before .before .before .before .before .before .if1 .left)) .fit in let a = f .partial-lent in let b = f .partial-used in let e = length-replicate {A = ℕ} 4096 0 in (b, omega arith, omega arith)
 
 slice-aggregate-alone-3 : tie.Need-slice-aggregate-alone-3
 slice-aggregate-alone-3 c = search needs
 
 alone-requires-3 : tie.Need-alone-requires-3
-alone-requires-3 c κs = let f = open-facts (c .before .before .before .before .before .before .before .before .before .before .before .before .before .before .before .before .before .before .before .before .before .args .h) (lists (now (c .before .before .before .before .before .before .before .before .before .before .before .before .before .before .before .before .before .before .before .before .before .args .symbols)) (now (c .before .before .before .before .before .before .before .before .before .before .before .before .before .before .before .before .before .before .before .before .before .args .partial)) (now (c .before .before .before .before .before .before .before .before .before .before .before .before .before .before .before .before .before .before .before .before .before .args .not-found)) (now (c .before .before .before .before .before .before .before .before .before .before .before .before .before .before .before .before .before .before .before .before .before .args .mappings)) (now (c .before .before .before .before .before .before .before .before .before .before .before .before .before .before .before .before .before .before .before .before .before .args .intervals))) _ (size-same _ _ (c .before .before .before .before .before .before .before .before .before .before .before .before .before .sized .ensures) (c .before .before .before .before .before .before .before .before .before .before .before .before .before .before .before .lengths .ensures)) (not-false _ (c .before .before .before .before .before .before .before .before .before .before .before .before .if1 .left)) .fit in let a = f .not-found-lent in let b = f .not-found-used in let e = length-replicate {A = ℕ} 4096 0 in (b, omega arith, omega arith)
+alone-requires-3 c κs = let f = open-facts (c .before .before .before .before .before .before .before .before .before .before .before .before .before .before .before .before .before .before .before .before .before .args .header) (lists (now (c .before .before .before .before .before .before .before .before .before .before .before .before .before .before .before .before .before .before .before .before .before .args .symbols)) (now (c .before .before .before .before .before .before .before .before .before .before .before .before .before .before .before .before .before .before .before .before .before .args .partial)) (now (c .before .before .before .before .before .before .before .before .before .before .before .before .before .before .before .before .before .before .before .before .before .args .not-found)) (now (c .before .before .before .before .before .before .before .before .before .before .before .before .before .before .before .before .before .before .before .before .before .args .mappings)) (now (c .before .before .before .before .before .before .before .before .before .before .before .before .before .before .before .before .before .before .before .before .before .args .intervals))) _ (fits-same _ _ (c .before .before .before .before .before .before .before .before .before .before .before .before .before .metadata-fits .ensures) (c .before .before .before .before .before .before .before .before .before .before .before .before .before .before .before .lengths-by .ensures)) (not-false _ (c .before .before .before .before .before .before .before .before .before .before .before .before .if1 .left)) .fit in let a = f .not-found-lent in let b = f .not-found-used in let e = length-replicate {A = ℕ} 4096 0 in (b, omega arith, omega arith)
 
 slice-aggregate-lose-repeats : tie.Need-slice-aggregate-lose-repeats
 slice-aggregate-lose-repeats c = search needs
@@ -52,7 +52,7 @@ slice-aggregate-lose-repeats-2 : tie.Need-slice-aggregate-lose-repeats-2
 slice-aggregate-lose-repeats-2 c = search needs
 
 lose-repeats-requires : tie.Need-lose-repeats-requires
-lose-repeats-requires c κs = open-sound (c .before .before .before .before .before .before .before .before .before .before .before .before .before .before .before .before .before .before .before .before .before .before .before .before .before .before .before .args .h) (lists (now (c .before .before .before .before .before .before .before .before .before .before .before .before .before .before .before .before .before .before .before .before .before .before .before .before .before .before .before .args .symbols)) (now (c .before .before .before .before .before .before .before .before .before .before .before .before .before .before .before .before .before .before .before .before .before .before .before .before .before .before .before .args .partial)) (now (c .before .before .before .before .before .before .before .before .before .before .before .before .before .before .before .before .before .before .before .before .before .before .before .before .before .before .before .args .not-found)) (now (c .before .before .before .before .before .before .before .before .before .before .before .before .before .before .before .before .before .before .before .before .before .before .before .before .before .before .before .args .mappings)) (now (c .before .before .before .before .before .before .before .before .before .before .before .before .before .before .before .before .before .before .before .before .before .before .before .before .before .before .before .args .intervals))) _ (size-same _ _ (c .before .before .before .before .before .before .before .before .before .before .before .before .before .before .before .before .before .before .before .sized .ensures) (c .before .before .before .before .before .before .before .before .before .before .before .before .before .before .before .before .before .before .before .before .before .lengths .ensures)) (not-false _ (c .before .before .before .before .before .before .before .before .before .before .before .before .before .before .before .before .before .before .if1 .left)) _ _ (length-replicate {A = ℕ} 8192 0) (length-replicate {A = ℕ} 196608 0)
+lose-repeats-requires c κs = open-sound (c .before .before .before .before .before .before .before .before .before .before .before .before .before .before .before .before .before .before .before .before .before .before .before .before .before .before .before .args .header) (lists (now (c .before .before .before .before .before .before .before .before .before .before .before .before .before .before .before .before .before .before .before .before .before .before .before .before .before .before .before .args .symbols)) (now (c .before .before .before .before .before .before .before .before .before .before .before .before .before .before .before .before .before .before .before .before .before .before .before .before .before .before .before .args .partial)) (now (c .before .before .before .before .before .before .before .before .before .before .before .before .before .before .before .before .before .before .before .before .before .before .before .before .before .before .before .args .not-found)) (now (c .before .before .before .before .before .before .before .before .before .before .before .before .before .before .before .before .before .before .before .before .before .before .before .before .before .before .before .args .mappings)) (now (c .before .before .before .before .before .before .before .before .before .before .before .before .before .before .before .before .before .before .before .before .before .before .before .before .before .before .before .args .intervals))) _ (fits-same _ _ (c .before .before .before .before .before .before .before .before .before .before .before .before .before .before .before .before .before .before .before .metadata-fits .ensures) (c .before .before .before .before .before .before .before .before .before .before .before .before .before .before .before .before .before .before .before .before .before .lengths-by .ensures)) (not-false _ (c .before .before .before .before .before .before .before .before .before .before .before .before .before .before .before .before .before .before .if1 .left)) _ _ (length-replicate {A = ℕ} 8192 0) (length-replicate {A = ℕ} 196608 0)
 
 slice-aggregate-commit : tie.Need-slice-aggregate-commit
 slice-aggregate-commit c = search needs
@@ -70,7 +70,7 @@ slice-aggregate-commit-5 : tie.Need-slice-aggregate-commit-5
 slice-aggregate-commit-5 c = search needs
 
 commit-requires : tie.Need-commit-requires
-commit-requires c κs = open-commit (c .before .before .before .before .before .before .before .before .before .before .before .before .before .before .before .before .before .before .before .before .before .before .before .before .before .before .before .before .before .before .before .before .before .before .before .before .before .before .before .before .args .h) (lists (now (c .before .before .before .before .before .before .before .before .before .before .before .before .before .before .before .before .before .before .before .before .before .before .before .before .before .before .before .before .before .before .before .before .before .before .before .before .before .before .before .before .args .symbols)) (now (c .before .before .before .before .before .before .before .before .before .before .before .before .before .before .before .before .before .before .before .before .before .before .before .before .before .before .before .before .before .before .before .before .before .before .before .before .before .before .before .before .args .partial)) (now (c .before .before .before .before .before .before .before .before .before .before .before .before .before .before .before .before .before .before .before .before .before .before .before .before .before .before .before .before .before .before .before .before .before .before .before .before .before .before .before .before .args .not-found)) (now (c .before .before .before .before .before .before .before .before .before .before .before .before .before .before .before .before .before .before .before .before .before .before .before .before .before .before .before .before .before .before .before .before .before .before .before .before .before .before .before .before .args .mappings)) (now (c .before .before .before .before .before .before .before .before .before .before .before .before .before .before .before .before .before .before .before .before .before .before .before .before .before .before .before .before .before .before .before .before .before .before .before .before .before .before .before .before .args .intervals))) _ (size-same _ _ (c .before .before .before .before .before .before .before .before .before .before .before .before .before .before .before .before .before .before .before .before .before .before .before .before .before .before .before .before .before .before .before .before .sized .ensures) (c .before .before .before .before .before .before .before .before .before .before .before .before .before .before .before .before .before .before .before .before .before .before .before .before .before .before .before .before .before .before .before .before .before .before .lengths .ensures)) (not-false _ (c .before .before .before .before .before .before .before .before .before .before .before .before .before .before .before .before .before .before .before .before .before .before .before .before .before .before .before .before .before .before .before .if1 .left)) _ _ (c .before .before .before .before .before .before .before .before .before .before .before .before .before .before .before .before .before .before .before .before .before .before .before .before .before .before .alone .ensures) _ _ (c .before .before .before .before .before .before .before .before .before .before .before .before .before .before .before .before .before .before .before .before .before .before .alone2 .ensures) _ _ (c .before .before .before .before .before .before .before .before .before .before .before .before .before .before .before .before .before .before .alone3 .ensures) _ _ _ _ _ _ (c .before .before .before .before .before .before .before .before .before .before .before .before .lose-repeats .ensures) (length-replicate {A = ℕ} 8192 0) (length-replicate {A = ℕ} 196608 0) _ (c .before .before .before .before .before .before .before .before .before .before .before .before .before .before .before .before .before .before .before .before .before .before .before .before .before .before .before .before .before .total .ensures) (c .before .before .before .before .before .before .before .before .before .before .before .before .before .before .before .before .before .before .before .before .before .before .before .before .before .before .alone .kept .1 .1 .0 ∙ (length-replicate {A = ℕ} 4096 0)) (c .before .before .before .before .before .before .before .before .before .before .before .before .before .before .before .before .before .before .before .before .before .before .alone2 .kept .1 .1 .0 ∙ (length-replicate {A = ℕ} 4096 0)) (c .before .before .before .before .before .before .before .before .before .before .before .before .before .before .before .before .before .before .alone3 .kept .1 .1 .0 ∙ (length-replicate {A = ℕ} 4096 0)) (c .before .before .before .before .before .before .before .before .before .before .before .before .lose-repeats .kept .1 .1 .1 .0 ∙ (length-replicate {A = ℕ} 8192 0)) (c .before .before .before .before .before .before .before .before .before .before .before .before .lose-repeats .kept .1 .1 .1 .1 .0 ∙ (length-replicate {A = ℕ} 196608 0)) _ refl
+commit-requires c κs = open-commit (c .before .before .before .before .before .before .before .before .before .before .before .before .before .before .before .before .before .before .before .before .before .before .before .before .before .before .before .before .before .before .before .before .before .before .before .before .before .before .before .before .args .header) (lists (now (c .before .before .before .before .before .before .before .before .before .before .before .before .before .before .before .before .before .before .before .before .before .before .before .before .before .before .before .before .before .before .before .before .before .before .before .before .before .before .before .before .args .symbols)) (now (c .before .before .before .before .before .before .before .before .before .before .before .before .before .before .before .before .before .before .before .before .before .before .before .before .before .before .before .before .before .before .before .before .before .before .before .before .before .before .before .before .args .partial)) (now (c .before .before .before .before .before .before .before .before .before .before .before .before .before .before .before .before .before .before .before .before .before .before .before .before .before .before .before .before .before .before .before .before .before .before .before .before .before .before .before .before .args .not-found)) (now (c .before .before .before .before .before .before .before .before .before .before .before .before .before .before .before .before .before .before .before .before .before .before .before .before .before .before .before .before .before .before .before .before .before .before .before .before .before .before .before .before .args .mappings)) (now (c .before .before .before .before .before .before .before .before .before .before .before .before .before .before .before .before .before .before .before .before .before .before .before .before .before .before .before .before .before .before .before .before .before .before .before .before .before .before .before .before .args .intervals))) _ (fits-same _ _ (c .before .before .before .before .before .before .before .before .before .before .before .before .before .before .before .before .before .before .before .before .before .before .before .before .before .before .before .before .before .before .before .before .metadata-fits .ensures) (c .before .before .before .before .before .before .before .before .before .before .before .before .before .before .before .before .before .before .before .before .before .before .before .before .before .before .before .before .before .before .before .before .before .before .lengths-by .ensures)) (not-false _ (c .before .before .before .before .before .before .before .before .before .before .before .before .before .before .before .before .before .before .before .before .before .before .before .before .before .before .before .before .before .before .before .if1 .left)) _ _ (c .before .before .before .before .before .before .before .before .before .before .before .before .before .before .before .before .before .before .before .before .before .before .before .before .before .before .alone .ensures) _ _ (c .before .before .before .before .before .before .before .before .before .before .before .before .before .before .before .before .before .before .before .before .before .before .alone2 .ensures) _ _ (c .before .before .before .before .before .before .before .before .before .before .before .before .before .before .before .before .before .before .alone3 .ensures) _ _ _ _ _ _ (c .before .before .before .before .before .before .before .before .before .before .before .before .lose-repeats .ensures) (length-replicate {A = ℕ} 8192 0) (length-replicate {A = ℕ} 196608 0) _ (c .before .before .before .before .before .before .before .before .before .before .before .before .before .before .before .before .before .before .before .before .before .before .before .before .before .before .before .before .before .total .ensures) (c .before .before .before .before .before .before .before .before .before .before .before .before .before .before .before .before .before .before .before .before .before .before .before .before .before .before .alone .kept .1 .1 .0 ∙ (length-replicate {A = ℕ} 4096 0)) (c .before .before .before .before .before .before .before .before .before .before .before .before .before .before .before .before .before .before .before .before .before .before .alone2 .kept .1 .1 .0 ∙ (length-replicate {A = ℕ} 4096 0)) (c .before .before .before .before .before .before .before .before .before .before .before .before .before .before .before .before .before .before .alone3 .kept .1 .1 .0 ∙ (length-replicate {A = ℕ} 4096 0)) (c .before .before .before .before .before .before .before .before .before .before .before .before .lose-repeats .kept .1 .1 .1 .0 ∙ (length-replicate {A = ℕ} 8192 0)) (c .before .before .before .before .before .before .before .before .before .before .before .before .lose-repeats .kept .1 .1 .1 .1 .0 ∙ (length-replicate {A = ℕ} 196608 0)) _ refl
 
 counted-requires : tie.Need-counted-requires
 counted-requires c κs = tt
@@ -91,14 +91,14 @@ same-length-6 : tie.Need-same-length-6
 same-length-6 c = c .before .before .before .before .before .before .before .before .before .before .before .commit .kept .1 .1 .1 .1 .0
 
 returns-2 : tie.Need-returns-2
-returns-2 c = open-done (c .before .before .before .before .before .before .before .before .before .before .before .before .before .before .before .before .before .before .before .before .before .before .before .before .before .before .before .before .before .before .before .before .before .before .before .before .before .before .before .before .before .before .before .before .before .before .before .before .before .before .before .before .args .h) (lists (now (c .before .before .before .before .before .before .before .before .before .before .before .before .before .before .before .before .before .before .before .before .before .before .before .before .before .before .before .before .before .before .before .before .before .before .before .before .before .before .before .before .before .before .before .before .before .before .before .before .before .before .before .before .args .symbols)) (now (c .before .before .before .before .before .before .before .before .before .before .before .before .before .before .before .before .before .before .before .before .before .before .before .before .before .before .before .before .before .before .before .before .before .before .before .before .before .before .before .before .before .before .before .before .before .before .before .before .before .before .before .before .args .partial)) (now (c .before .before .before .before .before .before .before .before .before .before .before .before .before .before .before .before .before .before .before .before .before .before .before .before .before .before .before .before .before .before .before .before .before .before .before .before .before .before .before .before .before .before .before .before .before .before .before .before .before .before .before .before .args .not-found)) (now (c .before .before .before .before .before .before .before .before .before .before .before .before .before .before .before .before .before .before .before .before .before .before .before .before .before .before .before .before .before .before .before .before .before .before .before .before .before .before .before .before .before .before .before .before .before .before .before .before .before .before .before .before .args .mappings)) (now (c .before .before .before .before .before .before .before .before .before .before .before .before .before .before .before .before .before .before .before .before .before .before .before .before .before .before .before .before .before .before .before .before .before .before .before .before .before .before .before .before .before .before .before .before .before .before .before .before .before .before .before .before .args .intervals))) _ (size-same _ _ (c .before .before .before .before .before .before .before .before .before .before .before .before .before .before .before .before .before .before .before .before .before .before .before .before .before .before .before .before .before .before .before .before .before .before .before .before .before .before .before .before .before .before .before .before .sized .ensures) (c .before .before .before .before .before .before .before .before .before .before .before .before .before .before .before .before .before .before .before .before .before .before .before .before .before .before .before .before .before .before .before .before .before .before .before .before .before .before .before .before .before .before .before .before .before .before .lengths .ensures)) (not-false _ (c .before .before .before .before .before .before .before .before .before .before .before .before .before .before .before .before .before .before .before .before .before .before .before .before .before .before .before .before .before .before .before .before .before .before .before .before .before .before .before .before .before .before .before .if1 .left)) _ _ (c .before .before .before .before .before .before .before .before .before .before .before .before .before .before .before .before .before .before .before .before .before .before .before .before .before .before .before .before .before .before .before .before .before .before .before .before .before .before .alone .ensures) _ _ (c .before .before .before .before .before .before .before .before .before .before .before .before .before .before .before .before .before .before .before .before .before .before .before .before .before .before .before .before .before .before .before .before .before .before .alone2 .ensures) _ _ (c .before .before .before .before .before .before .before .before .before .before .before .before .before .before .before .before .before .before .before .before .before .before .before .before .before .before .before .before .before .before .alone3 .ensures) _ _ _ _ _ _ (c .before .before .before .before .before .before .before .before .before .before .before .before .before .before .before .before .before .before .before .before .before .before .before .before .lose-repeats .ensures) (length-replicate {A = ℕ} 8192 0) (length-replicate {A = ℕ} 196608 0) _ (c .before .before .before .before .before .before .before .before .before .before .before .before .before .before .before .before .before .before .before .before .before .before .before .before .before .before .before .before .before .before .before .before .before .before .before .before .before .before .before .before .before .total .ensures) _ (c .before .before .before .before .before .before .before .before .before .before .before .commit .ensures) _ (c .counted .ensures)
+returns-2 c = open-done (c .before .before .before .before .before .before .before .before .before .before .before .before .before .before .before .before .before .before .before .before .before .before .before .before .before .before .before .before .before .before .before .before .before .before .before .before .before .before .before .before .before .before .before .before .before .before .before .before .before .before .before .before .args .header) (lists (now (c .before .before .before .before .before .before .before .before .before .before .before .before .before .before .before .before .before .before .before .before .before .before .before .before .before .before .before .before .before .before .before .before .before .before .before .before .before .before .before .before .before .before .before .before .before .before .before .before .before .before .before .before .args .symbols)) (now (c .before .before .before .before .before .before .before .before .before .before .before .before .before .before .before .before .before .before .before .before .before .before .before .before .before .before .before .before .before .before .before .before .before .before .before .before .before .before .before .before .before .before .before .before .before .before .before .before .before .before .before .before .args .partial)) (now (c .before .before .before .before .before .before .before .before .before .before .before .before .before .before .before .before .before .before .before .before .before .before .before .before .before .before .before .before .before .before .before .before .before .before .before .before .before .before .before .before .before .before .before .before .before .before .before .before .before .before .before .before .args .not-found)) (now (c .before .before .before .before .before .before .before .before .before .before .before .before .before .before .before .before .before .before .before .before .before .before .before .before .before .before .before .before .before .before .before .before .before .before .before .before .before .before .before .before .before .before .before .before .before .before .before .before .before .before .before .before .args .mappings)) (now (c .before .before .before .before .before .before .before .before .before .before .before .before .before .before .before .before .before .before .before .before .before .before .before .before .before .before .before .before .before .before .before .before .before .before .before .before .before .before .before .before .before .before .before .before .before .before .before .before .before .before .before .before .args .intervals))) _ (fits-same _ _ (c .before .before .before .before .before .before .before .before .before .before .before .before .before .before .before .before .before .before .before .before .before .before .before .before .before .before .before .before .before .before .before .before .before .before .before .before .before .before .before .before .before .before .before .before .metadata-fits .ensures) (c .before .before .before .before .before .before .before .before .before .before .before .before .before .before .before .before .before .before .before .before .before .before .before .before .before .before .before .before .before .before .before .before .before .before .before .before .before .before .before .before .before .before .before .before .before .before .lengths-by .ensures)) (not-false _ (c .before .before .before .before .before .before .before .before .before .before .before .before .before .before .before .before .before .before .before .before .before .before .before .before .before .before .before .before .before .before .before .before .before .before .before .before .before .before .before .before .before .before .before .if1 .left)) _ _ (c .before .before .before .before .before .before .before .before .before .before .before .before .before .before .before .before .before .before .before .before .before .before .before .before .before .before .before .before .before .before .before .before .before .before .before .before .before .before .alone .ensures) _ _ (c .before .before .before .before .before .before .before .before .before .before .before .before .before .before .before .before .before .before .before .before .before .before .before .before .before .before .before .before .before .before .before .before .before .before .alone2 .ensures) _ _ (c .before .before .before .before .before .before .before .before .before .before .before .before .before .before .before .before .before .before .before .before .before .before .before .before .before .before .before .before .before .before .alone3 .ensures) _ _ _ _ _ _ (c .before .before .before .before .before .before .before .before .before .before .before .before .before .before .before .before .before .before .before .before .before .before .before .before .lose-repeats .ensures) (length-replicate {A = ℕ} 8192 0) (length-replicate {A = ℕ} 196608 0) _ (c .before .before .before .before .before .before .before .before .before .before .before .before .before .before .before .before .before .before .before .before .before .before .before .before .before .before .before .before .before .before .before .before .before .before .before .before .before .before .before .before .before .total .ensures) _ (c .before .before .before .before .before .before .before .before .before .before .before .commit .ensures) _ (c .counted .ensures)
 
 pub open-spec : {M : Type 1} → statement M
 open-spec =
     tie.close
     (tie.spec
-    lengths-requires
-    sized-requires
+    lengths-by-requires
+    metadata-fits-requires
     same-length
     returns
     total-requires

@@ -5,34 +5,34 @@ use borrow.Author.Needs.{needs}
 use Rattle.metadata_merge.proofs.outcome.decide.Statement.{statement}
 use Rattle.metadata_merge.proofs.outcome.decide.Tie as tie
 
-enum-known-p : tie.Need-enum-known-p
-enum-known-p c = search needs
+enum-known-planned : tie.Need-enum-known-planned
+enum-known-planned c = search needs
 
 refusal-of-requires : tie.Need-refusal-of-requires
 refusal-of-requires c κs = search needs
 
-enum-known-p-2 : tie.Need-enum-known-p-2
-enum-known-p-2 c = search needs
+enum-known-planned-2 : tie.Need-enum-known-planned-2
+enum-known-planned-2 c = search needs
 
 fits-requires : tie.Need-fits-requires
 fits-requires c κs = search needs
 
 returns : tie.Need-returns
-returns c = decide-fault _ _ _ _ _ _ _ (c .before .before .p .given .1) (c .refusal-of .ensures)
+returns c = decide-fault _ _ _ _ _ _ _ (c .before .before .planned .given .1) (c .refusal-of .ensures)
 
 returns-2 : tie.Need-returns-2
-returns-2 c = decide-fits _ _ _ _ _ _ _ _ (c .before .before .before .p2 .given .1) (c .before .fits2 .ensures) (c .if1 .taken)
+returns-2 c = decide-fits _ _ _ _ _ _ _ _ (c .before .before .before .planned2 .given .1) (c .before .fits2 .ensures) (c .if1 .taken)
 
 returns-3 : tie.Need-returns-3
-returns-3 c = decide-short _ _ _ _ _ _ _ _ (c .before .before .before .p2 .given .1) (c .before .fits2 .ensures) (c .if1 .left)
+returns-3 c = decide-short _ _ _ _ _ _ _ _ (c .before .before .before .planned2 .given .1) (c .before .fits2 .ensures) (c .if1 .left)
 
 pub decide-spec : {M : Type 1} → statement M
 decide-spec =
     tie.close
     (tie.spec
-    enum-known-p
+    enum-known-planned
     refusal-of-requires
-    enum-known-p-2
+    enum-known-planned-2
     fits-requires
     returns
     returns-2

@@ -39,7 +39,7 @@ same-length-5 : tie.Need-same-length-5
 same-length-5 c = c .before .before .before .before .before .plan .kept .1 .1 .1 .1 .1 .1 .1 .1 .1 .0
 
 returns : tie.Need-returns
-returns c = outcomes _ _ _ _ _ _ (now (c .before .before .before .before .before .before .before .before .before .before .before .before .before .before .before .before .before .before .before .before .before .before .before .before .before .before .before .before .before .before .before .before .before .before .before .before .args .m)) (now (c .before .before .before .before .before .before .before .before .before .before .before .before .before .before .before .before .before .before .before .before .before .before .before .before .before .before .before .before .before .before .before .before .before .before .before .before .args .v)) _ _ _ (c .before .before .before .before .before .before .before .before .before .before .before .before .before .before .before .before .before .before .before .before .before .before .before .before .before .before .before .before .before .before .before .before .before .before .before .before .pre) _ _ _ (c .before .before .before .before .before .before .before .before .before .before .before .before .before .before .before .before .before .before .before .unite .ensures) _ _ _ (c .before .before .before .before .before .before .before .before .before .before .before .before .before .before .before .unite2 .ensures) _ _ _ (c .before .before .before .before .before .before .before .before .before .before .before .unite3 .ensures) _ (c .before .before .before .before .before .before .before .before .rest-known .ensures) _ _ _ (c .before .before .before .before .before .plan .ensures) _ (c .decide .ensures)
+returns c = outcomes _ _ _ _ _ _ (now (c .before .before .before .before .before .before .before .before .before .before .before .before .before .before .before .before .before .before .before .before .before .before .before .before .before .before .before .before .before .before .before .before .before .before .before .before .args .out-mappings)) (now (c .before .before .before .before .before .before .before .before .before .before .before .before .before .before .before .before .before .before .before .before .before .before .before .before .before .before .before .before .before .before .before .before .before .before .before .before .args .out-intervals)) _ _ _ (c .before .before .before .before .before .before .before .before .before .before .before .before .before .before .before .before .before .before .before .before .before .before .before .before .before .before .before .before .before .before .before .before .before .before .before .before .pre) _ _ _ (c .before .before .before .before .before .before .before .before .before .before .before .before .before .before .before .before .before .before .before .unite .ensures) _ _ _ (c .before .before .before .before .before .before .before .before .before .before .before .before .before .before .before .unite2 .ensures) _ _ _ (c .before .before .before .before .before .before .before .before .before .before .before .unite3 .ensures) _ (c .before .before .before .before .before .before .before .before .rest-known .ensures) _ _ _ (c .before .before .before .before .before .plan .ensures) _ (c .decide .ensures)
 
 pub outcome-spec : {M : Type 1} → statement M
 outcome-spec =

@@ -12,26 +12,26 @@ wide-requires c κs = search needs
 
 returns : tie.Need-returns
 unfolding restOf
-returns c = rw (le-ltb (c .before .before .args .h .dataset) (c .before .before .args .names) (let e = c .before .wide .ensures in omega arith)) refl
+returns c = rw (le-ltb (c .before .before .args .header .dataset) (c .before .before .args .names) (let e = c .before .wide .ensures in omega arith)) refl
 
 wide-requires-2 : tie.Need-wide-requires-2
 wide-requires-2 c κs = search needs
 
 returns-2 : tie.Need-returns-2
 unfolding restOf
-returns-2 c = rw (lt-ltb (c .before .before .before .before .args .h .dataset) (c .before .before .before .before .args .names) (let e = c .before .before .before .wide .ensures in omega arith), le-ltb (c .before .before .before .before .args .g .dataset) (c .before .before .before .before .args .names) (let e = c .before .wide2 .ensures in omega arith)) refl
+returns-2 c = rw (lt-ltb (c .before .before .before .before .args .header .dataset) (c .before .before .before .before .args .names) (let e = c .before .before .before .wide .ensures in omega arith), le-ltb (c .before .before .before .before .args .added .dataset) (c .before .before .before .before .args .names) (let e = c .before .wide2 .ensures in omega arith)) refl
 
 returns-3 : tie.Need-returns-3
 unfolding restOf
-returns-3 c = rw (lt-ltb (c .before .before .before .before .before .args .h .dataset) (c .before .before .before .before .before .args .names) (let e = c .before .before .before .before .wide .ensures in omega arith), lt-ltb (c .before .before .before .before .before .args .g .dataset) (c .before .before .before .before .before .args .names) (let e = c .before .before .wide2 .ensures in omega arith), not-true (c .before .before .before .before .before .args .a) (c .if3 .taken)) refl
+returns-3 c = rw (lt-ltb (c .before .before .before .before .before .args .header .dataset) (c .before .before .before .before .before .args .names) (let e = c .before .before .before .before .wide .ensures in omega arith), lt-ltb (c .before .before .before .before .before .args .added .dataset) (c .before .before .before .before .before .args .names) (let e = c .before .before .wide2 .ensures in omega arith), not-true (c .before .before .before .before .before .args .symbols-known) (c .if3 .taken)) refl
 
 returns-4 : tie.Need-returns-4
 unfolding restOf
-returns-4 c = rw (lt-ltb (c .before .before .before .before .before .before .args .h .dataset) (c .before .before .before .before .before .before .args .names) (let e = c .before .before .before .before .before .wide .ensures in omega arith), lt-ltb (c .before .before .before .before .before .before .args .g .dataset) (c .before .before .before .before .before .before .args .names) (let e = c .before .before .before .wide2 .ensures in omega arith), not-false (c .before .before .before .before .before .before .args .a) (c .before .if3 .left), not-true (c .before .before .before .before .before .before .args .b) (c .if4 .taken)) refl
+returns-4 c = rw (lt-ltb (c .before .before .before .before .before .before .args .header .dataset) (c .before .before .before .before .before .before .args .names) (let e = c .before .before .before .before .before .wide .ensures in omega arith), lt-ltb (c .before .before .before .before .before .before .args .added .dataset) (c .before .before .before .before .before .before .args .names) (let e = c .before .before .before .wide2 .ensures in omega arith), not-false (c .before .before .before .before .before .before .args .symbols-known) (c .before .if3 .left), not-true (c .before .before .before .before .before .before .args .partial-known) (c .if4 .taken)) refl
 
 returns-5 : tie.Need-returns-5
 unfolding restOf
-returns-5 c = rw (lt-ltb (c .before .before .before .before .before .before .args .h .dataset) (c .before .before .before .before .before .before .args .names) (let e = c .before .before .before .before .before .wide .ensures in omega arith), lt-ltb (c .before .before .before .before .before .before .args .g .dataset) (c .before .before .before .before .before .before .args .names) (let e = c .before .before .before .wide2 .ensures in omega arith), not-false (c .before .before .before .before .before .before .args .a) (c .before .if3 .left), not-false (c .before .before .before .before .before .before .args .b) (c .if4 .left)) refl
+returns-5 c = rw (lt-ltb (c .before .before .before .before .before .before .args .header .dataset) (c .before .before .before .before .before .before .args .names) (let e = c .before .before .before .before .before .wide .ensures in omega arith), lt-ltb (c .before .before .before .before .before .before .args .added .dataset) (c .before .before .before .before .before .before .args .names) (let e = c .before .before .before .wide2 .ensures in omega arith), not-false (c .before .before .before .before .before .before .args .symbols-known) (c .before .if3 .left), not-false (c .before .before .before .before .before .before .args .partial-known) (c .if4 .left)) refl
 
 pub rest-known-spec : {M : Type 1} → statement M
 rest-known-spec =

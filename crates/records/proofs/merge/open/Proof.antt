@@ -1,23 +1,24 @@
 -- 15 and 12 are tested before anything is laid; then the streams are laid and the heap is put in order. Assumes nothing.
-use mathlib.Core.Path.{_≡_, refl}
+use mathlib.Core.Path.{_≡_, refl, sym, _∙_}
 use mathlib.Core.Bool.{true, false}
 use Prim.Native.Nat.{ℕ}
 use native.Mathlib.Omega.{arith}
 use lib.ListN.{length}
-use Rattle.records_rules.specs.State.{rightMemory, rightStreams, opening}
-use Rattle.records_rules.specs.Opening.{bit-no, bit-yes, right-room, right-count, opened}
+use borrow.Author.Tests.{not-true, not-false}
+use Rattle.records_rules.specs.State.{arraysFit, rightStreams, opening}
+use Rattle.records_rules.specs.Opening.{arrays-room, right-count, opened}
 use borrow.Author.Needs.{needs}
 use Rattle.records.proofs.merge.open.Statement.{statement}
 use Rattle.records.proofs.merge.open.Tie as tie
 
-memory-requires : tie.Need-memory-requires
-memory-requires c κs = search needs
+arrays-fit-requires : tie.Need-arrays-fit-requires
+arrays-fit-requires c κs = search needs
 
 returns : tie.Need-returns
 unfolding opening
 returns c =
     let a = c .before .before .before .before .before .before .before .before .before .before .args in
-    let no : rightMemory 0 (length (a .marks .now)) (length (a .times .now)) (length (a .places .now)) (length (a .heads .now)) (length (a .heap .now)) ≡ false = bit-no _ (c .before .memory .ensures) (c .if1 .taken) in
+    let no : arraysFit 0 (length (a .marks .now)) (length (a .times .now)) (length (a .places .now)) (length (a .heads .now)) (length (a .heap .now)) ≡ false = sym (c .before .arrays-fit .ensures) ∙ not-true _ (c .if1 .taken) in
     rw no (refl, ((λ e. record { marks = refl; times = refl; places = refl; heads = refl; heap = refl }), (λ e. let z : _≡_ {A = ℕ} 0 1 = cc in absurd (omega arith))))
 
 streams-right-requires : tie.Need-streams-right-requires
@@ -27,29 +28,29 @@ returns-2 : tie.Need-returns-2
 unfolding opening
 returns-2 c =
     let a = c .before .before .before .before .before .before .before .before .before .before .before .before .args in
-    let yes : rightMemory 0 (length (a .marks .now)) (length (a .times .now)) (length (a .places .now)) (length (a .heads .now)) (length (a .heap .now)) ≡ true = bit-yes _ (c .before .before .before .memory .ensures) (c .before .before .if1 .left) in
-    let no : rightStreams (length (a .buffer .now)) (a .cuts .now) (length (a .hints .now)) ≡ false = bit-no _ (c .before .streams-right .ensures) (c .if2 .taken) in
+    let yes : arraysFit 0 (length (a .marks .now)) (length (a .times .now)) (length (a .places .now)) (length (a .heads .now)) (length (a .heap .now)) ≡ true = sym (c .before .before .before .arrays-fit .ensures) ∙ not-false _ (c .before .before .if1 .left) in
+    let no : rightStreams (length (a .buffer .now)) (a .cuts .now) (length (a .hints .now)) ≡ false = sym (c .before .streams-right .ensures) ∙ not-true _ (c .if2 .taken) in
     rw (yes, no) (refl, ((λ e. record { marks = refl; times = refl; places = refl; heads = refl; heap = refl }), (λ e. let z : _≡_ {A = ℕ} 0 1 = cc in absurd (omega arith))))
 
-sub-n : tie.Need-sub-n
-sub-n c =
+sub-streams : tie.Need-sub-streams
+sub-streams c =
     let a = c .before .before .before .before .before .before .before .before .before .before .before .before .args in
-    let room = right-room 0 (a .marks .now) (a .times .now) (a .places .now) (a .heads .now) (a .heap .now) (bit-yes _ (c .before .before .before .memory .ensures) (c .before .before .if1 .left)) in
-    let count = right-count (length (a .buffer .now)) (a .cuts .now) (length (a .hints .now)) (bit-yes _ (c .before .streams-right .ensures) (c .if2 .left)) in
+    let room = arrays-room 0 (a .marks .now) (a .times .now) (a .places .now) (a .heads .now) (a .heap .now) (sym (c .before .before .before .arrays-fit .ensures) ∙ not-false _ (c .before .before .if1 .left)) in
+    let count = right-count (length (a .buffer .now)) (a .cuts .now) (length (a .hints .now)) (sym (c .before .streams-right .ensures) ∙ not-false _ (c .if2 .left)) in
     omega (arith, count .0)
 
 lay-streams-requires : tie.Need-lay-streams-requires
 lay-streams-requires c κs =
     let a = c .before .before .before .before .before .before .before .before .before .before .before .before .before .before .before .before .before .args in
-    let room = right-room 0 (a .marks .now) (a .times .now) (a .places .now) (a .heads .now) (a .heap .now) (bit-yes _ (c .before .before .before .before .before .before .before .before .memory .ensures) (c .before .before .before .before .before .before .before .if1 .left)) in
-    let count = right-count (length (a .buffer .now)) (a .cuts .now) (length (a .hints .now)) (bit-yes _ (c .before .before .before .before .before .before .streams-right .ensures) (c .before .before .before .before .before .if2 .left)) in
+    let room = arrays-room 0 (a .marks .now) (a .times .now) (a .places .now) (a .heads .now) (a .heap .now) (sym (c .before .before .before .before .before .before .before .before .arrays-fit .ensures) ∙ not-false _ (c .before .before .before .before .before .before .before .if1 .left)) in
+    let count = right-count (length (a .buffer .now)) (a .cuts .now) (length (a .hints .now)) (sym (c .before .before .before .before .before .before .streams-right .ensures) ∙ not-false _ (c .before .before .before .before .before .if2 .left)) in
     omega (arith, count .1, room)
 
 heapify-requires : tie.Need-heapify-requires
 heapify-requires c κs =
     let a = c .before .before .before .before .before .before .before .before .before .before .before .before .before .before .before .before .before .before .before .before .before .before .before .before .before .before .before .before .before .before .args in
-    let room = right-room 0 (a .marks .now) (a .times .now) (a .places .now) (a .heads .now) (a .heap .now) (bit-yes _ (c .before .before .before .before .before .before .before .before .before .before .before .before .before .before .before .before .before .before .before .before .before .memory .ensures) (c .before .before .before .before .before .before .before .before .before .before .before .before .before .before .before .before .before .before .before .before .if1 .left)) in
-    let count = right-count (length (a .buffer .now)) (a .cuts .now) (length (a .hints .now)) (bit-yes _ (c .before .before .before .before .before .before .before .before .before .before .before .before .before .before .before .before .before .before .before .streams-right .ensures) (c .before .before .before .before .before .before .before .before .before .before .before .before .before .before .before .before .before .before .if2 .left)) in
+    let room = arrays-room 0 (a .marks .now) (a .times .now) (a .places .now) (a .heads .now) (a .heap .now) (sym (c .before .before .before .before .before .before .before .before .before .before .before .before .before .before .before .before .before .before .before .before .before .arrays-fit .ensures) ∙ not-false _ (c .before .before .before .before .before .before .before .before .before .before .before .before .before .before .before .before .before .before .before .before .if1 .left)) in
+    let count = right-count (length (a .buffer .now)) (a .cuts .now) (length (a .hints .now)) (sym (c .before .before .before .before .before .before .before .before .before .before .before .before .before .before .before .before .before .before .before .streams-right .ensures) ∙ not-false _ (c .before .before .before .before .before .before .before .before .before .before .before .before .before .before .before .before .before .before .if2 .left)) in
     let kept = c .before .before .before .before .before .before .before .before .before .before .before .before .lay-streams .kept .1 .1 in
     omega (arith, count .1, room, kept .0, kept .1 .0, kept .1 .1 .0, kept .1 .1 .1 .0, kept .1 .1 .1 .1 .0)
 
@@ -72,21 +73,21 @@ returns-3 : tie.Need-returns-3
 unfolding opening
 returns-3 c =
     let a = c .before .before .before .before .before .before .before .before .before .before .before .before .before .before .before .before .before .before .before .before .before .before .before .before .before .before .before .before .before .before .before .before .before .args in
-    let room = right-room 0 (a .marks .now) (a .times .now) (a .places .now) (a .heads .now) (a .heap .now) (bit-yes _ (c .before .before .before .before .before .before .before .before .before .before .before .before .before .before .before .before .before .before .before .before .before .before .before .before .memory .ensures) (c .before .before .before .before .before .before .before .before .before .before .before .before .before .before .before .before .before .before .before .before .before .before .before .if1 .left)) in
-    let count = right-count (length (a .buffer .now)) (a .cuts .now) (length (a .hints .now)) (bit-yes _ (c .before .before .before .before .before .before .before .before .before .before .before .before .before .before .before .before .before .before .before .before .before .before .streams-right .ensures) (c .before .before .before .before .before .before .before .before .before .before .before .before .before .before .before .before .before .before .before .before .before .if2 .left)) in
-    let yes : rightMemory 0 (length (a .marks .now)) (length (a .times .now)) (length (a .places .now)) (length (a .heads .now)) (length (a .heap .now)) ≡ true = bit-yes _ (c .before .before .before .before .before .before .before .before .before .before .before .before .before .before .before .before .before .before .before .before .before .before .before .before .memory .ensures) (c .before .before .before .before .before .before .before .before .before .before .before .before .before .before .before .before .before .before .before .before .before .before .before .if1 .left) in
-    let yes₂ : rightStreams (length (a .buffer .now)) (a .cuts .now) (length (a .hints .now)) ≡ true = bit-yes _ (c .before .before .before .before .before .before .before .before .before .before .before .before .before .before .before .before .before .before .before .before .before .before .streams-right .ensures) (c .before .before .before .before .before .before .before .before .before .before .before .before .before .before .before .before .before .before .before .before .before .if2 .left) in
+    let room = arrays-room 0 (a .marks .now) (a .times .now) (a .places .now) (a .heads .now) (a .heap .now) (sym (c .before .before .before .before .before .before .before .before .before .before .before .before .before .before .before .before .before .before .before .before .before .before .before .before .arrays-fit .ensures) ∙ not-false _ (c .before .before .before .before .before .before .before .before .before .before .before .before .before .before .before .before .before .before .before .before .before .before .before .if1 .left)) in
+    let count = right-count (length (a .buffer .now)) (a .cuts .now) (length (a .hints .now)) (sym (c .before .before .before .before .before .before .before .before .before .before .before .before .before .before .before .before .before .before .before .before .before .before .streams-right .ensures) ∙ not-false _ (c .before .before .before .before .before .before .before .before .before .before .before .before .before .before .before .before .before .before .before .before .before .if2 .left)) in
+    let yes : arraysFit 0 (length (a .marks .now)) (length (a .times .now)) (length (a .places .now)) (length (a .heads .now)) (length (a .heap .now)) ≡ true = sym (c .before .before .before .before .before .before .before .before .before .before .before .before .before .before .before .before .before .before .before .before .before .before .before .before .arrays-fit .ensures) ∙ not-false _ (c .before .before .before .before .before .before .before .before .before .before .before .before .before .before .before .before .before .before .before .before .before .before .before .if1 .left) in
+    let yes₂ : rightStreams (length (a .buffer .now)) (a .cuts .now) (length (a .hints .now)) ≡ true = sym (c .before .before .before .before .before .before .before .before .before .before .before .before .before .before .before .before .before .before .before .before .before .before .streams-right .ensures) ∙ not-false _ (c .before .before .before .before .before .before .before .before .before .before .before .before .before .before .before .before .before .before .before .before .before .if2 .left) in
     rw (yes, yes₂) (refl, ((λ e. let z : _≡_ {A = ℕ} 0 1 = cc in absurd (omega arith)), (λ e. opened (omega (arith, count .1)) (count .2) (c .before .before .before .before .before .before .before .before .before .before .before .before .before .before .before .lay-streams .ensures) (c .before .before .heapify .ensures))))
 
 pub open-spec : {M : Type 1} → statement M
 open-spec =
     tie.close
     (tie.spec
-    memory-requires
+    arrays-fit-requires
     returns
     streams-right-requires
     returns-2
-    sub-n
+    sub-streams
     lay-streams-requires
     heapify-requires
     same-length

@@ -7,10 +7,7 @@ returns : tie.Need-returns
 returns c = simp (eq-eqb _ _ (c .if1 .taken))
 
 returns-2 : tie.Need-returns-2
-returns-2 c = simp (ne-eqb _ _ (c .before .if1 .left), eq-eqb _ _ (c .if2 .taken))
-
-returns-3 : tie.Need-returns-3
-returns-3 c = simp (ne-eqb _ _ (c .before .if1 .left), ne-eqb _ _ (c .if2 .left))
+returns-2 c = simp (ne-eqb _ _ (c .if1 .left))
 
 pub hints-right-spec : {M : Type 1} → statement M
-hints-right-spec = tie.close (tie.spec returns returns-2 returns-3)
+hints-right-spec = tie.close (tie.spec returns returns-2)

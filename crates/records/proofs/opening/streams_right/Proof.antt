@@ -1,11 +1,9 @@
 -- The tests of the definition, one after the other. Assumes nothing.
-use mathlib.Core.Bool.{_||_}
+use mathlib.Core.Path.{sym, _∙_}
 use Prim.Native.Nat.{_-_}
 use lib.ListN.{length, getD}
-use lib.Dec.{eqb}
-use borrow.Author.Tests.{lt-leb, le-leb, eq-eqb, ne-eqb}
+use borrow.Author.Tests.{lt-leb, le-leb, eq-eqb, ne-eqb, not-true, not-false}
 use Rattle.records_rules.specs.State.{rightStreams}
-use Rattle.records_rules.specs.Opening.{bit-no, bit-yes}
 use borrow.Author.Needs.{needs}
 use Rattle.records.proofs.opening.streams_right.Statement.{statement}
 use Rattle.records.proofs.opening.streams_right.Tie as tie
@@ -61,7 +59,7 @@ unfolding rightStreams
 returns-5 c =
     let a = c .before .before .before .before .before .before .before .before .before .args in
     let cuts = a .cuts .now in
-    simp (le-leb 2 (length cuts) (c .before .before .before .before .before .before .before .if1 .left), le-leb (length cuts) 257 (c .before .before .before .before .before .before .if2 .left), eq-eqb (getD cuts 0 0) 0 (c .before .before .before .before .if3 .left), eq-eqb (getD cuts (length cuts - 1) 0) (a .size) (c .before .before .if4 .left), bit-no (eqb (a .hints) 0 || eqb (a .hints) (length cuts - 1)) (c .before .hints-right .ensures) (c .if5 .taken))
+    simp (le-leb 2 (length cuts) (c .before .before .before .before .before .before .before .if1 .left), le-leb (length cuts) 257 (c .before .before .before .before .before .before .if2 .left), eq-eqb (getD cuts 0 0) 0 (c .before .before .before .before .if3 .left), eq-eqb (getD cuts (length cuts - 1) 0) (a .size) (c .before .before .if4 .left), sym (c .before .hints-right .ensures) ∙ not-true _ (c .if5 .taken))
 
 rising-requires : tie.Need-rising-requires
 rising-requires c κs = search needs
@@ -71,7 +69,7 @@ unfolding rightStreams
 returns-6 c =
     let a = c .before .before .before .before .before .before .before .before .before .before .args in
     let cuts = a .cuts .now in
-    simp (le-leb 2 (length cuts) (c .before .before .before .before .before .before .before .before .if1 .left), le-leb (length cuts) 257 (c .before .before .before .before .before .before .before .if2 .left), eq-eqb (getD cuts 0 0) 0 (c .before .before .before .before .before .if3 .left), eq-eqb (getD cuts (length cuts - 1) 0) (a .size) (c .before .before .before .if4 .left), bit-yes (eqb (a .hints) 0 || eqb (a .hints) (length cuts - 1)) (c .before .before .hints-right .ensures) (c .before .if5 .left)) (c .rising .ensures)
+    simp (le-leb 2 (length cuts) (c .before .before .before .before .before .before .before .before .if1 .left), le-leb (length cuts) 257 (c .before .before .before .before .before .before .before .if2 .left), eq-eqb (getD cuts 0 0) 0 (c .before .before .before .before .before .if3 .left), eq-eqb (getD cuts (length cuts - 1) 0) (a .size) (c .before .before .before .if4 .left), sym (c .before .before .hints-right .ensures) ∙ not-false _ (c .before .if5 .left)) (c .rising .ensures)
 
 pub streams-right-spec : {M : Type 1} → statement M
 streams-right-spec =
