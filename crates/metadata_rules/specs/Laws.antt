@@ -112,9 +112,9 @@ no-conflict : (y : ℕ) (q : Merged) (ms : List Mapping) → under y conflict q 
 unfolding under
 no-conflict y q ms e = let z : _≡_ {A = ℕ} 0 1 = cc in omega arith
 
-no-conflict : (y : ℕ) (c : List Interval) (ms : List Mapping) → under y (laid c) conflicting ≡ merged ms → ⊥
+none-conflicting : (y : ℕ) (c : List Interval) (ms : List Mapping) → under y (laid c) conflicting ≡ merged ms → ⊥
 unfolding under inFront
-no-conflict y c ms e = let z : _≡_ {A = ℕ} 0 1 = cc in omega arith
+none-conflicting y c ms e = let z : _≡_ {A = ℕ} 0 1 = cc in omega arith
 
 in-front : (y : ℕ) (c : List Interval) (t ms : List Mapping) → under y (laid c) (merged t) ≡ merged ms → mapping y c ∷ t ≡ ms
 unfolding under inFront
@@ -131,7 +131,7 @@ collect-walks (y ∷ ns) f ms e n h a = go (f y) refl (collect ns f) refl e h (�
 
     go : (w : Walked) → f y ≡ w → (q : Merged) → collect ns f ≡ q → under y w q ≡ merged ms → (n ≡ y) ⊎ Mem n ns → ((t : List Mapping) → collect ns f ≡ merged t → Mem n ns → ⊥) → ⊥
     go conflict b q c g k ih = no-conflict y q ms g
-    go (laid xs) b conflicting c g k ih = no-conflict y xs ms g
+    go (laid xs) b conflicting c g k ih = none-conflicting y xs ms g
     go (laid xs) b (merged t) c g (inl k) ih = let z : laid xs ≡ conflict = sym b ∙ ap f (sym k) ∙ a in not-laid xs z
     go (laid xs) b (merged t) c g (inr k) ih = ih t c k
 
@@ -200,7 +200,7 @@ module _ (d s : ℕ) where
       go : (w : Walked) → f y ≡ w → (q : Merged) → under y w q ≡ merged ms → ((t : List Mapping) → q ≡ merged t → CoveredAny d s (listsOf n t) ↔ (Mem n ns × By d s (f n)))
           → CoveredAny d s (listsOf n ms) ↔ (((n ≡ y) ⊎ Mem n ns) × By d s (f n))
       go conflict a q g ih = absurd (no-conflict y q ms g)
-      go (laid c) a conflicting g ih = absurd (no-conflict y c ms g)
+      go (laid c) a conflicting g ih = absurd (none-conflicting y c ms g)
       go (laid c) a (merged t) g ih = subst (λ (l : List Mapping). CoveredAny d s (listsOf n l) ↔ (((n ≡ y) ⊎ Mem n ns) × By d s (f n))) (in-front y c t ms g) (step c t a (ih t refl))
 
   -- a merge by name covers, under each name, what the mappings cover
