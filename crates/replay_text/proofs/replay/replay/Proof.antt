@@ -13,11 +13,11 @@ bytes-space-requires c κs = search needs
 cuts-space-requires : tie.Need-cuts-space-requires
 cuts-space-requires c κs = search needs
 
-slice-aggregate-written : tie.Need-slice-aggregate-written
-slice-aggregate-written c = search needs
+slice-aggregate-write-replay : tie.Need-slice-aggregate-write-replay
+slice-aggregate-write-replay c = search needs
 
-slice-aggregate-written-2 : tie.Need-slice-aggregate-written-2
-slice-aggregate-written-2 c = search needs
+slice-aggregate-write-replay-2 : tie.Need-slice-aggregate-write-replay-2
+slice-aggregate-write-replay-2 c = search needs
 
 write-replay-requires : tie.Need-write-replay-requires
 write-replay-requires c κs = search needs
@@ -35,8 +35,8 @@ replay-spec =
     returns
     bytes-space-requires
     cuts-space-requires
-    slice-aggregate-written
-    slice-aggregate-written-2
+    slice-aggregate-write-replay
+    slice-aggregate-write-replay-2
     write-replay-requires
     same-length
     returns-2)

@@ -28,17 +28,17 @@ taken c =
 add-ends : tie.Need-add-ends
 add-ends c = omega (arith, taken c .apart .few)
 
-slice-reshare-prefix-told : tie.Need-slice-reshare-prefix-told
-slice-reshare-prefix-told c = taken-bytes (taken c) .0
+slice-reshare-prefix-tell-streams : tie.Need-slice-reshare-prefix-tell-streams
+slice-reshare-prefix-tell-streams c = taken-bytes (taken c) .0
 
-slice-aggregate-told : tie.Need-slice-aggregate-told
-slice-aggregate-told c = taken-bytes (taken (c .before)) .1
+slice-aggregate-tell-streams : tie.Need-slice-aggregate-tell-streams
+slice-aggregate-tell-streams c = taken-bytes (taken (c .before)) .1
 
-slice-reshare-prefix-told-2 : tie.Need-slice-reshare-prefix-told-2
-slice-reshare-prefix-told-2 c = taken-cuts (taken (c .before)) .0
+slice-reshare-prefix-tell-streams-2 : tie.Need-slice-reshare-prefix-tell-streams-2
+slice-reshare-prefix-tell-streams-2 c = taken-cuts (taken (c .before)) .0
 
-slice-aggregate-told-2 : tie.Need-slice-aggregate-told-2
-slice-aggregate-told-2 c = taken-cuts (taken (c .before .before)) .1
+slice-aggregate-tell-streams-2 : tie.Need-slice-aggregate-tell-streams-2
+slice-aggregate-tell-streams-2 c = taken-cuts (taken (c .before .before)) .1
 
 tell-streams-requires : tie.Need-tell-streams-requires
 tell-streams-requires c κs = taken-cut (taken (c .before .before .before))
@@ -85,10 +85,10 @@ write-replay-spec =
     part-requires
     enum-known-count
     add-ends
-    slice-reshare-prefix-told
-    slice-aggregate-told
-    slice-reshare-prefix-told-2
-    slice-aggregate-told-2
+    slice-reshare-prefix-tell-streams
+    slice-aggregate-tell-streams
+    slice-reshare-prefix-tell-streams-2
+    slice-aggregate-tell-streams-2
     tell-streams-requires
     enum-told
     slice-aggregate-word
