@@ -232,7 +232,7 @@ static void get_point(void) {
 /* ---- Names. */
 
 struct names {
-    size_t names, size, bytes_len, ends_len;
+    size_t names, name_bytes, bytes_len, ends_len;
     uint8_t *bytes;
     uint32_t *ends;
 };
@@ -240,7 +240,7 @@ struct names {
 static struct names name_list(void) {
     struct names list;
     list.names = number();
-    list.size = number();
+    list.name_bytes = number();
     list.bytes = bytes(&list.bytes_len);
     list.ends_len = number();
     list.ends = lend(list.ends_len * 4);
@@ -250,7 +250,7 @@ static struct names name_list(void) {
 
 static void put_names(const struct names *list) {
     put_number(list->names);
-    put_number(list->size);
+    put_number(list->name_bytes);
     put_bytes(list->bytes, list->bytes_len);
     put_number(list->ends_len);
     for (size_t i = 0; i < list->ends_len; i++) put_number(list->ends[i]);
@@ -261,7 +261,7 @@ static void naming(void) {
     size_t len;
     const uint8_t *name = bytes(&len);
     uint32_t symbol = 0;
-    put_number(desk_number_of(list.bytes, list.bytes_len, list.ends, list.ends_len, &list.names, &list.size, name, len, &symbol));
+    put_number(desk_number_of(list.bytes, list.bytes_len, list.ends, list.ends_len, &list.names, &list.name_bytes, name, len, &symbol));
     put_number(symbol);
     put_names(&list);
 }
@@ -269,7 +269,7 @@ static void naming(void) {
 static void place_of(void) {
     struct names list = name_list();
     size_t first = 0, end = 0;
-    put_number(desk_place_of_name(list.bytes, list.bytes_len, list.ends, list.ends_len, list.names, list.size,
+    put_number(desk_place_of_name(list.bytes, list.bytes_len, list.ends, list.ends_len, list.names, list.name_bytes,
                                   (uint32_t)number(), &first, &end));
     put_number(first);
     put_number(end);
@@ -277,7 +277,7 @@ static void place_of(void) {
 
 static void put_name(const struct names *list, uint32_t symbol) {
     size_t first = 0, end = 0;
-    desk_place_of_name(list->bytes, list->bytes_len, list->ends, list->ends_len, list->names, list->size, symbol, &first, &end);
+    desk_place_of_name(list->bytes, list->bytes_len, list->ends, list->ends_len, list->names, list->name_bytes, symbol, &first, &end);
     put_bytes(list->bytes + first, end - first);
 }
 
@@ -290,7 +290,7 @@ static void put_recorded(on_record_call *call, uint8_t *table, size_t len, size_
                          const uint8_t *record, size_t record_len) {
     uint64_t reason = 0;
     uint32_t answer = call(table, len, used, list->bytes, list->bytes_len, list->ends, list->ends_len, &list->names,
-                           &list->size, record, record_len, &reason);
+                           &list->name_bytes, record, record_len, &reason);
     put_number(answer);
     if (answer == DESK_DAMAGED) {
         put_number(0);
@@ -646,11 +646,11 @@ static uint32_t build(uint8_t *table, size_t len, size_t *used, const struct met
                ? desk_build(table, len, used, m->header, DESK_HEADER_WORDS, m->list[SYMBOLS], m->len[SYMBOLS], m->list[PARTIAL],
                             m->len[PARTIAL], m->list[NOT_FOUND], m->len[NOT_FOUND], m->list[MAPPINGS], m->len[MAPPINGS],
                             m->list[INTERVALS], m->len[INTERVALS], list->bytes, list->bytes_len, list->ends, list->ends_len,
-                            list->names, list->size)
+                            list->names, list->name_bytes)
                : desk_build_points(table, len, used, m->header, DESK_HEADER_WORDS, m->list[SYMBOLS], m->len[SYMBOLS],
                                    m->list[PARTIAL], m->len[PARTIAL], m->list[NOT_FOUND], m->len[NOT_FOUND], m->list[MAPPINGS],
                                    m->len[MAPPINGS], m->list[INTERVALS], m->len[INTERVALS], list->bytes, list->bytes_len,
-                                   list->ends, list->ends_len, list->names, list->size, *date);
+                                   list->ends, list->ends_len, list->names, list->name_bytes, *date);
 }
 
 /* A name list of the names of a case, with no room to spare. */
@@ -667,7 +667,7 @@ static struct names listed_names(void) {
     }
     list.bytes = lend(size);
     list.ends = ends;
-    list.size = list.bytes_len = size;
+    list.name_bytes = list.bytes_len = size;
     for (size_t i = 0, from = 0; i < count; from = ends[i++]) memcpy(list.bytes + from, parts[i], ends[i] - from);
     return list;
 }

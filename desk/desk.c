@@ -5,14 +5,14 @@
 #include <stdlib.h>
 #include <string.h>
 
-enum { ROOM = 16, NAMES = 8, NAME_BYTES = 64, INSTRUMENTS = 3 };
+enum { ROOM = 16, NAMES = 8, NAME_ROOM = 64, INSTRUMENTS = 3 };
 
 /* What the desk lends to the library. Everything it knows stands here. */
 static uint8_t table[ROOM * DESK_INTERVAL_BYTES];
 static size_t used;
-static uint8_t name_bytes[NAME_BYTES];
-static uint32_t name_ends[NAMES];
-static size_t names, name_size;
+static uint8_t list_bytes[NAME_ROOM];
+static uint32_t list_ends[NAMES];
+static size_t names, name_bytes;
 
 /* A refusal that this program does not expect. */
 static void expect(uint32_t number, const char *call) {
@@ -31,7 +31,7 @@ static uint64_t day_start(uint32_t yyyymmdd) {
 
 static uint32_t symbol_of(const char *name) {
     uint32_t symbol;
-    expect(desk_number_of(name_bytes, NAME_BYTES, name_ends, NAMES, &names, &name_size, (const uint8_t *)name, strlen(name),
+    expect(desk_number_of(list_bytes, NAME_ROOM, list_ends, NAMES, &names, &name_bytes, (const uint8_t *)name, strlen(name),
                           &symbol),
            "desk_number_of");
     return symbol;
@@ -65,9 +65,9 @@ static void print_time(uint64_t moment) {
 
 static void print_name(uint32_t symbol) {
     size_t first, end;
-    expect(desk_place_of_name(name_bytes, NAME_BYTES, name_ends, NAMES, names, name_size, symbol, &first, &end),
+    expect(desk_place_of_name(list_bytes, NAME_ROOM, list_ends, NAMES, names, name_bytes, symbol, &first, &end),
            "desk_place_of_name");
-    printf("%.*s", (int)(end - first), (const char *)name_bytes + first);
+    printf("%.*s", (int)(end - first), (const char *)list_bytes + first);
 }
 
 static void print_table(const char *title) {

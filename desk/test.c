@@ -25,7 +25,7 @@ enum { LIST_ROOM = 24 };                                          /* words of ea
 static struct desk {
     uint64_t hint, moment, reason, stream, place, time;
     uint64_t times[DESK_STREAMS + 1], places[DESK_STREAMS + 1], heads[DESK_STREAMS + 1];
-    size_t used, points_used, names, size, first, end, streams, held;
+    size_t used, points_used, names, name_bytes, first, end, streams, held;
     uint32_t found, symbol, day, date, value, instrument;
     uint32_t ends[NAMES + 1];
     uint16_t length, kind;
@@ -50,7 +50,7 @@ static uint8_t pattern = 0xA5;
 /* Everything holds something before it is set. */
 static void begin(void) {
     memset(&d, pattern, sizeof d);
-    d.used = d.points_used = d.names = d.size = 0;
+    d.used = d.points_used = d.names = d.name_bytes = 0;
 }
 
 static void put(uint8_t *to, int width, uint64_t n) {
@@ -190,7 +190,7 @@ static void test_get_for_ts(void) {
 /* ---- Names. */
 
 static uint32_t name(const char *text, size_t len) {
-    return desk_number_of(d.bytes, NAME_ROOM, d.ends, NAMES, &d.names, &d.size, (const uint8_t *)text, len, &d.symbol);
+    return desk_number_of(d.bytes, NAME_ROOM, d.ends, NAMES, &d.names, &d.name_bytes, (const uint8_t *)text, len, &d.symbol);
 }
 
 static void test_names(void) {
@@ -198,29 +198,29 @@ static void test_names(void) {
     begin();
     memset(long_name, 'z', sizeof long_name);
     DONE(name("ES", 2));
-    IS(d.symbol == 0 && d.names == 1 && d.size == 2 && d.ends[0] == 2 && memcmp(d.bytes, "ES", 2) == 0);
+    IS(d.symbol == 0 && d.names == 1 && d.name_bytes == 2 && d.ends[0] == 2 && memcmp(d.bytes, "ES", 2) == 0);
     DONE(name("", 0));
-    IS(d.symbol == 1 && d.names == 2 && d.size == 2 && d.ends[1] == 2);
+    IS(d.symbol == 1 && d.names == 2 && d.name_bytes == 2 && d.ends[1] == 2);
     DONE(name("ES", 2));
-    IS(d.symbol == 0 && d.names == 2 && d.size == 2);
+    IS(d.symbol == 0 && d.names == 2 && d.name_bytes == 2);
     REFUSES(DESK_BAD_NAME, name(long_name, DESK_NAME_BYTES + 1));
     REFUSES(DESK_BAD_NAME, name("\xC3", 1));
     REFUSES(DESK_BAD_NAME, name("\xED\xA0\x80", 3));
     DONE(name(long_name, DESK_NAME_BYTES));
-    IS(d.symbol == 2 && d.names == 3 && d.size == 257);
+    IS(d.symbol == 2 && d.names == 3 && d.name_bytes == 257);
     REFUSES(DESK_NO_NAME_ROOM, name(long_name, 44));
     DONE(name(long_name, 43));
-    IS(d.symbol == 3 && d.names == NAMES && d.size == NAME_ROOM && d.ends[4] == 0xA5A5A5A5u && d.bytes[NAME_ROOM] == 0xA5);
+    IS(d.symbol == 3 && d.names == NAMES && d.name_bytes == NAME_ROOM && d.ends[4] == 0xA5A5A5A5u && d.bytes[NAME_ROOM] == 0xA5);
     REFUSES(DESK_NO_NAME_ROOM, name("q", 1));
     REFUSES(DESK_BAD_NAME, name(long_name, DESK_NAME_BYTES + 1));
     DONE(name("", 0));
     IS(d.symbol == 1);
 
-    DONE(desk_check_names(d.bytes, NAME_ROOM, d.ends, NAMES, d.names, d.size));
+    DONE(desk_check_names(d.bytes, NAME_ROOM, d.ends, NAMES, d.names, d.name_bytes));
     DONE(desk_check_names(d.bytes, NAME_ROOM, d.ends, NAMES, 1, 2));
     REFUSES(DESK_ILL_FORMED, desk_check_names(d.bytes, NAME_ROOM, d.ends, NAMES, 1, 3));
     REFUSES(DESK_ILL_FORMED, desk_check_names(d.bytes, NAME_ROOM, d.ends, NAMES, 0, 1));
-    REFUSES(DESK_BAD_MEMORY, desk_check_names(d.bytes, NAME_ROOM, d.ends, NAMES, NAMES + 1, d.size));
+    REFUSES(DESK_BAD_MEMORY, desk_check_names(d.bytes, NAME_ROOM, d.ends, NAMES, NAMES + 1, d.name_bytes));
     REFUSES(DESK_BAD_MEMORY, desk_check_names(d.bytes, NAME_ROOM, d.ends, NAMES, d.names, NAME_ROOM + 1));
     REFUSES(DESK_BAD_MEMORY, desk_check_names(d.bytes, NAME_ROOM, d.ends, NAMES, SIZE_MAX, SIZE_MAX));
     static uint8_t bytes[DESK_NAME_LIST_BYTES + 1];
@@ -229,22 +229,22 @@ static void test_names(void) {
     REFUSES(DESK_BAD_MEMORY, desk_check_names(bytes, DESK_NAME_LIST_BYTES + 1, ends, DESK_NAMES, 0, 0));
     REFUSES(DESK_BAD_MEMORY, desk_check_names(bytes, DESK_NAME_LIST_BYTES, ends, DESK_NAMES + 1, 0, 0));
 
-    DONE(desk_place_of_name(d.bytes, NAME_ROOM, d.ends, NAMES, d.names, d.size, 2, &d.first, &d.end));
+    DONE(desk_place_of_name(d.bytes, NAME_ROOM, d.ends, NAMES, d.names, d.name_bytes, 2, &d.first, &d.end));
     IS(d.first == 2 && d.end == 257);
-    DONE(desk_place_of_name(d.bytes, NAME_ROOM, d.ends, NAMES, d.names, d.size, 1, &d.first, &d.end));
+    DONE(desk_place_of_name(d.bytes, NAME_ROOM, d.ends, NAMES, d.names, d.name_bytes, 1, &d.first, &d.end));
     IS(d.first == 2 && d.end == 2);
-    REFUSES(DESK_UNKNOWN_SYMBOL, desk_place_of_name(d.bytes, NAME_ROOM, d.ends, NAMES, d.names, d.size, 4, &d.first, &d.end));
+    REFUSES(DESK_UNKNOWN_SYMBOL, desk_place_of_name(d.bytes, NAME_ROOM, d.ends, NAMES, d.names, d.name_bytes, 4, &d.first, &d.end));
     REFUSES(DESK_UNKNOWN_SYMBOL,
-            desk_place_of_name(d.bytes, NAME_ROOM, d.ends, NAMES, d.names, d.size, UINT32_MAX, &d.first, &d.end));
-    REFUSES(DESK_ILL_FORMED, desk_place_of_name(d.bytes, NAME_ROOM, d.ends, NAMES, 3, d.size, 9, &d.first, &d.end));
-    REFUSES(DESK_BAD_MEMORY, desk_place_of_name(d.bytes, NAME_ROOM, d.ends, 3, 4, d.size, 9, &d.first, &d.end));
+            desk_place_of_name(d.bytes, NAME_ROOM, d.ends, NAMES, d.names, d.name_bytes, UINT32_MAX, &d.first, &d.end));
+    REFUSES(DESK_ILL_FORMED, desk_place_of_name(d.bytes, NAME_ROOM, d.ends, NAMES, 3, d.name_bytes, 9, &d.first, &d.end));
+    REFUSES(DESK_BAD_MEMORY, desk_place_of_name(d.bytes, NAME_ROOM, d.ends, 3, 4, d.name_bytes, 9, &d.first, &d.end));
     d.ends[1] = 1; /* falls behind the one before it */
     REFUSES(DESK_ILL_FORMED, name("ES", 2));
-    REFUSES(DESK_ILL_FORMED, desk_check_names(d.bytes, NAME_ROOM, d.ends, NAMES, d.names, d.size));
+    REFUSES(DESK_ILL_FORMED, desk_check_names(d.bytes, NAME_ROOM, d.ends, NAMES, d.names, d.name_bytes));
     d.names = NAMES + 1;
     REFUSES(DESK_BAD_MEMORY, name("ES", 2));
     d.names = 4;
-    d.size = NAME_ROOM + 1;
+    d.name_bytes = NAME_ROOM + 1;
     REFUSES(DESK_BAD_MEMORY, name("ES", 2));
 }
 
@@ -272,7 +272,7 @@ static size_t room;
 
 static uint32_t record_on(size_t len) {
     return on(on == desk_on_record ? d.table : d.points, room, on == desk_on_record ? &d.used : &d.points_used, d.bytes, NAME_ROOM,
-              d.ends, NAMES, &d.names, &d.size, record, len, &d.reason);
+              d.ends, NAMES, &d.names, &d.name_bytes, record, len, &d.reason);
 }
 
 /* 13 with the reason, which alone is set. */
@@ -291,7 +291,7 @@ static void test_records_of(on_record_call *call, size_t table_len) {
     on = call;
     room = table_len;
     DONE(record_on(mapping(2, 7, 10, 20, "ESZ4")));
-    IS(*in_use == 1 && d.names == 1 && d.size == 4 && d.ends[0] == 4 && memcmp(d.bytes, "ESZ4", 4) == 0);
+    IS(*in_use == 1 && d.names == 1 && d.name_bytes == 4 && d.ends[0] == 4 && memcmp(d.bytes, "ESZ4", 4) == 0);
     IS(d.reason == UINT64_C(0xA5A5A5A5A5A5A5A5));
     REFUSES(DESK_DONE, record_on(mapping(3, 8, 10, 20, "\xFF")));   /* another kind */
     REFUSES(DESK_DONE, record_on(mapping(258, 8, 10, 20, "\xFF"))); /* both bytes of the kind count */
@@ -324,7 +324,7 @@ static void test_records_of(on_record_call *call, size_t table_len) {
     *in_use = 1;
     DONE(record_on(mapping(2, 8, 10, 20, "ESH5")));
     DONE(record_on(mapping(2, 9, DESK_MISSING, DESK_MISSING, "")));
-    IS(*in_use == 3 && d.names == 3 && d.size == 8);
+    IS(*in_use == 3 && d.names == 3 && d.name_bytes == 8);
     DONE(record_on(mapping(2, 9, DESK_MISSING, DESK_MISSING, "X")));
     REFUSES(DESK_NO_NAME_ROOM, record_on(mapping(2, 9, 3, 4, "Y")));
 }
@@ -337,7 +337,7 @@ static void test_mapping_calls(void) {
     REFUSES(DESK_REVERSED, record_on(mapping(2, 9, 6, 5, "Y")));
     REFUSES(DESK_NO_ROOM, record_on(mapping(2, 9, 3, 4, "")));
     d.names = 3;
-    d.size = 8;
+    d.name_bytes = 8;
     REFUSES(DESK_ILL_FORMED, record_on(mapping(2, 9, 3, 4, "")));
 
     test_records_of(desk_on_record_point, 3 * DESK_POINT_BYTES);
@@ -345,7 +345,7 @@ static void test_mapping_calls(void) {
     IS(d.points_used == 3 && all(d.points + 24, sizeof d.points - 24, 0xA5));
     REFUSES(DESK_NO_ROOM, record_on(mapping(2, 10, 3, 4, "")));
     d.names = 1;
-    d.size = 4;
+    d.name_bytes = 4;
     REFUSES(DESK_ILL_FORMED, record_on(mapping(2, 9, 3, 4, "")));
 }
 
@@ -794,7 +794,7 @@ static const uint32_t build_ends[BUILD_NAMES] = {0, 1, 2, 3, 4};
 struct plan {
     uint64_t header[DESK_HEADER_WORDS];
     uint32_t mappings[4], intervals[9];
-    size_t header_len, mappings_len, intervals_len, names, size, table_len, points_len;
+    size_t header_len, mappings_len, intervals_len, names, name_bytes, table_len, points_len;
     uint32_t date;
 };
 
@@ -810,13 +810,13 @@ static struct plan forward(void) {
 static uint32_t build(struct plan p) {
     return desk_build(d.table, p.table_len, &d.used, p.header, p.header_len, d.list[0], 0, d.list[1], 0, d.list[2], 0, p.mappings,
                       p.mappings_len, p.intervals, p.intervals_len, build_bytes, sizeof build_bytes, build_ends, BUILD_NAMES,
-                      p.names, p.size);
+                      p.names, p.name_bytes);
 }
 
 static uint32_t build_points(struct plan p) {
     return desk_build_points(d.points, p.points_len, &d.points_used, p.header, p.header_len, d.list[0], 0, d.list[1], 0, d.list[2],
                              0, p.mappings, p.mappings_len, p.intervals, p.intervals_len, build_bytes, sizeof build_bytes,
-                             build_ends, BUILD_NAMES, p.names, p.size, p.date);
+                             build_ends, BUILD_NAMES, p.names, p.name_bytes, p.date);
 }
 
 /* Both builds, or one of them, answer the number and leave an empty table, every byte 0, and all else as it was. */
@@ -877,8 +877,8 @@ static void test_builds(void) {
     BUILDS_REFUSE(DESK_BAD_MEMORY, 1, 1, p.intervals_len = 8);
     BUILDS_REFUSE(DESK_BAD_MEMORY, 1, 1, p.mappings_len = 3);
     BUILDS_REFUSE(DESK_BAD_MEMORY, 1, 1, p.names = BUILD_NAMES + 1);
-    BUILDS_REFUSE(DESK_BAD_MEMORY, 1, 1, p.size = sizeof build_bytes + 1);
-    BUILDS_REFUSE(DESK_ILL_FORMED, 1, 1, p.size = sizeof build_bytes - 1; p.header[DESK_STYPE_OUT] = 1; p.date = 0);
+    BUILDS_REFUSE(DESK_BAD_MEMORY, 1, 1, p.name_bytes = sizeof build_bytes + 1);
+    BUILDS_REFUSE(DESK_ILL_FORMED, 1, 1, p.name_bytes = sizeof build_bytes - 1; p.header[DESK_STYPE_OUT] = 1; p.date = 0);
     BUILDS_REFUSE(DESK_NO_INSTRUMENT_ID, 1, 1, p.header[DESK_STYPE_OUT] = 1; p.intervals[2] = UNKNOWN);
     BUILDS_REFUSE(DESK_UNKNOWN_SYMBOL, 1, 0, p.intervals[5] = UNKNOWN; p.intervals[4] = 0);
     BUILDS_REFUSE(DESK_UNKNOWN_SYMBOL, 0, 1, p.intervals[5] = UNKNOWN; p.mappings[2] = UNKNOWN);
@@ -1028,9 +1028,9 @@ static void after_records_that_store_nothing(void) {
     *symbol = 9;
     AFTER_RECORD(DESK_ILL_FORMED, mapping(2, 8, 10, 20, "NEW"), ALL_AS_BEFORE);
     *symbol = old;
-    d.size--;
+    d.name_bytes--;
     AFTER_RECORD(DESK_ILL_FORMED, mapping(2, 8, 10, 20, "NEW"), ALL_AS_BEFORE);
-    d.size++;
+    d.name_bytes++;
     DONE(name("a", 1));
     DONE(name("b", 1));
     AFTER_RECORD(DESK_NO_NAME_ROOM, mapping(2, 8, 10, 20, "NEW"), ALL_AS_BEFORE);
@@ -1098,7 +1098,7 @@ static void after_check_names(void) {
 }
 
 static uint32_t name_within(size_t bytes_len) {
-    return desk_number_of(d.bytes, bytes_len, d.ends, NAMES, &d.names, &d.size, (const uint8_t *)"NEW", 3, &d.symbol);
+    return desk_number_of(d.bytes, bytes_len, d.ends, NAMES, &d.names, &d.name_bytes, (const uint8_t *)"NEW", 3, &d.symbol);
 }
 
 static void after_number_of(void) {
@@ -1109,7 +1109,7 @@ static void after_number_of(void) {
     AFTER(DESK_BAD_MEMORY, name_within(1), ALL_AS_BEFORE);
     AFTER(DESK_BAD_NAME, name("\xC3", 1), ALL_AS_BEFORE);
     AFTER(DESK_NO_NAME_ROOM, name_within(4), ALL_AS_BEFORE);
-    d.size = 1;
+    d.name_bytes = 1;
     AFTER(DESK_ILL_FORMED, name_within(NAME_ROOM), ALL_AS_BEFORE);
     ANSWERED(DESK_DONE, DESK_BAD_MEMORY, DESK_ILL_FORMED, DESK_BAD_NAME, DESK_NO_NAME_ROOM);
 }
@@ -1226,7 +1226,7 @@ static void lend_build(size_t table_len) {
     memset(&d.points_used, pattern, sizeof d.points_used);
     memcpy(d.bytes, build_bytes, sizeof build_bytes);
     memcpy(d.ends, build_ends, sizeof build_ends);
-    d.names = BUILD_NAMES, d.size = sizeof build_bytes;
+    d.names = BUILD_NAMES, d.name_bytes = sizeof build_bytes;
     put_header(d.header, 0, 0, 0, 1);
     PUT(d.list[MAPPINGS], A, 2);
     PUT(d.list[INTERVALS], D1, D2, FIVE, D2, D3, NO_NAME);
@@ -1234,12 +1234,12 @@ static void lend_build(size_t table_len) {
 
 static uint32_t build_lent(void) {
     return desk_build(d.table, room, &d.used, d.header, DESK_HEADER_WORDS, d.list[0], 1, d.list[1], 1, d.list[2], 1, d.list[3], 4,
-                      d.list[4], 9, d.bytes, NAME_ROOM, d.ends, BUILD_NAMES, d.names, d.size);
+                      d.list[4], 9, d.bytes, NAME_ROOM, d.ends, BUILD_NAMES, d.names, d.name_bytes);
 }
 
 static uint32_t build_points_lent(uint32_t date) {
     return desk_build_points(d.points, room, &d.points_used, d.header, DESK_HEADER_WORDS, d.list[0], 1, d.list[1], 1, d.list[2], 1,
-                             d.list[3], 4, d.list[4], 9, d.bytes, NAME_ROOM, d.ends, BUILD_NAMES, d.names, d.size, date);
+                             d.list[3], 4, d.list[4], 9, d.bytes, NAME_ROOM, d.ends, BUILD_NAMES, d.names, d.name_bytes, date);
 }
 
 static void after_build(void) {
@@ -1257,7 +1257,7 @@ static void after_build(void) {
     AFTER_REFUSED(DESK_BAD_MEMORY, room++);
     AFTER_REFUSED(DESK_BAD_MEMORY, d.header[DESK_VERSION] = 256);
     AFTER_REFUSED(DESK_BAD_MEMORY, d.header[DESK_SYMBOLS] = 2);
-    AFTER_REFUSED(DESK_ILL_FORMED, d.size--);
+    AFTER_REFUSED(DESK_ILL_FORMED, d.name_bytes--);
     AFTER_REFUSED(DESK_NO_INSTRUMENT_ID, d.header[DESK_STYPE_OUT] = 1);
     AFTER_REFUSED(DESK_UNKNOWN_SYMBOL, d.list[INTERVALS][5] = UNKNOWN); /* after an insert, as the next ones */
     AFTER_REFUSED(DESK_NOT_NUMBER, d.list[INTERVALS][5] = X);
@@ -1283,7 +1283,7 @@ static void after_build_points(void) {
     AFTER_REFUSED(DESK_BAD_MEMORY, D1, room++);
     AFTER_REFUSED(DESK_BAD_MEMORY, D1, d.header[DESK_VERSION] = 256);
     AFTER_REFUSED(DESK_BAD_MEMORY, D1, d.header[DESK_SYMBOLS] = 2);
-    AFTER_REFUSED(DESK_ILL_FORMED, D1, d.size--);
+    AFTER_REFUSED(DESK_ILL_FORMED, D1, d.name_bytes--);
     AFTER_REFUSED(DESK_NO_DATE, 20230229, (void)0);
     AFTER_REFUSED(DESK_NO_INSTRUMENT_ID, D1, d.header[DESK_STYPE_OUT] = 1);
     AFTER_REFUSED(DESK_OUTSIDE_QUERY, D1, d.header[DESK_END] = 1);

@@ -106,10 +106,10 @@ uint32_t desk_get_for_ts(const uint8_t *table, size_t table_len, size_t used, ui
 /* One record's bytes: a symbol mapping inserts its interval, a missing start as 0, a missing end as 18446744073709551615; other
  * kinds are done and change nothing. A new name joins the name list only when the interval is stored. 15, 14 (table and name
  * list), 13, 4, 1; start = end is done and changes nothing; 5, 2.
- * After 0: the table and *used are as desk_insert leaves them, and the name list, *names and *size as desk_number_of does. After
+ * After 0: the table and *used are as desk_insert leaves them, and the name list, *names and *name_bytes as desk_number_of does. After
  * 13: *reason is the reason, all else as before. After any other answer: all as before. */
 uint32_t desk_on_record(uint8_t *table, size_t table_len, size_t *used, uint8_t *bytes, size_t bytes_len, uint32_t *ends,
-                        size_t ends_len, size_t *names, size_t *size, const uint8_t *record, size_t record_len,
+                        size_t ends_len, size_t *names, size_t *name_bytes, const uint8_t *record, size_t record_len,
                         uint64_t *reason);
 
 /* ---- The point-in-time table: bytes, 8 an entry, of which `used` entries from the front are in use. */
@@ -127,32 +127,32 @@ uint32_t desk_get_point(const uint8_t *table, size_t table_len, size_t used, uin
 /* One record's bytes: a symbol mapping sets the instrument's entry and ignores both times; other kinds are done and change
  * nothing. A new name joins the name list only when done. 15, 14 (table and name list), 13, 4, 5, 2.
  * After 0: *used is the new number in use, and the table's first *used places hold the entries, the unused ones are as before; the
- * name list, *names and *size are as desk_number_of leaves them. After 13: *reason is the reason, all else as before. After any
+ * name list, *names and *name_bytes are as desk_number_of leaves them. After 13: *reason is the reason, all else as before. After any
  * other answer: all as before. */
 uint32_t desk_on_record_point(uint8_t *table, size_t table_len, size_t *used, uint8_t *bytes, size_t bytes_len,
-                              uint32_t *ends, size_t ends_len, size_t *names, size_t *size, const uint8_t *record,
+                              uint32_t *ends, size_t ends_len, size_t *names, size_t *name_bytes, const uint8_t *record,
                               size_t record_len, uint64_t *reason);
 
-/* ---- Names. A name list is the names' bytes, one name after another, and where each name ends; `names` names and `size` bytes
- * are in use. Name n lies from the end of the one before it to its own end. Name numbers run from 0 in order of first arrival
- * and are never taken back. */
+/* ---- Names. A name list is the names' bytes, one name after another, and where each name ends; `names` names and `name_bytes`
+ * bytes are in use. Name n lies from the end of the one before it to its own end. Name numbers run from 0 in order of first
+ * arrival and are never taken back. */
 
 /* Is the list well-formed: do valid names (0 to 255 bytes of UTF-8) stand one after another? 0, 15, 14.
  * After any answer: all as before. */
 uint32_t desk_check_names(const uint8_t *bytes, size_t bytes_len, const uint32_t *ends, size_t ends_len, size_t names,
-                          size_t size);
+                          size_t name_bytes);
 
 /* The number of a name: the least with equal bytes, else the next new one, and the name joins the list. 15, 14, 4, 5.
  * After 0: *symbol is the number. A new name's bytes stand behind those that were in use, and so does its end; *names is one more,
- * *size more by its length, and unused places behind are as before. With an old name all else is as before. After any other
+ * *name_bytes more by its length, and unused places behind are as before. With an old name all else is as before. After any other
  * answer: all as before. */
-uint32_t desk_number_of(uint8_t *bytes, size_t bytes_len, uint32_t *ends, size_t ends_len, size_t *names, size_t *size,
+uint32_t desk_number_of(uint8_t *bytes, size_t bytes_len, uint32_t *ends, size_t ends_len, size_t *names, size_t *name_bytes,
                         const uint8_t *name, size_t name_len, uint32_t *symbol);
 
 /* Where a symbol's name lies among the bytes. 15, 14, 3.
  * After 0: *first is its first byte, *end its end. After any other answer: all as before. */
 uint32_t desk_place_of_name(const uint8_t *bytes, size_t bytes_len, const uint32_t *ends, size_t ends_len, size_t names,
-                            size_t size, uint32_t symbol, size_t *first, size_t *end);
+                            size_t name_bytes, uint32_t symbol, size_t *first, size_t *end);
 
 /* ---- Numbers, days. A date is the number YYYYMMDD. */
 
@@ -252,7 +252,7 @@ uint32_t desk_build(uint8_t *table, size_t table_len, size_t *used, const uint64
                     const uint32_t *symbols, size_t symbols_len, const uint32_t *partial, size_t partial_len,
                     const uint32_t *not_found, size_t not_found_len, const uint32_t *mappings, size_t mappings_len,
                     const uint32_t *intervals, size_t intervals_len, const uint8_t *bytes, size_t bytes_len,
-                    const uint32_t *ends, size_t ends_len, size_t names, size_t size);
+                    const uint32_t *ends, size_t ends_len, size_t names, size_t name_bytes);
 
 /* A point-in-time table for a date (YYYYMMDD), 8 bytes an entry. 15, 14 for the name list, 11 for the date, 9, 10 where the day is
  * before the start's day, or an end exists and the day's start is not before it; then of each mapping the first interval with
@@ -264,7 +264,7 @@ uint32_t desk_build_points(uint8_t *table, size_t table_len, size_t *used, const
                            const uint32_t *symbols, size_t symbols_len, const uint32_t *partial, size_t partial_len,
                            const uint32_t *not_found, size_t not_found_len, const uint32_t *mappings, size_t mappings_len,
                            const uint32_t *intervals, size_t intervals_len, const uint8_t *bytes, size_t bytes_len,
-                           const uint32_t *ends, size_t ends_len, size_t names, size_t size, uint32_t date);
+                           const uint32_t *ends, size_t ends_len, size_t names, size_t name_bytes, uint32_t date);
 
 /* ---- Merging records. All streams stand in one buffer; cuts, one more than streams, start at 0, never fall, and end at the
  * buffer's length. The state of a merge stands in five arrays of 256 places and in *held; between desk_open and the last

@@ -5,7 +5,7 @@ use mathlib.Core.List.{List, [], _∷_}
 use lib.ListN.{length, replicate}
 use Rattle.theory.specs.Answer.{Answer, answer}
 use Rattle.leaves.specs.Refusal.{refused}
-use Rattle.leaves_names.specs.Names.{namesOf, wellFormed, memoryOk}
+use Rattle.leaves_names.specs.Names.{namesOf, wellFormed, listFits}
 use Rattle.map_point.specs.declared.entries.Entry.{Entry}
 use Rattle.map_point.specs.Entries.{putEntries}
 use Rattle.map_point.specs.Points.{pointsFit}
@@ -22,22 +22,22 @@ abbrev pub builtOf : Built → Answer
 builtOf (Done used) = answer 0 (used ∷ [])
 builtOf (Refused r) = refused r
 
--- not 15: a table of so many bytes, a metadata and a name list of so many bytes and places are of the form
-unfoldable pub memoryFits : ℕ → Header → Lengths → List ℕ → ℕ → ℕ → ℕ → ℕ → Bool
-memoryFits size h l m bytes ends names used = pointsFit size 0 && (metadataFits h l m && memoryOk bytes ends names used)
+-- a table of so many bytes, a metadata and a name list of so many bytes and places are of their forms; where not, 15
+unfoldable pub buildFits : ℕ → Header → Lengths → List ℕ → ℕ → ℕ → ℕ → ℕ → Bool
+buildFits size h l m bytes places names name-bytes = pointsFit size 0 && (metadataFits h l m && listFits bytes places names name-bytes)
 
 -- the build: 15, 14 for the name list, then the metadata's for the asked date. Of the table only its size counts: "a build discards what
 -- the table held and never gives 14 for it"
 unfoldable pub pointBuild : ℕ → Header → Lists → List ℕ → List ℕ → ℕ → ℕ → ℕ → Build Entry
-unfolding memoryFits pointInTime
-pointBuild size h l bytes ends names used date =
-    cond (memoryFits size h (lengthsOf l) (l .mappings) (length bytes) (length ends) names used)
-    (cond (wellFormed bytes ends names used) (pointInTime (size / 8) (namesOf bytes ends names) (metadataOf h l) date) (stopped 14 0 0))
+unfolding buildFits pointInTime
+pointBuild size h l bytes ends names name-bytes date =
+    cond (buildFits size h (lengthsOf l) (l .mappings) (length bytes) (length ends) names name-bytes)
+    (cond (wellFormed bytes ends names name-bytes) (pointInTime (size / 8) (namesOf bytes ends names) (metadataOf h l) date) (stopped 14 0 0))
     (stopped 15 0 0)
 
 unfoldable pub pointInTimeAnswer : ℕ → Header → Lists → List ℕ → List ℕ → ℕ → ℕ → ℕ → Answer
 unfolding pointBuild buildAnswer
-pointInTimeAnswer size h l bytes ends names used date = buildAnswer (pointBuild size h l bytes ends names used date)
+pointInTimeAnswer size h l bytes ends names name-bytes date = buildAnswer (pointBuild size h l bytes ends names name-bytes date)
 
 -- what the table holds after a build: refused, 0 everywhere ("by 15 too"); done, the entries from the front and 0 in every other place
 unfoldable pub builtMemory : ℕ → Build Entry → List ℕ
@@ -46,4 +46,4 @@ builtMemory size (built es) = putEntries (replicate size 0) 0 es
 
 unfoldable pub pointInTimeMemory : ℕ → Header → Lists → List ℕ → List ℕ → ℕ → ℕ → ℕ → List ℕ
 unfolding pointBuild builtMemory
-pointInTimeMemory size h l bytes ends names used date = builtMemory size (pointBuild size h l bytes ends names used date)
+pointInTimeMemory size h l bytes ends names name-bytes date = builtMemory size (pointBuild size h l bytes ends names name-bytes date)

@@ -8,7 +8,7 @@ use lib.ListN.{length, replicate, length-replicate}
 use lib.Dec.{T}
 use Rattle.theory.specs.Answer.{answer}
 use Rattle.leaves.specs.Refusal.{numberOf, refused}
-use Rattle.leaves_names.specs.Names.{namesOf, wellFormed, memoryOk}
+use Rattle.leaves_names.specs.Names.{namesOf, wellFormed, listFits}
 use Rattle.leaves_names.specs.NamesLaws.{fails, holds, Memory, memory, Ordered, formed, ordered}
 use Rattle.leaves.specs.declared.refusal.Refusal.{Refusal}
 use Rattle.leaves.specs.declared.refusal.Refusal.the-variants.{Reversed, NoRoom, UnknownSymbol, BadName, NoNameRoom, Differ, Conflict, NotNumber, NoInstrumentId, OutsideQuery, NoDate, BadStreams, Damaged, IllFormed, BadMemory}
@@ -33,22 +33,22 @@ use Rattle.build_point.specs.declared.build.Built.{Built}
 use Rattle.build_point.specs.declared.build.Built.the-variants.{Done, Refused}
 use Rattle.build_point.specs.Begin.{Start, begunRead, startFor, buildFrom, begin-build}
 use Rattle.build_point.specs.Mappings.{Clean, Laid}
-use Rattle.build_point.specs.Build.{builtOf, memoryFits, pointBuild, pointInTimeAnswer, builtMemory, pointInTimeMemory}
+use Rattle.build_point.specs.Build.{builtOf, buildFits, pointBuild, pointInTimeAnswer, builtMemory, pointInTimeMemory}
 
 -- ---- the test for 15
 
-module _ (size : ℕ) (h : Header) (l : Lengths) (m : List ℕ) (bytes ends names used : ℕ) {f : Bool} (p : f ≡ pointsFit size 0) where
-  pub fits-table : not f ≡ true → false ≡ memoryFits size h l m bytes ends names used
-  unfolding memoryFits
+module _ (size : ℕ) (h : Header) (l : Lengths) (m : List ℕ) (bytes places names name-bytes : ℕ) {f : Bool} (p : f ≡ pointsFit size 0) where
+  pub fits-table : not f ≡ true → false ≡ buildFits size h l m bytes places names name-bytes
+  unfolding buildFits
   fits-table t = rw (fails p t) refl
 
   module _ (t : not f ≡ false) {g : Bool} (q : g ≡ metadataFits h l m) where
-    pub fits-metadata : not g ≡ true → false ≡ memoryFits size h l m bytes ends names used
-    unfolding memoryFits
+    pub fits-metadata : not g ≡ true → false ≡ buildFits size h l m bytes places names name-bytes
+    unfolding buildFits
     fits-metadata u = rw (holds p t, fails q u) refl
 
-    pub fits-list : not g ≡ false → {r : Bool} → r ≡ memoryOk bytes ends names used → r ≡ memoryFits size h l m bytes ends names used
-    unfolding memoryFits
+    pub fits-list : not g ≡ false → {r : Bool} → r ≡ listFits bytes places names name-bytes → r ≡ buildFits size h l m bytes places names name-bytes
+    unfolding buildFits
     fits-list u e = rw (holds p t, holds q u) e
 
 -- ---- refusals
@@ -83,25 +83,25 @@ refuses size room names (built es) s r e = let z : _≡_ {A = ℕ} 0 1 = cc in a
 
 -- ---- the ways through the build
 
-module _ (size : ℕ) (h : Header) (l : Lists) (bytes ends : List ℕ) (names used date : ℕ) where
+module _ (size : ℕ) (h : Header) (l : Lists) (bytes ends : List ℕ) (names name-bytes date : ℕ) where
   abbrev pub Ends : Built → List ℕ → Type 0
-  Ends r t = (builtOf r ≡ pointInTimeAnswer size h l bytes ends names used date) × (t ≡ pointInTimeMemory size h l bytes ends names used date)
+  Ends r t = (builtOf r ≡ pointInTimeAnswer size h l bytes ends names name-bytes date) × (t ≡ pointInTimeMemory size h l bytes ends names name-bytes date)
 
   abbrev fit : Bool
-  fit = memoryFits size h (lengthsOf l) (l .mappings) (length bytes) (length ends) names used
+  fit = buildFits size h (lengthsOf l) (l .mappings) (length bytes) (length ends) names name-bytes
 
   abbrev texts : List (List ℕ)
   texts = namesOf bytes ends names
 
   -- what a build that is this one leaves
-  ends-by : {b : Build Entry} → pointBuild size h l bytes ends names used date ≡ b → (r : Built) {t : List ℕ} → builtOf r ≡ buildAnswer b → t ≡ builtMemory size b → Ends r t
+  ends-by : {b : Build Entry} → pointBuild size h l bytes ends names name-bytes date ≡ b → (r : Built) {t : List ℕ} → builtOf r ≡ buildAnswer b → t ≡ builtMemory size b → Ends r t
   unfolding pointInTimeAnswer pointInTimeMemory
   ends-by e r a m = (a ∙ ap buildAnswer (sym e), m ∙ ap (builtMemory size) (sym e))
 
   -- what 15 and 14 leave of the memory
   pub record Good : Type 0 where
     pub sizes : MetadataFitting h (lengthsOf l) (l .mappings)
-    pub list : Memory (length bytes) (length ends) names used
+    pub list : Memory (length bytes) (length ends) names name-bytes
 
   module _ {f : Bool} (p : f ≡ fit) where
     pub ends-15 : {t : List ℕ} → not f ≡ true → t ≡ replicate size 0 → Ends (Refused BadMemory) t
@@ -110,28 +110,28 @@ module _ (size : ℕ) (h : Header) (l : Lists) (bytes ends : List ℕ) (names us
 
     module _ (u : not f ≡ false) where
       good : Good
-      unfolding memoryFits
+      unfolding buildFits
       good =
-          let a = and-eq-true-iff (pointsFit size 0) (metadataFits h (lengthsOf l) (l .mappings) && memoryOk (length bytes) (length ends) names used) .0 (holds p u) in
-          let b = and-eq-true-iff (metadataFits h (lengthsOf l) (l .mappings)) (memoryOk (length bytes) (length ends) names used) .0 (a .1) in
-          record { sizes = metadata-fitting h (lengthsOf l) (l .mappings) (b .0); list = memory (length bytes) (length ends) names used (b .1) }
+          let a = and-eq-true-iff (pointsFit size 0) (metadataFits h (lengthsOf l) (l .mappings) && listFits (length bytes) (length ends) names name-bytes) .0 (holds p u) in
+          let b = and-eq-true-iff (metadataFits h (lengthsOf l) (l .mappings)) (listFits (length bytes) (length ends) names name-bytes) .0 (a .1) in
+          record { sizes = metadata-fitting h (lengthsOf l) (l .mappings) (b .0); list = memory (length bytes) (length ends) names name-bytes (b .1) }
 
-      pub ends-memory : (names ≤ length ends) × (used ≤ length bytes)
+      pub ends-memory : (names ≤ length ends) × (name-bytes ≤ length bytes)
       ends-memory = let m = good .list in (m .held, m .room)
 
-      module _ {g : Bool} (q : g ≡ wellFormed bytes ends names used) where
+      module _ {g : Bool} (q : g ≡ wellFormed bytes ends names name-bytes) where
         pub ends-14 : {t : List ℕ} → not g ≡ true → t ≡ replicate size 0 → Ends (Refused IllFormed) t
         unfolding pointBuild buildAnswer builtMemory
         ends-14 w e = ends-by {b = stopped 14 0 0} (rw (holds p u, fails q w) refl) (Refused IllFormed) refl e
 
         module _ (w : not g ≡ false) where
           pub ends-ordered : Ordered bytes ends names
-          ends-ordered = ordered (good .list) (formed bytes ends used names (holds q w))
+          ends-ordered = ordered (good .list) (formed bytes ends name-bytes names (holds q w))
 
           pub ends-lists : (2 * h .mappings ≤ length (l .mappings)) × (3 * before (l .mappings) (h .mappings) ≤ length (l .intervals))
           ends-lists = let s = good .sizes in let m = s .fit .maps-used in let v = s .fit .spans-whole in let n = s .sum in (m, omega arith)
 
-          whole : pointBuild size h l bytes ends names used date ≡ pointInTime (size / 8) texts (metadataOf h l) date
+          whole : pointBuild size h l bytes ends names name-bytes date ≡ pointInTime (size / 8) texts (metadataOf h l) date
           unfolding pointBuild
           whole = rw (holds p u, holds q w) refl
 

@@ -5,12 +5,12 @@ use mathlib.Core.Bool.{false}
 use mathlib.Core.List.{List, [], _∷_}
 use Rattle.theory.specs.Answer.{answer}
 use Rattle.theory.specs.Fields.{putField}
-use Rattle.leaves_names.specs.Names.{wellFormed, memoryOk, namesOf, nameOf, standFrom, nameStart, isName, namesFrom}
+use Rattle.leaves_names.specs.Names.{wellFormed, listFits, namesOf, nameOf, standFrom, nameStart, isName, namesFrom}
 use Rattle.leaves_names.specs.Utf8.{isUtf8, within}
 use Rattle.leaves.specs.NumberText.{numberText, someDigits, digits, isDigit}
 use Rattle.leaves_days.specs.Days.{dayOf}
 use Rattle.leaves_days.specs.Calendar.{isDate, dayNumber, isLeap, monthDays, daysOfYears, daysBefore}
-use Rattle.map_rules.specs.Table.{badRoom}
+use Rattle.map_rules.specs.Table.{roomFits}
 use Rattle.map_point.specs.Entries.{putEntry, putEntries}
 use Rattle.map_point.specs.Points.{pointsFit}
 use Rattle.metadata_rules.specs.Words.{mappingsFrom, before}
@@ -50,17 +50,17 @@ ends = 0 ∷ 1 ∷ 2 ∷ []
 
 -- a table of 9 bytes: 15, whatever the rest
 odd : (pointInTimeAnswer 9 (header 1 1) one bytes ends 3 2 0 ≡ answer 15 []) × (pointInTimeMemory 9 (header 1 1) one bytes ends 3 2 0 ≡ 0 ∷ 0 ∷ 0 ∷ 0 ∷ 0 ∷ 0 ∷ 0 ∷ 0 ∷ 0 ∷ [])
-unfolding pointInTimeAnswer pointInTimeMemory pointsFit badRoom
+unfolding pointInTimeAnswer pointInTimeMemory pointsFit roomFits
 odd = (refl, refl)
 
 -- the bytes of one character as two names: 14, before 11 and 9
 split : (pointInTimeAnswer 8 (header 1 1) one (195 ∷ 169 ∷ []) (1 ∷ 2 ∷ []) 2 2 0 ≡ answer 14 [])
     × (pointInTimeMemory 8 (header 1 1) one (195 ∷ 169 ∷ []) (1 ∷ 2 ∷ []) 2 2 0 ≡ 0 ∷ 0 ∷ 0 ∷ 0 ∷ 0 ∷ 0 ∷ 0 ∷ 0 ∷ [])
-unfolding pointInTimeAnswer pointInTimeMemory pointsFit badRoom metadataFits before memoryOk wellFormed standFrom nameStart isName nameOf isUtf8 within
+unfolding pointInTimeAnswer pointInTimeMemory pointsFit roomFits metadataFits before listFits wellFormed standFrom nameStart isName nameOf isUtf8 within
 split = (refl, refl)
 
 -- `5` is the instrument 5 and `A` its symbol, in a table of two places
 done : (pointInTimeAnswer 16 (header 1 0) one bytes ends 3 2 19700102 ≡ answer 0 (1 ∷ []))
     × (pointInTimeMemory 16 (header 1 0) one bytes ends 3 2 19700102 ≡ 5 ∷ 0 ∷ 0 ∷ 0 ∷ 2 ∷ 0 ∷ 0 ∷ 0 ∷ 0 ∷ 0 ∷ 0 ∷ 0 ∷ 0 ∷ 0 ∷ 0 ∷ 0 ∷ [])
-unfolding pointInTimeAnswer pointInTimeMemory pointsFit badRoom metadataFits before memoryOk wellFormed standFrom nameStart isName nameOf isUtf8 within namesOf namesFrom metadataOf mappingsFrom numberText someDigits digits isDigit dayOf isDate dayNumber isLeap monthDays daysOfYears daysBefore putEntries putEntry putField
+unfolding pointInTimeAnswer pointInTimeMemory pointsFit roomFits metadataFits before listFits wellFormed standFrom nameStart isName nameOf isUtf8 within namesOf namesFrom metadataOf mappingsFrom numberText someDigits digits isDigit dayOf isDate dayNumber isLeap monthDays daysOfYears daysBefore putEntries putEntry putField
 done = (refl, refl)

@@ -7,7 +7,7 @@ use crate::mappings::lay_mappings;
 use build_rules::reading::clear;
 use leaves::refusal::Refusal;
 use leaves_names::names::is_list;
-use leaves_names::names::is_memory;
+use leaves_names::names::list_fits;
 use map_point::points::Stored;
 use map_point::points::points_fit;
 use metadata_form::header::Header;
@@ -16,7 +16,7 @@ use metadata_form::header::metadata_fits;
 ghost use mathlib.Core.Path.{_≡_};
 ghost use lib.ListN.{length};
 ghost use Rattle.metadata_form.specs.Header.{lists};
-ghost use Rattle.build_point.specs.Build.{builtOf, memoryFits, pointInTimeAnswer, pointInTimeMemory};
+ghost use Rattle.build_point.specs.Build.{builtOf, buildFits, pointInTimeAnswer, pointInTimeMemory};
 
 // What a build answers: how many entries the table has, or a refusal.
 pub enum Built {
@@ -24,34 +24,34 @@ pub enum Built {
     Refused(Refusal),
 }
 
-// Whether a table, a metadata and a name list of these sizes are of the form; where not, 15.
-fn memory_fits(
+// Whether a table, a metadata and a name list of these sizes are of their forms; where not, 15.
+fn build_fits(
     size: usize,
-    h: Header,
-    l: Lengths,
+    header: Header,
+    lengths: Lengths,
     mappings: &[u32],
     bytes: usize,
-    ends: usize,
+    places: usize,
     names: usize,
-    used: usize,
+    name_bytes: usize,
 ) -> bool
-    requires { ⌜ l .mappings ≡ length (now mappings) ⌝ }
-    ensures { λ r. ⌜ r ≡ memoryFits size h l (now (mappings .entry)) bytes ends names used ⌝ }
+    requires { ⌜ lengths .mappings ≡ length (now mappings) ⌝ }
+    ensures { λ r. ⌜ r ≡ buildFits size header lengths (now (mappings .entry)) bytes places names «name_bytes» ⌝ }
 {
     if !points_fit(size, 0) {
         return false;
     }
-    if !metadata_fits(h, l, mappings) {
+    if !metadata_fits(header, lengths, mappings) {
         return false;
     }
-    is_memory(bytes, ends, names, used)
+    list_fits(bytes, places, names, name_bytes)
 }
 
 // The point-in-time table of a metadata for a date: 15; 14 for the name list; 11 for the date, 9, 10; then the mappings in order, each
 // 11, 3, the skip, 3, 8, 2. A refused build leaves 0 in every place.
 pub fn point_in_time(
     table: &mut [u8],
-    h: Header,
+    header: Header,
     symbols: &[u32],
     partial: &[u32],
     not_found: &[u32],
@@ -63,8 +63,8 @@ pub fn point_in_time(
     name_bytes: usize,
     date: u32,
 ) -> Built
-    ensures answered { λ r. ⌜ builtOf r ≡ pointInTimeAnswer (length (now (table .entry))) h (lists (now (symbols .entry)) (now (partial .entry)) (now («not_found» .entry)) (now (mappings .entry)) (now (intervals .entry))) (now (bytes .entry)) (now (ends .entry)) names «name_bytes» date ⌝ }
-    ensures memory { λ _. ⌜ now (table .exit) ≡ pointInTimeMemory (length (now (table .entry))) h (lists (now (symbols .entry)) (now (partial .entry)) (now («not_found» .entry)) (now (mappings .entry)) (now (intervals .entry))) (now (bytes .entry)) (now (ends .entry)) names «name_bytes» date ⌝ }
+    ensures answered { λ r. ⌜ builtOf r ≡ pointInTimeAnswer (length (now (table .entry))) header (lists (now (symbols .entry)) (now (partial .entry)) (now («not_found» .entry)) (now (mappings .entry)) (now (intervals .entry))) (now (bytes .entry)) (now (ends .entry)) names «name_bytes» date ⌝ }
+    ensures memory { λ _. ⌜ now (table .exit) ≡ pointInTimeMemory (length (now (table .entry))) header (lists (now (symbols .entry)) (now (partial .entry)) (now («not_found» .entry)) (now (mappings .entry)) (now (intervals .entry))) (now (bytes .entry)) (now (ends .entry)) names «name_bytes» date ⌝ }
 {
     let l = Lengths {
         symbols: symbols.len(),
@@ -75,9 +75,9 @@ pub fn point_in_time(
     };
     let size = table.len();
     clear(table);
-    if !memory_fits(
+    if !build_fits(
         size,
-        h,
+        header,
         l,
         mappings,
         bytes.len(),
@@ -90,19 +90,19 @@ pub fn point_in_time(
     if !is_list(bytes, ends, names, name_bytes) {
         return Built::Refused(Refusal::IllFormed);
     }
-    let begun = begin(h, date);
+    let begun = begin(header, date);
     match begun {
         Begun::Refused(why) => Built::Refused(why),
-        Begun::On(d, day) => {
+        Begun::On(direction, day) => {
             let laid = lay_mappings(
                 table,
                 mappings,
-                h.mappings,
+                header.mappings,
                 intervals,
                 bytes,
                 ends,
                 names,
-                d,
+                direction,
                 day,
             );
             match laid {

@@ -50,18 +50,18 @@ fn entry_named(
     bytes: &[u8],
     ends: &[u32],
     names: usize,
-    d: Direction,
+    direction: Direction,
     name: u32,
     symbol: u32,
 ) -> Wanted
     requires { ⌜ Ordered (now bytes) (now ends) names ⌝ }
     requires { ⌜ symbol < names ⌝ }
-    ensures { λ r. ⌜ wantedOf r ≡ nameStep (namesOf (now (bytes .entry)) (now (ends .entry)) names) d name symbol (getD (namesOf (now (bytes .entry)) (now (ends .entry)) names) symbol []) ⌝ }
+    ensures { λ r. ⌜ wantedOf r ≡ nameStep (namesOf (now (bytes .entry)) (now (ends .entry)) names) direction name symbol (getD (namesOf (now (bytes .entry)) (now (ends .entry)) names) symbol []) ⌝ }
 {
     if names <= name as usize {
         return Wanted::Refuse(Refusal::UnknownSymbol);
     }
-    match d {
+    match direction {
         Direction::Forward => {
             let read = number_named(bytes, ends, names, symbol);
             entry_by(read, name)
@@ -78,19 +78,19 @@ fn entry_unless_empty(
     bytes: &[u8],
     ends: &[u32],
     names: usize,
-    d: Direction,
+    direction: Direction,
     name: u32,
-    x: Interval,
+    interval: Interval,
     place: usize,
 ) -> Wanted
     requires { ⌜ Ordered (now bytes) (now ends) names ⌝ }
-    ensures { λ r. ⌜ wantedOf r ≡ pointStep (namesOf (now (bytes .entry)) (now (ends .entry)) names) d name (counts place x) ⌝ }
+    ensures { λ r. ⌜ wantedOf r ≡ pointStep (namesOf (now (bytes .entry)) (now (ends .entry)) names) direction name (counts place interval) ⌝ }
 {
-    let symbol = look(bytes, ends, names, x.symbol);
+    let symbol = look(bytes, ends, names, interval.symbol);
     match symbol {
         Symbol::Unknown => Wanted::Refuse(Refusal::UnknownSymbol),
         Symbol::Empty => Wanted::Skip,
-        Symbol::Filled => entry_named(bytes, ends, names, d, name, x.symbol),
+        Symbol::Filled => entry_named(bytes, ends, names, direction, name, interval.symbol),
     }
 }
 
@@ -102,18 +102,18 @@ pub fn entry_of_mapping(
     bytes: &[u8],
     ends: &[u32],
     names: usize,
-    d: Direction,
+    direction: Direction,
     day: u32,
     name: u32,
 ) -> Wanted
     requires { ⌜ 3 * (from + count) ≤ length (now intervals) ⌝ }
     requires { ⌜ Ordered (now bytes) (now ends) names ⌝ }
-    ensures { λ r. ⌜ wantedOf r ≡ pointStep (namesOf (now (bytes .entry)) (now (ends .entry)) names) d name (counting day 0 (stretch (now (intervals .entry)) from count)) ⌝ }
+    ensures { λ r. ⌜ wantedOf r ≡ pointStep (namesOf (now (bytes .entry)) (now (ends .entry)) names) direction name (counting day 0 (stretch (now (intervals .entry)) from count)) ⌝ }
 {
     let found = first_covering(intervals, from, count, day);
     match found {
         Covering::Undated(place) => Wanted::Refuse(Refusal::NoDate),
         Covering::Nothing => Wanted::Skip,
-        Covering::Is(place, x) => entry_unless_empty(bytes, ends, names, d, name, x, place),
+        Covering::Is(place, x) => entry_unless_empty(bytes, ends, names, direction, name, x, place),
     }
 }

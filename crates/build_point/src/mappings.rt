@@ -40,13 +40,13 @@ pub fn lay_mappings(
     bytes: &[u8],
     ends: &[u32],
     names: usize,
-    d: Direction,
+    direction: Direction,
     day: u32,
 ) -> Stored
     requires { ⌜ Clean (length (now table)) (now table) 0 ⌝ }
     requires { ⌜ (2 * count ≤ length (now mappings)) × (3 * before (now mappings) count ≤ length (now intervals)) ⌝ }
     requires { ⌜ Ordered (now bytes) (now ends) names ⌝ }
-    ensures { λ r. ⌜ Laid (length (now (table .entry))) (pickMappings (length (now (table .entry)) / 8) (namesOf (now (bytes .entry)) (now (ends .entry)) names) d day 0 (mappingsFrom (now (mappings .entry)) (now (intervals .entry)) 0 0 count) []) r (now (table .exit)) ⌝ }
+    ensures { λ r. ⌜ Laid (length (now (table .entry))) (pickMappings (length (now (table .entry)) / 8) (namesOf (now (bytes .entry)) (now (ends .entry)) names) direction day 0 (mappingsFrom (now (mappings .entry)) (now (intervals .entry)) 0 0 count) []) r (now (table .exit)) ⌝ }
 {
     let mut used = 0;
     let mut from = 0;
@@ -54,7 +54,7 @@ pub fn lay_mappings(
     while i < count {
         let name = name_at(mappings, i);
         let n = count_at(mappings, i);
-        let wanted = entry_of_mapping(intervals, from, n, bytes, ends, names, d, day, name);
+        let wanted = entry_of_mapping(intervals, from, n, bytes, ends, names, direction, day, name);
         let stored = store(table, used, wanted);
         match stored {
             Stored::Refused(why) => {

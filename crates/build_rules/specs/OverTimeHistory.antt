@@ -4,14 +4,13 @@ use mathlib.Core.Path.{_≡_, refl, sym, ap, _∙_, subst}
 use mathlib.Core.Logic.{_↔_}
 use Prim.Native.Nat.{ℕ, _+_, _≤_}
 use native.Mathlib.Omega.{arith}
-use mathlib.Core.Bool.{Bool, true, false, not, _||_}
+use mathlib.Core.Bool.{Bool, true, false, _&&_}
 use mathlib.Core.List.{List, [], _∷_}
 use lib.ListN.{length}
-use lib.Dec.{T, ltb}
-use lib.Arith.{le→nltb}
+use lib.Dec.{T, leb, le→leb}
 use Rattle.theory.specs.Runs.{Mem, IsRun}
-use Rattle.theory.specs.RunsTools.{cond-yes, cond-no}
-use Rattle.map_rules.specs.Table.{Row, intervalOf, answerFor, ordered, allKnown, Outcome, refusedBy, stored, nowStored, badRoom, badNames, wellFormed, entered, inserted}
+use Rattle.theory.specs.RunsTools.{cond-yes, T-and}
+use Rattle.map_rules.specs.Table.{Row, intervalOf, answerFor, ordered, allKnown, Outcome, refusedBy, stored, nowStored, roomFits, namesFit, wellFormed, entered, inserted}
 use Rattle.map_rules.specs.Tests.{good-room}
 use Rattle.map_rules.specs.Memory.{sameValue, knownValue}
 use Rattle.map_rules.specs.Pieces.{symbols}
@@ -89,15 +88,11 @@ module _ (names room : ℕ) (few : names ≤ 4096) (small : room ≤ 65536) wher
   -- an insert into a well-formed table within the limits is judged by its own order alone
   entered-here : (n : Row ℕ) (ys : List (Row ℕ)) → T (wellFormed sameValue knownValue names ys) → length ys ≤ room
       → inserted sameValue knownValue names room n ys ≡ entered sameValue knownValue names room n ys
-  unfolding inserted badNames
+  unfolding inserted namesFit
   entered-here n ys f l =
-      cond-no (badRoom room (length ys) || ltb 4096 names) _ _
-      (neither (badRoom room (length ys)) (ltb 4096 names) (good-room room (length ys) (record { limit = small; in-use = l })) (le→nltb 4096 names few))
+      cond-yes (roomFits room (length ys) && leb names 4096) _ _
+      (T-and (roomFits room (length ys)) (leb names 4096) (good-room room (length ys) (record { limit = small; in-use = l })) (le→leb names 4096 few))
       ∙ cond-yes (wellFormed sameValue knownValue names ys) _ _ f
-    where
-      neither : (a b : Bool) → T (not a) → T (not b) → T (not (a || b))
-      neither true b s t = s
-      neither false b s t = t
 
   comes-entered : (n : Row ℕ) (ns ys zs : List (Row ℕ)) → Comes names room ns ys → entered sameValue knownValue names room n ys ≡ stored zs → Comes names room (n ∷ ns) zs
   unfolding events after accepted nowStored noted

@@ -1,16 +1,16 @@
 -- The build over time in lent memory (01, The map over time): what it answers, and what the table then holds. Refusals in order: 15 for
 -- table, metadata and list, 14 for the list alone, then as the build.
 use Prim.Native.Nat.{ℕ}
-use mathlib.Core.Bool.{Bool, true, false, not, _&&_, cond}
+use mathlib.Core.Bool.{Bool, true, false, _&&_, cond}
 use mathlib.Core.List.{List, [], _∷_}
 use lib.ListN.{length, replicate}
 use Rattle.theory.specs.Answer.{Answer, answer}
 use Rattle.leaves.specs.Refusal.{numberOf, refused}
-use Rattle.leaves_names.specs.Names.{namesOf, memoryOk, wellFormed}
+use Rattle.leaves_names.specs.Names.{namesOf, listFits, wellFormed}
 use Rattle.map_time.specs.Interval.{rowOf}
 use Rattle.metadata_rules.specs.declared.Interval.{Interval}
 use Rattle.map_rules.specs.Table.{Row}
-use Rattle.map_rules.specs.Memory.{roomOf, badTable, rowsWritten}
+use Rattle.map_rules.specs.Memory.{roomOf, tableFits, rowsWritten}
 use Rattle.metadata_form.specs.declared.header.Header.{Header}
 use Rattle.metadata_form.specs.declared.header.Lengths.{Lengths}
 use Rattle.metadata_form.specs.Header.{Lists, lengthsOf, metadataOf, metadataFits}
@@ -54,21 +54,21 @@ abbrev pub lengthsBy : ℕ → ℕ → ℕ → ℕ → ℕ → Lengths
 lengthsBy a b c m v = record { symbols = a; partial = b; «not_found» = c; mappings = m; intervals = v }
 
 -- the table's length is a multiple of 24 and its room within the limit, the metadata and the list are of their forms; where not, 15
-unfoldable pub memoryFits : ℕ → Header → Lengths → List ℕ → ℕ → ℕ → ℕ → ℕ → Bool
-memoryFits long h l m bytes places names used = not (badTable long 0) && (metadataFits h l m && memoryOk bytes places names used)
+unfoldable pub buildFits : ℕ → Header → Lengths → List ℕ → ℕ → ℕ → ℕ → ℕ → Bool
+buildFits long h l m bytes places names name-bytes = tableFits long 0 && (metadataFits h l m && listFits bytes places names name-bytes)
 
 -- the build: 15, 14, then as its metadata says
 unfoldable pub overTimeBuild : List ℕ → Header → Lists → List ℕ → List ℕ → ℕ → ℕ → Build (Row ℕ)
-unfolding memoryFits
-overTimeBuild table h l bytes ends names used =
-    cond (memoryFits (length table) h (lengthsOf l) (l .mappings) (length bytes) (length ends) names used)
-    (cond (wellFormed bytes ends names used) (overTime (roomOf table) (namesOf bytes ends names) (metadataOf h l)) (stopped 14 0 0))
+unfolding buildFits
+overTimeBuild table h l bytes ends names name-bytes =
+    cond (buildFits (length table) h (lengthsOf l) (l .mappings) (length bytes) (length ends) names name-bytes)
+    (cond (wellFormed bytes ends names name-bytes) (overTime (roomOf table) (namesOf bytes ends names) (metadataOf h l)) (stopped 14 0 0))
     (stopped 15 0 0)
 
 -- what it answers
 unfoldable pub overTimeAnswer : List ℕ → Header → Lists → List ℕ → List ℕ → ℕ → ℕ → Answer
 unfolding overTimeBuild buildAnswer
-overTimeAnswer table h l bytes ends names used = buildAnswer (overTimeBuild table h l bytes ends names used)
+overTimeAnswer table h l bytes ends names name-bytes = buildAnswer (overTimeBuild table h l bytes ends names name-bytes)
 
 -- the memory of so many bytes after a build: the intervals, and 0 in every other place; refused, 0 in every place
 unfoldable pub builtMemory : ℕ → Build (Row ℕ) → List ℕ
@@ -78,7 +78,7 @@ builtMemory long (built ys) = rowsWritten (replicate long 0) 0 ys
 -- what the table holds then
 unfoldable pub overTimeMemory : List ℕ → Header → Lists → List ℕ → List ℕ → ℕ → ℕ → List ℕ
 unfolding overTimeBuild builtMemory
-overTimeMemory table h l bytes ends names used = builtMemory (length table) (overTimeBuild table h l bytes ends names used)
+overTimeMemory table h l bytes ends names name-bytes = builtMemory (length table) (overTimeBuild table h l bytes ends names name-bytes)
 
 -- the rows that stand there: a refused build leaves none
 unfoldable pub builtRows : Build (Row ℕ) → List (Row ℕ)
@@ -87,4 +87,4 @@ builtRows (built ys) = ys
 
 unfoldable pub overTimeRows : List ℕ → Header → Lists → List ℕ → List ℕ → ℕ → ℕ → List (Row ℕ)
 unfolding overTimeBuild builtRows
-overTimeRows table h l bytes ends names used = builtRows (overTimeBuild table h l bytes ends names used)
+overTimeRows table h l bytes ends names name-bytes = builtRows (overTimeBuild table h l bytes ends names name-bytes)

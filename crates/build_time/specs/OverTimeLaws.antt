@@ -17,13 +17,13 @@ use Rattle.map_time.specs.declared.interval.Interval.{Interval}
 use Rattle.map_time.specs.declared.insert.Inserted.{Inserted}
 use Rattle.map_time.specs.declared.insert.Inserted.the-variants as inserted
 use Rattle.map_rules.specs.Table.{Row, Ordered, Outcome, refusedBy, stored, nowStored, ordered, allKnown, wellFormed, entered}
-use Rattle.map_rules.specs.Memory.{width, sameValue, knownValue, rowsFrom, rows, rowsBytes, roomOf, badTable, rowsWritten, memoryAfter, outcomeAnswer, usedAfter, Gives}
+use Rattle.map_rules.specs.Memory.{width, sameValue, knownValue, rowsFrom, rows, rowsBytes, roomOf, tableFits, rowsWritten, memoryAfter, outcomeAnswer, usedAfter, Gives}
 use Rattle.map_rules.specs.MemoryLaws.{length-rows}
 use Rattle.map_rules.specs.Outcomes.{Lent, table-lent}
 use Rattle.map_rules.specs.Tests.{formed-parts}
 use Rattle.map_rules.specs.Pieces.{symbols}
 use Rattle.map_rules.specs.History.{Accepted, entered-ok}
-use Rattle.leaves_names.specs.Names.{namesOf, memoryOk}
+use Rattle.leaves_names.specs.Names.{namesOf, listFits}
 use Rattle.leaves_names.specs.Names.{wellFormed as wellFormedNames}
 use Rattle.leaves_names.specs.NamesLaws.{holds, fails, memory}
 use Rattle.leaves_names.specs.NamesLaws.{Ordered as Ordered-names, ordered as ordered-names, formed as formed-names}
@@ -56,7 +56,7 @@ use Rattle.build_time.specs.declared.over_time.Way.{Way}
 use Rattle.build_time.specs.declared.over_time.Way.the-variants.{Forward, Inverse}
 use Rattle.build_time.specs.declared.over_time.Asked.{Asked}
 use Rattle.build_time.specs.declared.over_time.Asked.the-variants.{Refuse, Nothing, Insert}
-use Rattle.build_time.specs.OverTime.{builtOf, isDone, usedOf, askedOf, wayStep, memoryFits, overTimeBuild, overTimeAnswer, builtMemory, overTimeMemory, builtRows, overTimeRows}
+use Rattle.build_time.specs.OverTime.{builtOf, isDone, usedOf, askedOf, wayStep, buildFits, overTimeBuild, overTimeAnswer, builtMemory, overTimeMemory, builtRows, overTimeRows}
 
 -- ---- what holds between two steps
 
@@ -522,39 +522,35 @@ and-parts : (a b : Bool) → a && b ≡ true → (a ≡ true) × (b ≡ true)
 and-parts true b e = (refl, e)
 and-parts false b e = absurd (let z : _≡_ {A = ℕ} 0 1 = cc in omega arith)
 
-not-true : (a : Bool) → not a ≡ true → a ≡ false
-not-true true e = sym e
-not-true false e = refl
+module _ (long : ℕ) (h : Header) (l : Lengths) (m : List ℕ) (bytes places names name-bytes : ℕ) where
+  pub fits-table : {b : Bool} → b ≡ tableFits long 0 → not b ≡ true → false ≡ buildFits long h l m bytes places names name-bytes
+  unfolding buildFits
+  fits-table e d = let f : tableFits long 0 ≡ false = fails e d in rw f refl
 
-module _ (long : ℕ) (h : Header) (l : Lengths) (m : List ℕ) (bytes places names used : ℕ) where
-  pub fits-table : {b : Bool} → b ≡ badTable long 0 → b ≡ true → false ≡ memoryFits long h l m bytes places names used
-  unfolding memoryFits
-  fits-table e d = let f : badTable long 0 ≡ true = sym e ∙ d in rw f refl
-
-  pub fits-metadata : {b s : Bool} → b ≡ badTable long 0 → b ≡ false → s ≡ metadataFits h l m → not s ≡ true → false ≡ memoryFits long h l m bytes places names used
-  unfolding memoryFits
+  pub fits-metadata : {b s : Bool} → b ≡ tableFits long 0 → not b ≡ false → s ≡ metadataFits h l m → not s ≡ true → false ≡ buildFits long h l m bytes places names name-bytes
+  unfolding buildFits
   fits-metadata e d f g =
-      let i : badTable long 0 ≡ false = sym e ∙ d in
+      let i : tableFits long 0 ≡ true = holds e d in
       let j : metadataFits h l m ≡ false = fails f g in
       rw (i, j) refl
 
-  pub fits-list : {b s r : Bool} → b ≡ badTable long 0 → b ≡ false → s ≡ metadataFits h l m → not s ≡ false → r ≡ memoryOk bytes places names used
-      → r ≡ memoryFits long h l m bytes places names used
-  unfolding memoryFits
+  pub fits-list : {b s r : Bool} → b ≡ tableFits long 0 → not b ≡ false → s ≡ metadataFits h l m → not s ≡ false → r ≡ listFits bytes places names name-bytes
+      → r ≡ buildFits long h l m bytes places names name-bytes
+  unfolding buildFits
   fits-list e d f g k =
-      let i : badTable long 0 ≡ false = sym e ∙ d in
+      let i : tableFits long 0 ≡ true = holds e d in
       let j : metadataFits h l m ≡ true = holds f g in
       k ∙ rw (i, j) refl
 
-  fits-facts : memoryFits long h l m bytes places names used ≡ true → (badTable long 0 ≡ false) × (metadataFits h l m ≡ true) × (memoryOk bytes places names used ≡ true)
-  unfolding memoryFits
+  fits-facts : buildFits long h l m bytes places names name-bytes ≡ true → (tableFits long 0 ≡ true) × (metadataFits h l m ≡ true) × (listFits bytes places names name-bytes ≡ true)
+  unfolding buildFits
   fits-facts e =
-      let p = and-parts (not (badTable long 0)) _ e in
+      let p = and-parts (tableFits long 0) _ e in
       let r = and-parts (metadataFits h l m) _ (p .1) in
-      (not-true (badTable long 0) (p .0), r .0, r .1)
+      (p .0, r .0, r .1)
 
 -- an emptied table
-pub empty-holds : (long names : ℕ) (z : List ℕ) → z ≡ replicate long 0 → badTable long 0 ≡ false → Holds names z 0
+pub empty-holds : (long names : ℕ) (z : List ℕ) → z ≡ replicate long 0 → tableFits long 0 ≡ true → Holds names z 0
 unfolding wellFormed ordered allKnown rowsFrom rowsBytes
 empty-holds long names z e d =
     let k : length z ≡ long = ap length e ∙ length-replicate long 0 in
@@ -569,42 +565,42 @@ empty-holds long names z e d =
 
 -- ---- the call
 
-module _ (t : List ℕ) (h : Header) (l : Lists) (bytes ends : List ℕ) (names used : ℕ) where
+module _ (t : List ℕ) (h : Header) (l : Lists) (bytes ends : List ℕ) (names name-bytes : ℕ) where
   -- what the call owes: the answer, the table's memory, and the rows that stand there
   abbrev pub Owed : Built → List ℕ → Type 0
   Owed r t′ =
-      (builtOf r ≡ overTimeAnswer t h l bytes ends names used)
-      × ((t′ ≡ overTimeMemory t h l bytes ends names used) × (rows t′ (length (overTimeRows t h l bytes ends names used)) ≡ overTimeRows t h l bytes ends names used))
+      (builtOf r ≡ overTimeAnswer t h l bytes ends names name-bytes)
+      × ((t′ ≡ overTimeMemory t h l bytes ends names name-bytes) × (rows t′ (length (overTimeRows t h l bytes ends names name-bytes)) ≡ overTimeRows t h l bytes ends names name-bytes))
 
-  owed : (b : Build (Row ℕ)) (r : Built) (t′ : List ℕ) → overTimeBuild t h l bytes ends names used ≡ b → builtOf r ≡ buildAnswer b → t′ ≡ builtMemory (length t) b
+  owed : (b : Build (Row ℕ)) (r : Built) (t′ : List ℕ) → overTimeBuild t h l bytes ends names name-bytes ≡ b → builtOf r ≡ buildAnswer b → t′ ≡ builtMemory (length t) b
       → rows t′ (length (builtRows b)) ≡ builtRows b → Owed r t′
   unfolding overTimeAnswer overTimeMemory overTimeRows
   owed b r t′ e f g k =
       (f ∙ sym (ap buildAnswer e), (g ∙ sym (ap (builtMemory (length t)) e), subst (λ (b : Build (Row ℕ)). rows t′ (length (builtRows b)) ≡ builtRows b) (sym e) k))
 
   module _ {f : Bool} {q : Lengths} {z : List ℕ} (e : z ≡ replicate (length t) 0) (d : q ≡ lengthsOf l)
-      (y : f ≡ memoryFits (length z) h q (l .mappings) (length bytes) (length ends) names used) where
+      (y : f ≡ buildFits (length z) h q (l .mappings) (length bytes) (length ends) names name-bytes) where
     long : length z ≡ length t
     long = ap length e ∙ length-replicate (length t) 0
 
-    fit : f ≡ memoryFits (length t) h (lengthsOf l) (l .mappings) (length bytes) (length ends) names used
-    fit = y ∙ (λ i. memoryFits (long i) h (d i) (l .mappings) (length bytes) (length ends) names used)
+    fit : f ≡ buildFits (length t) h (lengthsOf l) (l .mappings) (length bytes) (length ends) names name-bytes
+    fit = y ∙ (λ i. buildFits (long i) h (d i) (l .mappings) (length bytes) (length ends) names name-bytes)
 
     pub over-15 : not f ≡ true → Owed (Refused BadMemory) z
     unfolding overTimeBuild buildAnswer builtMemory builtRows rowsFrom
     over-15 g = let j = fails fit g in owed (stopped 15 0 0) (Refused BadMemory) z (rw j refl) refl e refl
 
     module _ (g : not f ≡ false) where
-      good : memoryFits (length t) h (lengthsOf l) (l .mappings) (length bytes) (length ends) names used ≡ true
+      good : buildFits (length t) h (lengthsOf l) (l .mappings) (length bytes) (length ends) names name-bytes ≡ true
       good = holds fit g
 
-      parts : (badTable (length t) 0 ≡ false) × (metadataFits h (lengthsOf l) (l .mappings) ≡ true) × (memoryOk (length bytes) (length ends) names used ≡ true)
-      parts = fits-facts (length t) h (lengthsOf l) (l .mappings) (length bytes) (length ends) names used good
+      parts : (tableFits (length t) 0 ≡ true) × (metadataFits h (lengthsOf l) (l .mappings) ≡ true) × (listFits (length bytes) (length ends) names name-bytes ≡ true)
+      parts = fits-facts (length t) h (lengthsOf l) (l .mappings) (length bytes) (length ends) names name-bytes good
 
-      pub over-list : (names ≤ length ends) × (used ≤ length bytes)
-      over-list = let m = memory (length bytes) (length ends) names used (parts .2) in (m .held, m .room)
+      pub over-list : (names ≤ length ends) × (name-bytes ≤ length bytes)
+      over-list = let m = memory (length bytes) (length ends) names name-bytes (parts .2) in (m .held, m .room)
 
-      module _ {w : Bool} (k : w ≡ wellFormedNames bytes ends names used) where
+      module _ {w : Bool} (k : w ≡ wellFormedNames bytes ends names name-bytes) where
         pub over-14 : not w ≡ true → Owed (Refused IllFormed) z
         unfolding overTimeBuild buildAnswer builtMemory builtRows rowsFrom
         over-14 c =
@@ -615,11 +611,11 @@ module _ (t : List ℕ) (h : Header) (l : Lists) (bytes ends : List ℕ) (names 
         module _ (c : not w ≡ false) where
           pub over-ready : Ordered-names bytes ends names × Holds names z 0 × (2 * h .mappings ≤ length (l .mappings)) × (3 * before (l .mappings) (h .mappings) ≤ length (l .intervals))
           over-ready =
-              let m = memory (length bytes) (length ends) names used (parts .2) in
+              let m = memory (length bytes) (length ends) names name-bytes (parts .2) in
               let s : MetadataFitting h (lengthsOf l) (l .mappings) = metadata-fitting h (lengthsOf l) (l .mappings) (parts .1) in
               let a = s .fit .spans-whole in
               let b = s .sum in (
-                ordered-names m (formed-names bytes ends used names (holds k c)),
+                ordered-names m (formed-names bytes ends name-bytes names (holds k c)),
                 empty-holds (length t) names z e (parts .0),
                 s .fit .maps-used,
                 omega arith,
@@ -639,15 +635,15 @@ module _ (t : List ℕ) (h : Header) (l : Lists) (bytes ends : List ℕ) (names 
 
   -- ---- demand 3 of a done call
 
-  pub over-demanded : (u : ℕ) → overTimeAnswer t h l bytes ends names used ≡ answer 0 (u ∷ [])
-      → (u ≡ length (overTimeRows t h l bytes ends names used))
-      × Demanded (length (namesOf bytes ends names)) (insertsAsked (namesOf bytes ends names) (metadataOf h l)) (overTimeRows t h l bytes ends names used)
+  pub over-demanded : (u : ℕ) → overTimeAnswer t h l bytes ends names name-bytes ≡ answer 0 (u ∷ [])
+      → (u ≡ length (overTimeRows t h l bytes ends names name-bytes))
+      × Demanded (length (namesOf bytes ends names)) (insertsAsked (namesOf bytes ends names) (metadataOf h l)) (overTimeRows t h l bytes ends names name-bytes)
   unfolding overTimeAnswer overTimeRows overTimeBuild buildAnswer builtRows
   over-demanded u =
-      go (memoryFits (length t) h (lengthsOf l) (l .mappings) (length bytes) (length ends) names used) refl (wellFormedNames bytes ends names used)
+      go (buildFits (length t) h (lengthsOf l) (l .mappings) (length bytes) (length ends) names name-bytes) refl (wellFormedNames bytes ends names name-bytes)
       (overTime (roomOf t) (namesOf bytes ends names) (metadataOf h l)) refl
     where
-      go : (f : Bool) → memoryFits (length t) h (lengthsOf l) (l .mappings) (length bytes) (length ends) names used ≡ f → (w : Bool) (b : Build (Row ℕ))
+      go : (f : Bool) → buildFits (length t) h (lengthsOf l) (l .mappings) (length bytes) (length ends) names name-bytes ≡ f → (w : Bool) (b : Build (Row ℕ))
           → overTime (roomOf t) (namesOf bytes ends names) (metadataOf h l) ≡ b
           → buildAnswer (cond f (cond w b (stopped 14 0 0)) (stopped 15 0 0)) ≡ answer 0 (u ∷ [])
           → (u ≡ length (builtRows (cond f (cond w b (stopped 14 0 0)) (stopped 15 0 0))))
@@ -656,8 +652,8 @@ module _ (t : List ℕ) (h : Header) (l : Lists) (bytes ends : List ℕ) (names 
       go true y false b z e = absurd (let q : _≡_ {A = ℕ} 14 0 = cc in omega arith)
       go true y true (stopped c s k) z e = absurd (let q : _≡_ {A = ℕ} 0 1 = cc in omega arith)
       go true y true (built ys) z e =
-          let p = fits-facts (length t) h (lengthsOf l) (l .mappings) (length bytes) (length ends) names used y in
-          let m = memory (length bytes) (length ends) names used (p .2) in
+          let p = fits-facts (length t) h (lengthsOf l) (l .mappings) (length bytes) (length ends) names name-bytes y in
+          let m = memory (length bytes) (length ends) names name-bytes (p .2) in
           let a : names ≤ length ends = m .held in
           let b : length ends ≤ 4096 = m .few in
           let n : length (namesOf bytes ends names) ≡ names = names-length bytes ends names in

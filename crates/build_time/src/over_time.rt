@@ -12,10 +12,10 @@ use build_rules::reading::number_named;
 use leaves::refusal::Refusal;
 use leaves_days::days::Moment;
 use leaves_names::names::is_list;
-use leaves_names::names::is_memory;
+use leaves_names::names::list_fits;
 use map_time::insert::Inserted;
 use map_time::insert::enter;
-use map_time::table::bad_table;
+use map_time::table::table_fits;
 use metadata_form::header::Header;
 use metadata_form::header::Lengths;
 use metadata_form::header::metadata_fits;
@@ -34,7 +34,7 @@ ghost use Rattle.metadata_form.specs.Header.{lists};
 ghost use Rattle.map_rules.specs.Memory.{rows, roomOf};
 ghost use Rattle.build_rules.specs.Reading.{andThen, textOf, numberIn, directionBy, instrumentRead};
 ghost use Rattle.build_rules.specs.OverTime.{dated, taken, layIntervals, layMapping, layMappings, directed};
-ghost use Rattle.build_time.specs.OverTime.{askedOf, wayStep, isDone, usedOf, builtOf, lengthsBy, memoryFits, overTimeAnswer, overTimeMemory, overTimeRows};
+ghost use Rattle.build_time.specs.OverTime.{askedOf, wayStep, isDone, usedOf, builtOf, lengthsBy, buildFits, overTimeAnswer, overTimeMemory, overTimeRows};
 ghost use Rattle.build_time.specs.OverTimeLaws.{Holds, Took, Lays, Leaves};
 
 // What a build answers: done, with how many intervals the table has, or refused.
@@ -109,23 +109,29 @@ fn skip() -> Asked
 }
 
 // One interval's step, by what stands under its symbol: 3, the skip, 8 where the symbol says the number, 11, 11.
-fn step(bytes: &[u8], ends: &[u32], names: usize, way: Way, x: metadata_rules::Interval) -> Asked
+fn step(
+    bytes: &[u8],
+    ends: &[u32],
+    names: usize,
+    way: Way,
+    interval: metadata_rules::Interval,
+) -> Asked
     requires { ⌜ Ordered (now bytes) (now ends) names ⌝ }
-    ensures { λ r. ⌜ askedOf r ≡ wayStep (namesOf (now (bytes .entry)) (now (ends .entry)) names) way x ⌝ }
+    ensures { λ r. ⌜ askedOf r ≡ wayStep (namesOf (now (bytes .entry)) (now (ends .entry)) names) way interval ⌝ }
 {
-    let symbol = look(bytes, ends, names, x.symbol);
+    let symbol = look(bytes, ends, names, interval.symbol);
     match symbol {
         Symbol::Unknown => Asked::Refuse(Refusal::UnknownSymbol),
         Symbol::Empty => skip(),
         Symbol::Filled => match way {
             Way::Forward(name) => {
-                let read = number_named(bytes, ends, names, x.symbol);
+                let read = number_named(bytes, ends, names, interval.symbol);
                 match read {
                     Instrument::Refused(why) => Asked::Refuse(why),
-                    Instrument::Number(instrument) => dated_insert(instrument, name, x),
+                    Instrument::Number(instrument) => dated_insert(instrument, name, interval),
                 }
             }
-            Way::Inverse(instrument) => dated_insert(instrument, x.symbol, x),
+            Way::Inverse(instrument) => dated_insert(instrument, interval.symbol, interval),
         },
     }
 }
@@ -138,12 +144,12 @@ fn lay_interval(
     ends: &[u32],
     names: usize,
     way: Way,
-    x: metadata_rules::Interval,
+    interval: metadata_rules::Interval,
 ) -> Built
     requires { ⌜ Ordered (now bytes) (now ends) names × Holds names (now table) used ⌝ }
-    ensures { λ r. ⌜ Took names (taken names (roomOf (now (table .entry))) (wayStep (namesOf (now (bytes .entry)) (now (ends .entry)) names) way x) (rows (now (table .entry)) used)) r (now (table .exit)) ⌝ }
+    ensures { λ r. ⌜ Took names (taken names (roomOf (now (table .entry))) (wayStep (namesOf (now (bytes .entry)) (now (ends .entry)) names) way interval) (rows (now (table .entry)) used)) r (now (table .exit)) ⌝ }
 {
-    let asked = step(bytes, ends, names, way, x);
+    let asked = step(bytes, ends, names, way, interval);
     match asked {
         Asked::Refuse(why) => Built::Refused(why),
         Asked::Nothing => Built::Done(used),
@@ -332,33 +338,33 @@ pub fn lengths(
 }
 
 // Whether the lent memory of table, metadata and list is of its form; where it is not, 15.
-fn memory_fits(
+fn build_fits(
     long: usize,
-    h: Header,
-    l: Lengths,
+    header: Header,
+    lengths: Lengths,
     mappings: &[u32],
     bytes: usize,
     places: usize,
     names: usize,
     name_bytes: usize,
 ) -> bool
-    requires { ⌜ l .mappings ≡ length (now mappings) ⌝ }
-    ensures { λ r. ⌜ r ≡ memoryFits long h l (now (mappings .entry)) bytes places names «name_bytes» ⌝ }
+    requires { ⌜ lengths .mappings ≡ length (now mappings) ⌝ }
+    ensures { λ r. ⌜ r ≡ buildFits long header lengths (now (mappings .entry)) bytes places names «name_bytes» ⌝ }
 {
-    if bad_table(long, 0) {
+    if !table_fits(long, 0) {
         return false;
     }
-    if !metadata_fits(h, l, mappings) {
+    if !metadata_fits(header, lengths, mappings) {
         return false;
     }
-    is_memory(bytes, places, names, name_bytes)
+    list_fits(bytes, places, names, name_bytes)
 }
 
 // Builds the table over time from a metadata and a name list: 15 for all lent memory, 14 for the list, then 9, and per interval 3, the
 // skip, 8, 11, 1, (start = end is done), 3, 2. What the table held is discarded; a refusal leaves an empty table with every place 0.
 pub fn over_time(
     table: &mut [u8],
-    h: Header,
+    header: Header,
     symbols: &[u32],
     partial: &[u32],
     not_found: &[u32],
@@ -369,9 +375,9 @@ pub fn over_time(
     names: usize,
     name_bytes: usize,
 ) -> Built
-    ensures { λ r. ⌜ builtOf r ≡ overTimeAnswer (now (table .entry)) h (lists (now (symbols .entry)) (now (partial .entry)) (now («not_found» .entry)) (now (mappings .entry)) (now (intervals .entry))) (now (bytes .entry)) (now (ends .entry)) names «name_bytes» ⌝ }
-    ensures { λ _. ⌜ now (table .exit) ≡ overTimeMemory (now (table .entry)) h (lists (now (symbols .entry)) (now (partial .entry)) (now («not_found» .entry)) (now (mappings .entry)) (now (intervals .entry))) (now (bytes .entry)) (now (ends .entry)) names «name_bytes» ⌝ }
-    ensures { λ _. ⌜ rows (now (table .exit)) (length (overTimeRows (now (table .entry)) h (lists (now (symbols .entry)) (now (partial .entry)) (now («not_found» .entry)) (now (mappings .entry)) (now (intervals .entry))) (now (bytes .entry)) (now (ends .entry)) names «name_bytes»)) ≡ overTimeRows (now (table .entry)) h (lists (now (symbols .entry)) (now (partial .entry)) (now («not_found» .entry)) (now (mappings .entry)) (now (intervals .entry))) (now (bytes .entry)) (now (ends .entry)) names «name_bytes» ⌝ }
+    ensures { λ r. ⌜ builtOf r ≡ overTimeAnswer (now (table .entry)) header (lists (now (symbols .entry)) (now (partial .entry)) (now («not_found» .entry)) (now (mappings .entry)) (now (intervals .entry))) (now (bytes .entry)) (now (ends .entry)) names «name_bytes» ⌝ }
+    ensures { λ _. ⌜ now (table .exit) ≡ overTimeMemory (now (table .entry)) header (lists (now (symbols .entry)) (now (partial .entry)) (now («not_found» .entry)) (now (mappings .entry)) (now (intervals .entry))) (now (bytes .entry)) (now (ends .entry)) names «name_bytes» ⌝ }
+    ensures { λ _. ⌜ rows (now (table .exit)) (length (overTimeRows (now (table .entry)) header (lists (now (symbols .entry)) (now (partial .entry)) (now («not_found» .entry)) (now (mappings .entry)) (now (intervals .entry))) (now (bytes .entry)) (now (ends .entry)) names «name_bytes»)) ≡ overTimeRows (now (table .entry)) header (lists (now (symbols .entry)) (now (partial .entry)) (now («not_found» .entry)) (now (mappings .entry)) (now (intervals .entry))) (now (bytes .entry)) (now (ends .entry)) names «name_bytes» ⌝ }
 {
     clear(table);
     let l = lengths(
@@ -381,9 +387,9 @@ pub fn over_time(
         mappings.len(),
         intervals.len(),
     );
-    if !memory_fits(
+    if !build_fits(
         table.len(),
-        h,
+        header,
         l,
         mappings,
         bytes.len(),
@@ -398,11 +404,11 @@ pub fn over_time(
     }
     build(
         table,
-        h.stype_in,
-        h.stype_out,
+        header.stype_in,
+        header.stype_out,
         mappings,
         intervals,
-        h.mappings,
+        header.mappings,
         bytes,
         ends,
         names,

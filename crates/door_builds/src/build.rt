@@ -27,9 +27,9 @@ pub extern "C" fn desk_build(
     bytes: &[u8],
     ends: &[u32],
     names: usize,
-    size: usize,
+    name_bytes: usize,
 ) -> u32
-    ensures { λ r. ⌜ Building (length (now (table .entry))) (now (header .entry)) (λ h. overTimeAnswer (now (table .entry)) h (lists (now (symbols .entry)) (now (partial .entry)) (now («not_found» .entry)) (now (mappings .entry)) (now (intervals .entry))) (now (bytes .entry)) (now (ends .entry)) names size) (λ h. overTimeMemory (now (table .entry)) h (lists (now (symbols .entry)) (now (partial .entry)) (now («not_found» .entry)) (now (mappings .entry)) (now (intervals .entry))) (now (bytes .entry)) (now (ends .entry)) names size) r (now (used .exit)) (now (table .exit)) ⌝ }
+    ensures { λ r. ⌜ Building (length (now (table .entry))) (now (header .entry)) (λ h. overTimeAnswer (now (table .entry)) h (lists (now (symbols .entry)) (now (partial .entry)) (now («not_found» .entry)) (now (mappings .entry)) (now (intervals .entry))) (now (bytes .entry)) (now (ends .entry)) names «name_bytes») (λ h. overTimeMemory (now (table .entry)) h (lists (now (symbols .entry)) (now (partial .entry)) (now («not_found» .entry)) (now (mappings .entry)) (now (intervals .entry))) (now (bytes .entry)) (now (ends .entry)) names «name_bytes») r (now (used .exit)) (now (table .exit)) ⌝ }
 {
     *used = 0;
     if !is_header(header) {
@@ -48,7 +48,7 @@ pub extern "C" fn desk_build(
         bytes,
         ends,
         names,
-        size,
+        name_bytes,
     );
     match built {
         build_time::over_time::Built::Done(n) => {
@@ -73,10 +73,10 @@ pub extern "C" fn desk_build_points(
     bytes: &[u8],
     ends: &[u32],
     names: usize,
-    size: usize,
+    name_bytes: usize,
     date: u32,
 ) -> u32
-    ensures { λ r. ⌜ Building (length (now (table .entry))) (now (header .entry)) (λ h. pointInTimeAnswer (length (now (table .entry))) h (lists (now (symbols .entry)) (now (partial .entry)) (now («not_found» .entry)) (now (mappings .entry)) (now (intervals .entry))) (now (bytes .entry)) (now (ends .entry)) names size date) (λ h. pointInTimeMemory (length (now (table .entry))) h (lists (now (symbols .entry)) (now (partial .entry)) (now («not_found» .entry)) (now (mappings .entry)) (now (intervals .entry))) (now (bytes .entry)) (now (ends .entry)) names size date) r (now (used .exit)) (now (table .exit)) ⌝ }
+    ensures { λ r. ⌜ Building (length (now (table .entry))) (now (header .entry)) (λ h. pointInTimeAnswer (length (now (table .entry))) h (lists (now (symbols .entry)) (now (partial .entry)) (now («not_found» .entry)) (now (mappings .entry)) (now (intervals .entry))) (now (bytes .entry)) (now (ends .entry)) names «name_bytes» date) (λ h. pointInTimeMemory (length (now (table .entry))) h (lists (now (symbols .entry)) (now (partial .entry)) (now («not_found» .entry)) (now (mappings .entry)) (now (intervals .entry))) (now (bytes .entry)) (now (ends .entry)) names «name_bytes» date) r (now (used .exit)) (now (table .exit)) ⌝ }
 {
     *used = 0;
     if !is_header(header) {
@@ -95,7 +95,7 @@ pub extern "C" fn desk_build_points(
         bytes,
         ends,
         names,
-        size,
+        name_bytes,
         date,
     );
     match built {

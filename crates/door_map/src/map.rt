@@ -8,11 +8,11 @@ use map_time::insert::Inserted;
 use map_time::interval::Interval;
 use map_time::table::Checked;
 ghost use mathlib.Core.Path.{_≡_};
-ghost use mathlib.Core.Bool.{false, _||_};
+ghost use mathlib.Core.Bool.{true, not, _||_};
 ghost use lib.ListN.{length};
 ghost use lib.Dec.{T};
 ghost use Rattle.map_rules.specs.Table.{ordered};
-ghost use Rattle.map_rules.specs.Memory.{sameValue, rows, badTable, checkAnswer, insertOutcome, outcomeAnswer, memoryAfter};
+ghost use Rattle.map_rules.specs.Memory.{sameValue, rows, tableFits, checkAnswer, insertOutcome, outcomeAnswer, memoryAfter};
 ghost use Rattle.map_rules.specs.Looks.{lookupAnswer};
 ghost use Rattle.leaves.specs.Frame.{nameIn};
 ghost use Rattle.map_record.specs.Mapping.{timeJudged, timeJoins, timeTable, timeAnswer, bytesThen, endsThen};
@@ -72,12 +72,12 @@ pub extern "C" fn desk_get_for_ts(
     found: &mut u32,
     symbol: &mut u32,
 ) -> u32
-    ensures right { λ r. ⌜ (T (badTable (length (now (table .entry))) used || ordered sameValue (rows (now (table .entry)) used))
+    ensures right { λ r. ⌜ (T (not (tableFits (length (now (table .entry))) used) || ordered sameValue (rows (now (table .entry)) used))
         → (r ≡ numberIn (lookupAnswer (now (table .entry)) used instrument moment (now (hint .entry))))
         × (now (hint .exit) ≡ valueIn (now (hint .entry)) 0 (lookupAnswer (now (table .entry)) used instrument moment (now (hint .entry))))
         × (now (found .exit) ≡ givenIn (now (found .entry)) 1 (lookupAnswer (now (table .entry)) used instrument moment (now (hint .entry))))
         × (now (symbol .exit) ≡ valueIn (now (symbol .entry)) 1 (lookupAnswer (now (table .entry)) used instrument moment (now (hint .entry))))) ⌝ }
-    ensures accepted { λ r. ⌜ (badTable (length (now (table .entry))) used ≡ false → r ≡ 0) ⌝ }
+    ensures accepted { λ r. ⌜ (tableFits (length (now (table .entry))) used ≡ true → r ≡ 0) ⌝ }
 {
     let looked = map_look::lookup::get_for_ts(table, used, instrument, moment, *hint);
     let answer = looked.found;
@@ -106,29 +106,37 @@ pub extern "C" fn desk_on_record(
     bytes: &mut [u8],
     ends: &mut [u32],
     names: &mut usize,
-    size: &mut usize,
+    name_bytes: &mut usize,
     rec: &[u8],
     reason: &mut u64,
 ) -> u32
-    ensures { λ r. ⌜ r ≡ numberIn (timeAnswer (now (table .entry)) (now (used .entry)) (now (names .entry)) (now (size .entry)) (nameIn (now (rec .entry))) (timeJudged (now (table .entry)) (now (used .entry)) (now (bytes .entry)) (now (ends .entry)) (now (names .entry)) (now (size .entry)) (now (rec .entry)))) ⌝ }
-    ensures { λ _. ⌜ now (used .exit) ≡ valueIn (now (used .entry)) 0 (timeAnswer (now (table .entry)) (now (used .entry)) (now (names .entry)) (now (size .entry)) (nameIn (now (rec .entry))) (timeJudged (now (table .entry)) (now (used .entry)) (now (bytes .entry)) (now (ends .entry)) (now (names .entry)) (now (size .entry)) (now (rec .entry)))) ⌝ }
-    ensures { λ _. ⌜ now (names .exit) ≡ valueIn (now (names .entry)) 1 (timeAnswer (now (table .entry)) (now (used .entry)) (now (names .entry)) (now (size .entry)) (nameIn (now (rec .entry))) (timeJudged (now (table .entry)) (now (used .entry)) (now (bytes .entry)) (now (ends .entry)) (now (names .entry)) (now (size .entry)) (now (rec .entry)))) ⌝ }
-    ensures { λ _. ⌜ now (size .exit) ≡ valueIn (now (size .entry)) 2 (timeAnswer (now (table .entry)) (now (used .entry)) (now (names .entry)) (now (size .entry)) (nameIn (now (rec .entry))) (timeJudged (now (table .entry)) (now (used .entry)) (now (bytes .entry)) (now (ends .entry)) (now (names .entry)) (now (size .entry)) (now (rec .entry)))) ⌝ }
-    ensures { λ _. ⌜ now (reason .exit) ≡ damageIn (now (reason .entry)) 2 (timeAnswer (now (table .entry)) (now (used .entry)) (now (names .entry)) (now (size .entry)) (nameIn (now (rec .entry))) (timeJudged (now (table .entry)) (now (used .entry)) (now (bytes .entry)) (now (ends .entry)) (now (names .entry)) (now (size .entry)) (now (rec .entry)))) ⌝ }
-    ensures { λ _. ⌜ now (table .exit) ≡ timeTable (now (table .entry)) (now (used .entry)) (timeJudged (now (table .entry)) (now (used .entry)) (now (bytes .entry)) (now (ends .entry)) (now (names .entry)) (now (size .entry)) (now (rec .entry))) ⌝ }
-    ensures { λ _. ⌜ now (bytes .exit) ≡ bytesThen (timeJoins (now (table .entry)) (now (used .entry)) (timeJudged (now (table .entry)) (now (used .entry)) (now (bytes .entry)) (now (ends .entry)) (now (names .entry)) (now (size .entry)) (now (rec .entry)))) (now (bytes .entry)) (now (size .entry)) (nameIn (now (rec .entry))) ⌝ }
-    ensures { λ _. ⌜ now (ends .exit) ≡ endsThen (timeJoins (now (table .entry)) (now (used .entry)) (timeJudged (now (table .entry)) (now (used .entry)) (now (bytes .entry)) (now (ends .entry)) (now (names .entry)) (now (size .entry)) (now (rec .entry)))) (now (ends .entry)) (now (names .entry)) (now (size .entry)) (nameIn (now (rec .entry))) ⌝ }
+    ensures { λ r. ⌜ r ≡ numberIn (timeAnswer (now (table .entry)) (now (used .entry)) (now (names .entry)) (now («name_bytes» .entry)) (nameIn (now (rec .entry))) (timeJudged (now (table .entry)) (now (used .entry)) (now (bytes .entry)) (now (ends .entry)) (now (names .entry)) (now («name_bytes» .entry)) (now (rec .entry)))) ⌝ }
+    ensures { λ _. ⌜ now (used .exit) ≡ valueIn (now (used .entry)) 0 (timeAnswer (now (table .entry)) (now (used .entry)) (now (names .entry)) (now («name_bytes» .entry)) (nameIn (now (rec .entry))) (timeJudged (now (table .entry)) (now (used .entry)) (now (bytes .entry)) (now (ends .entry)) (now (names .entry)) (now («name_bytes» .entry)) (now (rec .entry)))) ⌝ }
+    ensures { λ _. ⌜ now (names .exit) ≡ valueIn (now (names .entry)) 1 (timeAnswer (now (table .entry)) (now (used .entry)) (now (names .entry)) (now («name_bytes» .entry)) (nameIn (now (rec .entry))) (timeJudged (now (table .entry)) (now (used .entry)) (now (bytes .entry)) (now (ends .entry)) (now (names .entry)) (now («name_bytes» .entry)) (now (rec .entry)))) ⌝ }
+    ensures { λ _. ⌜ now («name_bytes» .exit) ≡ valueIn (now («name_bytes» .entry)) 2 (timeAnswer (now (table .entry)) (now (used .entry)) (now (names .entry)) (now («name_bytes» .entry)) (nameIn (now (rec .entry))) (timeJudged (now (table .entry)) (now (used .entry)) (now (bytes .entry)) (now (ends .entry)) (now (names .entry)) (now («name_bytes» .entry)) (now (rec .entry)))) ⌝ }
+    ensures { λ _. ⌜ now (reason .exit) ≡ damageIn (now (reason .entry)) 2 (timeAnswer (now (table .entry)) (now (used .entry)) (now (names .entry)) (now («name_bytes» .entry)) (nameIn (now (rec .entry))) (timeJudged (now (table .entry)) (now (used .entry)) (now (bytes .entry)) (now (ends .entry)) (now (names .entry)) (now («name_bytes» .entry)) (now (rec .entry)))) ⌝ }
+    ensures { λ _. ⌜ now (table .exit) ≡ timeTable (now (table .entry)) (now (used .entry)) (timeJudged (now (table .entry)) (now (used .entry)) (now (bytes .entry)) (now (ends .entry)) (now (names .entry)) (now («name_bytes» .entry)) (now (rec .entry))) ⌝ }
+    ensures { λ _. ⌜ now (bytes .exit) ≡ bytesThen (timeJoins (now (table .entry)) (now (used .entry)) (timeJudged (now (table .entry)) (now (used .entry)) (now (bytes .entry)) (now (ends .entry)) (now (names .entry)) (now («name_bytes» .entry)) (now (rec .entry)))) (now (bytes .entry)) (now («name_bytes» .entry)) (nameIn (now (rec .entry))) ⌝ }
+    ensures { λ _. ⌜ now (ends .exit) ≡ endsThen (timeJoins (now (table .entry)) (now (used .entry)) (timeJudged (now (table .entry)) (now (used .entry)) (now (bytes .entry)) (now (ends .entry)) (now (names .entry)) (now («name_bytes» .entry)) (now (rec .entry)))) (now (ends .entry)) (now (names .entry)) (now («name_bytes» .entry)) (nameIn (now (rec .entry))) ⌝ }
 {
-    let recorded = map_record::mapping::on_record(table, *used, bytes, ends, *names, *size, rec);
+    let recorded = map_record::mapping::on_record(
+        table,
+        *used,
+        bytes,
+        ends,
+        *names,
+        *name_bytes,
+        rec,
+    );
     match recorded {
         Recorded::Done {
             used: rows,
             names: count,
-            size: filled,
+            name_bytes: filled,
         } => {
             *used = rows;
             *names = count;
-            *size = filled;
+            *name_bytes = filled;
             DONE
         }
         Recorded::Refused(refusal) => {

@@ -66,18 +66,18 @@ pub extern "C" fn desk_on_record_point(
     bytes: &mut [u8],
     ends: &mut [u32],
     names: &mut usize,
-    size: &mut usize,
+    name_bytes: &mut usize,
     rec: &[u8],
     reason: &mut u64,
 ) -> u32
-    ensures { λ r. ⌜ r ≡ numberIn (pointAnswer (now (table .entry)) (now (used .entry)) (now (names .entry)) (now (size .entry)) (nameIn (now (rec .entry))) (pointJudged (now (table .entry)) (now (used .entry)) (now (bytes .entry)) (now (ends .entry)) (now (names .entry)) (now (size .entry)) (now (rec .entry)))) ⌝ }
-    ensures { λ _. ⌜ now (used .exit) ≡ valueIn (now (used .entry)) 0 (pointAnswer (now (table .entry)) (now (used .entry)) (now (names .entry)) (now (size .entry)) (nameIn (now (rec .entry))) (pointJudged (now (table .entry)) (now (used .entry)) (now (bytes .entry)) (now (ends .entry)) (now (names .entry)) (now (size .entry)) (now (rec .entry)))) ⌝ }
-    ensures { λ _. ⌜ now (names .exit) ≡ valueIn (now (names .entry)) 1 (pointAnswer (now (table .entry)) (now (used .entry)) (now (names .entry)) (now (size .entry)) (nameIn (now (rec .entry))) (pointJudged (now (table .entry)) (now (used .entry)) (now (bytes .entry)) (now (ends .entry)) (now (names .entry)) (now (size .entry)) (now (rec .entry)))) ⌝ }
-    ensures { λ _. ⌜ now (size .exit) ≡ valueIn (now (size .entry)) 2 (pointAnswer (now (table .entry)) (now (used .entry)) (now (names .entry)) (now (size .entry)) (nameIn (now (rec .entry))) (pointJudged (now (table .entry)) (now (used .entry)) (now (bytes .entry)) (now (ends .entry)) (now (names .entry)) (now (size .entry)) (now (rec .entry)))) ⌝ }
-    ensures { λ _. ⌜ now (reason .exit) ≡ damageIn (now (reason .entry)) 2 (pointAnswer (now (table .entry)) (now (used .entry)) (now (names .entry)) (now (size .entry)) (nameIn (now (rec .entry))) (pointJudged (now (table .entry)) (now (used .entry)) (now (bytes .entry)) (now (ends .entry)) (now (names .entry)) (now (size .entry)) (now (rec .entry)))) ⌝ }
-    ensures { λ _. ⌜ now (table .exit) ≡ pointTable (now (table .entry)) (now (used .entry)) (pointJudged (now (table .entry)) (now (used .entry)) (now (bytes .entry)) (now (ends .entry)) (now (names .entry)) (now (size .entry)) (now (rec .entry))) ⌝ }
-    ensures { λ _. ⌜ now (bytes .exit) ≡ bytesThen (pointJoins (now (table .entry)) (now (used .entry)) (pointJudged (now (table .entry)) (now (used .entry)) (now (bytes .entry)) (now (ends .entry)) (now (names .entry)) (now (size .entry)) (now (rec .entry)))) (now (bytes .entry)) (now (size .entry)) (nameIn (now (rec .entry))) ⌝ }
-    ensures { λ _. ⌜ now (ends .exit) ≡ endsThen (pointJoins (now (table .entry)) (now (used .entry)) (pointJudged (now (table .entry)) (now (used .entry)) (now (bytes .entry)) (now (ends .entry)) (now (names .entry)) (now (size .entry)) (now (rec .entry)))) (now (ends .entry)) (now (names .entry)) (now (size .entry)) (nameIn (now (rec .entry))) ⌝ }
+    ensures { λ r. ⌜ r ≡ numberIn (pointAnswer (now (table .entry)) (now (used .entry)) (now (names .entry)) (now («name_bytes» .entry)) (nameIn (now (rec .entry))) (pointJudged (now (table .entry)) (now (used .entry)) (now (bytes .entry)) (now (ends .entry)) (now (names .entry)) (now («name_bytes» .entry)) (now (rec .entry)))) ⌝ }
+    ensures { λ _. ⌜ now (used .exit) ≡ valueIn (now (used .entry)) 0 (pointAnswer (now (table .entry)) (now (used .entry)) (now (names .entry)) (now («name_bytes» .entry)) (nameIn (now (rec .entry))) (pointJudged (now (table .entry)) (now (used .entry)) (now (bytes .entry)) (now (ends .entry)) (now (names .entry)) (now («name_bytes» .entry)) (now (rec .entry)))) ⌝ }
+    ensures { λ _. ⌜ now (names .exit) ≡ valueIn (now (names .entry)) 1 (pointAnswer (now (table .entry)) (now (used .entry)) (now (names .entry)) (now («name_bytes» .entry)) (nameIn (now (rec .entry))) (pointJudged (now (table .entry)) (now (used .entry)) (now (bytes .entry)) (now (ends .entry)) (now (names .entry)) (now («name_bytes» .entry)) (now (rec .entry)))) ⌝ }
+    ensures { λ _. ⌜ now («name_bytes» .exit) ≡ valueIn (now («name_bytes» .entry)) 2 (pointAnswer (now (table .entry)) (now (used .entry)) (now (names .entry)) (now («name_bytes» .entry)) (nameIn (now (rec .entry))) (pointJudged (now (table .entry)) (now (used .entry)) (now (bytes .entry)) (now (ends .entry)) (now (names .entry)) (now («name_bytes» .entry)) (now (rec .entry)))) ⌝ }
+    ensures { λ _. ⌜ now (reason .exit) ≡ damageIn (now (reason .entry)) 2 (pointAnswer (now (table .entry)) (now (used .entry)) (now (names .entry)) (now («name_bytes» .entry)) (nameIn (now (rec .entry))) (pointJudged (now (table .entry)) (now (used .entry)) (now (bytes .entry)) (now (ends .entry)) (now (names .entry)) (now («name_bytes» .entry)) (now (rec .entry)))) ⌝ }
+    ensures { λ _. ⌜ now (table .exit) ≡ pointTable (now (table .entry)) (now (used .entry)) (pointJudged (now (table .entry)) (now (used .entry)) (now (bytes .entry)) (now (ends .entry)) (now (names .entry)) (now («name_bytes» .entry)) (now (rec .entry))) ⌝ }
+    ensures { λ _. ⌜ now (bytes .exit) ≡ bytesThen (pointJoins (now (table .entry)) (now (used .entry)) (pointJudged (now (table .entry)) (now (used .entry)) (now (bytes .entry)) (now (ends .entry)) (now (names .entry)) (now («name_bytes» .entry)) (now (rec .entry)))) (now (bytes .entry)) (now («name_bytes» .entry)) (nameIn (now (rec .entry))) ⌝ }
+    ensures { λ _. ⌜ now (ends .exit) ≡ endsThen (pointJoins (now (table .entry)) (now (used .entry)) (pointJudged (now (table .entry)) (now (used .entry)) (now (bytes .entry)) (now (ends .entry)) (now (names .entry)) (now («name_bytes» .entry)) (now (rec .entry)))) (now (ends .entry)) (now (names .entry)) (now («name_bytes» .entry)) (nameIn (now (rec .entry))) ⌝ }
 {
     let recorded = map_record::mapping::on_record_point(
         table,
@@ -85,18 +85,18 @@ pub extern "C" fn desk_on_record_point(
         bytes,
         ends,
         *names,
-        *size,
+        *name_bytes,
         rec,
     );
     match recorded {
         Recorded::Done {
             used: rows,
             names: count,
-            size: filled,
+            name_bytes: filled,
         } => {
             *used = rows;
             *names = count;
-            *size = filled;
+            *name_bytes = filled;
             DONE
         }
         Recorded::Refused(refusal) => {

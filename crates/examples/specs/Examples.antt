@@ -14,7 +14,7 @@ use Rattle.leaves_days.specs.Calendar.{isLeap, monthDays, daysOfYears, daysBefo
 use Rattle.leaves_days.specs.Days.{dayOf}
 use Rattle.leaves.specs.Frame.{frameAt}
 use Rattle.map_rules.specs.Table.{Row, Outcome, inserted}
-use Rattle.map_rules.specs.Memory.{width, rowAt, rowsFrom, rows, bytesOf, rowBytes, rowsBytes, badTable, insertOutcome, rowsWritten, memoryAfter, outcomeAnswer, usedAfter}
+use Rattle.map_rules.specs.Memory.{width, rowAt, rowsFrom, rows, bytesOf, rowBytes, rowsBytes, tableFits, insertOutcome, rowsWritten, memoryAfter, outcomeAnswer, usedAfter}
 use Rattle.map_rules.specs.Lookup.{lookupRows}
 use Rattle.map_rules.specs.Looks.{saidAnswer, lookupAnswer}
 use Rattle.metadata_rules.specs.Metadata as merging
@@ -257,5 +257,5 @@ agree f g (y ∷ ys) e x (inr m) = let h : map f ys ≡ map g ys = cc in agree f
 
 -- each of the twelve gives what it says
 pub every-holds : (x : Example) → Mem x examples → gives x ≡ said x
-unfolding gives said examples outcomeAnswer insertOutcome inserted badTable memoryAfter rowsWritten rowsBytes rowBytes bytesOf usedAfter rowsFrom rowAt field lookupAnswer saidAnswer lookupRows numberText someDigits digits isDigit dayOf isDate isLeap monthDays dayNumber daysOfYears daysBefore mergeAnswer mergeLists bothFit metadataFits metadataOf mappingsFrom before mappingWords intervalWords over knownDate merging.merge answersF start padded opening arraysFit rightStreams streamsOf frameAt
+unfolding gives said examples outcomeAnswer insertOutcome inserted tableFits memoryAfter rowsWritten rowsBytes rowBytes bytesOf usedAfter rowsFrom rowAt field lookupAnswer saidAnswer lookupRows numberText someDigits digits isDigit dayOf isDate isLeap monthDays dayNumber daysOfYears daysBefore mergeAnswer mergeLists bothFit metadataFits metadataOf mappingsFrom before mappingWords intervalWords over knownDate merging.merge answersF start padded opening arraysFit rightStreams streamsOf frameAt
 every-holds = agree gives said examples refl

@@ -51,17 +51,17 @@ isName name = leb (length name) 255 && isUtf8 name
 
 -- so many names, from number n on: no end falls, each name is valid, and the last ends where the bytes in use do
 unfoldable pub standFrom : List ℕ → List ℕ → ℕ → ℕ → ℕ → Bool
-standFrom bytes ends used n zero = eqb (nameStart ends n) used
-standFrom bytes ends used n (suc k) =
-    leb (nameStart ends n) (nameEnd ends n) && isName (nameOf bytes ends n) && standFrom bytes ends used (suc n) k
+standFrom bytes ends name-bytes n zero = eqb (nameStart ends n) name-bytes
+standFrom bytes ends name-bytes n (suc k) =
+    leb (nameStart ends n) (nameEnd ends n) && isName (nameOf bytes ends n) && standFrom bytes ends name-bytes (suc n) k
 
 -- "A name list is well-formed if valid names stand one after another"
 unfoldable pub wellFormed : List ℕ → List ℕ → ℕ → ℕ → Bool
-wellFormed bytes ends names used = standFrom bytes ends used 0 names
+wellFormed bytes ends names name-bytes = standFrom bytes ends name-bytes 0 names
 
 -- "At most 4,096 names and 65,536 name bytes in all"; each number in use within its room
-unfoldable pub memoryOk : ℕ → ℕ → ℕ → ℕ → Bool
-memoryOk bytes places names used = leb places 4096 && leb bytes 65536 && leb names places && leb used bytes
+unfoldable pub listFits : ℕ → ℕ → ℕ → ℕ → Bool
+listFits bytes places names name-bytes = leb places 4096 && leb bytes 65536 && leb names places && leb name-bytes bytes
 
 -- the answer of a check
 abbrev pub checkedOf : Checked → Answer
@@ -70,9 +70,9 @@ checkedOf (Checked-refused r) = refused r
 
 -- a check of a name list: 15, then 14
 unfoldable pub checkNames : List ℕ → List ℕ → ℕ → ℕ → Answer
-checkNames bytes ends names used =
-    cond (memoryOk (length bytes) (length ends) names used)
-    (cond (wellFormed bytes ends names used) (answer 0 []) (refused IllFormed))
+checkNames bytes ends names name-bytes =
+    cond (listFits (length bytes) (length ends) names name-bytes)
+    (cond (wellFormed bytes ends names name-bytes) (answer 0 []) (refused IllFormed))
     (refused BadMemory)
 
 -- ---- naming
@@ -91,52 +91,52 @@ least name (x ∷ xs) = cond (same name x) 0 (suc (least name xs))
 
 -- one name more, of so many bytes, passes neither 4,096 names, nor 65,536 bytes, nor the room lent
 unfoldable pub hasRoom : ℕ → ℕ → ℕ → ℕ → ℕ → Bool
-hasRoom bytes places names used size =
-    leb (names + 1) 4096 && leb (used + size) 65536 && leb (names + 1) places && leb (used + size) bytes
+hasRoom bytes places names name-bytes size =
+    leb (names + 1) 4096 && leb (name-bytes + size) 65536 && leb (names + 1) places && leb (name-bytes + size) bytes
 
 -- what becomes of a valid name whose least number is this: "the least number with equal bytes, else the next new one", or 5
 unfoldable pub numbering : ℕ → ℕ → ℕ → ℕ → ℕ → ℕ → Naming
-numbering bytes places names used size number =
+numbering bytes places names name-bytes size number =
     cond (ltb number names) (Old number)
-    (cond (hasRoom bytes places names used size) (New names) (Not-named NoNameRoom))
+    (cond (hasRoom bytes places names name-bytes size) (New names) (Not-named NoNameRoom))
 
 -- what becomes of a name: 15, 14, 4, then its number or 5
 unfoldable pub naming : List ℕ → List ℕ → ℕ → ℕ → List ℕ → Naming
-naming bytes ends names used name =
-    cond (memoryOk (length bytes) (length ends) names used)
-    (cond (wellFormed bytes ends names used)
+naming bytes ends names name-bytes name =
+    cond (listFits (length bytes) (length ends) names name-bytes)
+    (cond (wellFormed bytes ends names name-bytes)
     (cond (isName name)
-    (numbering (length bytes) (length ends) names used (length name) (least name (namesOf bytes ends names)))
+    (numbering (length bytes) (length ends) names name-bytes (length name) (least name (namesOf bytes ends names)))
     (Not-named BadName))
     (Not-named IllFormed))
     (Not-named BadMemory)
 
 -- the answer of naming
 abbrev pub namedOf : Named → Answer
-namedOf (Number number names used) = answer 0 (number ∷ names ∷ used ∷ [])
+namedOf (Number number names name-bytes) = answer 0 (number ∷ names ∷ name-bytes ∷ [])
 namedOf (Named-refused r) = refused r
 
 -- what naming answers: the number, then the names and the bytes in use, of which a new name adds to both
 abbrev pub namingAnswer : ℕ → ℕ → List ℕ → Naming → Answer
-namingAnswer names used name (Old number) = answer 0 (number ∷ names ∷ used ∷ [])
-namingAnswer names used name (New number) = answer 0 (number ∷ (names + 1) ∷ (used + length name) ∷ [])
-namingAnswer names used name (Not-named r) = refused r
+namingAnswer names name-bytes name (Old number) = answer 0 (number ∷ names ∷ name-bytes ∷ [])
+namingAnswer names name-bytes name (New number) = answer 0 (number ∷ (names + 1) ∷ (name-bytes + length name) ∷ [])
+namingAnswer names name-bytes name (Not-named r) = refused r
 
 -- the lent bytes with a name after those in use
 unfoldable pub nameWritten : List ℕ → ℕ → List ℕ → List ℕ
-nameWritten bytes used name = paste bytes used name (length name)
+nameWritten bytes name-bytes name = paste bytes name-bytes name (length name)
 
 -- the lent bytes after naming: a new name's stand after those in use, all else is as it was
 abbrev pub bytesAfter : List ℕ → ℕ → List ℕ → Naming → List ℕ
-bytesAfter bytes used name (Old number) = bytes
-bytesAfter bytes used name (New number) = nameWritten bytes used name
-bytesAfter bytes used name (Not-named r) = bytes
+bytesAfter bytes name-bytes name (Old number) = bytes
+bytesAfter bytes name-bytes name (New number) = nameWritten bytes name-bytes name
+bytesAfter bytes name-bytes name (Not-named r) = bytes
 
 -- the lent ends after naming: a new name's stands after those in use, all else is as it was
 abbrev pub endsAfter : List ℕ → ℕ → ℕ → List ℕ → Naming → List ℕ
-endsAfter ends names used name (Old number) = ends
-endsAfter ends names used name (New number) = set ends names (used + length name)
-endsAfter ends names used name (Not-named r) = ends
+endsAfter ends names name-bytes name (Old number) = ends
+endsAfter ends names name-bytes name (New number) = set ends names (name-bytes + length name)
+endsAfter ends names name-bytes name (Not-named r) = ends
 
 -- ---- where a name lies
 
@@ -147,9 +147,9 @@ placedOf (Placed-refused r) = refused r
 
 -- where name n lies, its first byte and its end: 15, 14, 3
 unfoldable pub placeOfName : List ℕ → List ℕ → ℕ → ℕ → ℕ → Answer
-placeOfName bytes ends names used n =
-    cond (memoryOk (length bytes) (length ends) names used)
-    (cond (wellFormed bytes ends names used)
+placeOfName bytes ends names name-bytes n =
+    cond (listFits (length bytes) (length ends) names name-bytes)
+    (cond (wellFormed bytes ends names name-bytes)
     (cond (ltb n names) (answer 0 (nameStart ends n ∷ nameEnd ends n ∷ [])) (refused UnknownSymbol))
     (refused IllFormed))
     (refused BadMemory)

@@ -13,7 +13,7 @@ use lib.Seq.{slice, length-slice, paste, paste-suc, length-paste, getD-drop, get
 use native.Mathlib.Nat.{add-zero, zero-add}
 use Rattle.leaves_names.specs.Utf8.{isUtf8}
 use Rattle.theory.specs.Slices.{cut, none-left, whole}
-use Rattle.leaves_names.specs.Names.{nameStart, nameEnd, nameOf, namesFrom, namesOf, isName, standFrom, wellFormed, memoryOk, same, least, hasRoom, numbering, naming, namingAnswer, nameWritten, bytesAfter, endsAfter}
+use Rattle.leaves_names.specs.Names.{nameStart, nameEnd, nameOf, namesFrom, namesOf, isName, standFrom, wellFormed, listFits, same, least, hasRoom, numbering, naming, namingAnswer, nameWritten, bytesAfter, endsAfter}
 use Rattle.theory.specs.Answer.{answer}
 use Rattle.leaves.specs.Refusal.{refused}
 use Rattle.leaves.specs.declared.refusal.Refusal.{Refusal}
@@ -23,7 +23,7 @@ use Rattle.leaves_names.specs.declared.names.Naming.the-variants.{Old, N
 
 -- a name lies from start to end, within the bytes in use
 unfoldable pub standing : List ℕ → ℕ → ℕ → ℕ → Bool
-standing bytes used start end = leb start end && leb end used && isName (slice start end bytes)
+standing bytes name-bytes start end = leb start end && leb end name-bytes && isName (slice start end bytes)
 
 -- the names in use lie one after another within the bytes lent
 pub record Ordered (bytes ends : List ℕ) (names : ℕ) : Type 0 where
@@ -55,55 +55,55 @@ holds {f} e h = sym e ∙ not-false f h
 -- ---- the limits
 
 -- lent memory within the limits, and the numbers in use within it
-pub record Memory (bytes places names used : ℕ) : Type 0 where
+pub record Memory (bytes places names name-bytes : ℕ) : Type 0 where
   pub few : places ≤ 4096
   pub small : bytes ≤ 65536
   pub held : names ≤ places
-  pub room : used ≤ bytes
+  pub room : name-bytes ≤ bytes
 
-pub memory : (bytes places names used : ℕ) → memoryOk bytes places names used ≡ true → Memory bytes places names used
-unfolding memoryOk
-memory bytes places names used e =
-    let p = and-left (leb places 4096 && leb bytes 65536 && leb names places) (leb used bytes) e in
+pub memory : (bytes places names name-bytes : ℕ) → listFits bytes places names name-bytes ≡ true → Memory bytes places names name-bytes
+unfolding listFits
+memory bytes places names name-bytes e =
+    let p = and-left (leb places 4096 && leb bytes 65536 && leb names places) (leb name-bytes bytes) e in
     let q = and-left (leb places 4096 && leb bytes 65536) (leb names places) p in
     record {
       few = leb-true _ _ (and-left (leb places 4096) (leb bytes 65536) q);
       small = leb-true _ _ (and-right (leb places 4096) (leb bytes 65536) q);
       held = leb-true _ _ (and-right (leb places 4096 && leb bytes 65536) (leb names places) p);
-      room = leb-true _ _ (and-right (leb places 4096 && leb bytes 65536 && leb names places) (leb used bytes) e);
+      room = leb-true _ _ (and-right (leb places 4096 && leb bytes 65536 && leb names places) (leb name-bytes bytes) e);
     }
 
 -- and back
-pub memory-so : (bytes places names used : ℕ) → Memory bytes places names used → memoryOk bytes places names used ≡ true
-unfolding memoryOk
-memory-so bytes places names used m = rw (le-leb _ _ (m .few), le-leb _ _ (m .small), le-leb _ _ (m .held)) (le-leb _ _ (m .room))
+pub memory-so : (bytes places names name-bytes : ℕ) → Memory bytes places names name-bytes → listFits bytes places names name-bytes ≡ true
+unfolding listFits
+memory-so bytes places names name-bytes m = rw (le-leb _ _ (m .few), le-leb _ _ (m .small), le-leb _ _ (m .held)) (le-leb _ _ (m .room))
 
 -- no place is left
-pub room-none : (bytes places names used size : ℕ) → Memory bytes places names used → places ≤ names → false ≡ hasRoom bytes places names used size
+pub room-none : (bytes places names name-bytes size : ℕ) → Memory bytes places names name-bytes → places ≤ names → false ≡ hasRoom bytes places names name-bytes size
 unfolding hasRoom
-room-none bytes places names used size m h =
-    rw (lt-leb (names + 1) places (omega arith), and-false (leb (names + 1) 4096 && leb (used + size) 65536))
+room-none bytes places names name-bytes size m h =
+    rw (lt-leb (names + 1) places (omega arith), and-false (leb (names + 1) 4096 && leb (name-bytes + size) 65536))
 
-room-yes : (bytes places names used size : ℕ) → Memory bytes places names used → names < places → size ≤ bytes - used → true ≡ hasRoom bytes places names used size
+room-yes : (bytes places names name-bytes size : ℕ) → Memory bytes places names name-bytes → names < places → size ≤ bytes - name-bytes → true ≡ hasRoom bytes places names name-bytes size
 unfolding hasRoom
-room-yes bytes places names used size m h k =
+room-yes bytes places names name-bytes size m h k =
     let r = m .room in
     let s = m .small in
     let f = m .few in
-    rw (le-leb (names + 1) 4096 (omega arith), le-leb (used + size) 65536 (omega arith), le-leb (names + 1) places (omega arith), le-leb (used + size) bytes (omega arith))
+    rw (le-leb (names + 1) 4096 (omega arith), le-leb (name-bytes + size) 65536 (omega arith), le-leb (names + 1) places (omega arith), le-leb (name-bytes + size) bytes (omega arith))
 
-room-no : (bytes places names used size : ℕ) → Memory bytes places names used → bytes - used < size → false ≡ hasRoom bytes places names used size
+room-no : (bytes places names name-bytes size : ℕ) → Memory bytes places names name-bytes → bytes - name-bytes < size → false ≡ hasRoom bytes places names name-bytes size
 unfolding hasRoom
-room-no bytes places names used size m k =
-    rw (lt-leb (used + size) bytes (omega arith), and-false (leb (names + 1) 4096 && leb (used + size) 65536 && leb (names + 1) places))
+room-no bytes places names name-bytes size m k =
+    rw (lt-leb (name-bytes + size) bytes (omega arith), and-false (leb (names + 1) 4096 && leb (name-bytes + size) 65536 && leb (names + 1) places))
 
 -- a place is left: the bytes decide
-pub room-some : (bytes places names used size : ℕ) → Memory bytes places names used → names < places → leb size (bytes - used) ≡ hasRoom bytes places names used size
-room-some bytes places names used size m h = go (leb size (bytes - used)) refl
+pub room-some : (bytes places names name-bytes size : ℕ) → Memory bytes places names name-bytes → names < places → leb size (bytes - name-bytes) ≡ hasRoom bytes places names name-bytes size
+room-some bytes places names name-bytes size m h = go (leb size (bytes - name-bytes)) refl
   where
-    go : (t : Bool) → leb size (bytes - used) ≡ t → t ≡ hasRoom bytes places names used size
-    go true e = room-yes bytes places names used size m h (leb-true _ _ e)
-    go false e = room-no bytes places names used size m (leb-false _ _ e)
+    go : (t : Bool) → leb size (bytes - name-bytes) ≡ t → t ≡ hasRoom bytes places names name-bytes size
+    go true e = room-yes bytes places names name-bytes size m h (leb-true _ _ e)
+    go false e = room-no bytes places names name-bytes size m (leb-false _ _ e)
 
 -- ---- the walk that checks a list
 
@@ -120,137 +120,137 @@ start-after ends {n} h =
     let e : n - 1 + 1 ≡ n = omega arith in
     sym (start-next ends (n - 1)) ∙ ap (nameStart ends) e
 
-stand-next : (bytes ends : List ℕ) (used : ℕ) {n names : ℕ} → n < names
-    → standFrom bytes ends used n (names - n) ≡ (leb (nameStart ends n) (nameEnd ends n) && isName (nameOf bytes ends n) && standFrom bytes ends used (n + 1) (names - (n + 1)))
+stand-next : (bytes ends : List ℕ) (name-bytes : ℕ) {n names : ℕ} → n < names
+    → standFrom bytes ends name-bytes n (names - n) ≡ (leb (nameStart ends n) (nameEnd ends n) && isName (nameOf bytes ends n) && standFrom bytes ends name-bytes (n + 1) (names - (n + 1)))
 unfolding standFrom
-stand-next bytes ends used {n} {names} h =
+stand-next bytes ends name-bytes {n} {names} h =
     let e : names - n ≡ suc (names - (n + 1)) = omega arith in
     rw (e, add-one)
 
-past-on : (bytes ends : List ℕ) (used n k : ℕ) (t : Bool) → leb (nameStart ends n) (nameEnd ends n) ≡ t → used < nameStart ends n
-    → (used < nameStart ends (suc n) → standFrom bytes ends used (suc n) k ≡ false) → standFrom bytes ends used n (suc k) ≡ false
+past-on : (bytes ends : List ℕ) (name-bytes n k : ℕ) (t : Bool) → leb (nameStart ends n) (nameEnd ends n) ≡ t → name-bytes < nameStart ends n
+    → (name-bytes < nameStart ends (suc n) → standFrom bytes ends name-bytes (suc n) k ≡ false) → standFrom bytes ends name-bytes n (suc k) ≡ false
 unfolding standFrom nameStart
-past-on bytes ends used n k true e h on =
+past-on bytes ends name-bytes n k true e h on =
     let l : nameStart ends n ≤ getD ends n 0 = leb-true _ _ e in
     rw (e, on (omega arith)) (and-false (isName (nameOf bytes ends n)))
-past-on bytes ends used n k false e h on = rw e
+past-on bytes ends name-bytes n k false e h on = rw e
 
 -- a name that begins past the bytes in use: no list
-past : (bytes ends : List ℕ) (used n k : ℕ) → used < nameStart ends n → standFrom bytes ends used n k ≡ false
+past : (bytes ends : List ℕ) (name-bytes n k : ℕ) → name-bytes < nameStart ends n → standFrom bytes ends name-bytes n k ≡ false
 unfolding standFrom
-past bytes ends used n zero h = ne-eqb (nameStart ends n) used (λ e. omega arith)
-past bytes ends used n (suc k) h = past-on bytes ends used n k (leb (nameStart ends n) (nameEnd ends n)) refl h (past bytes ends used (suc n) k)
+past bytes ends name-bytes n zero h = ne-eqb (nameStart ends n) name-bytes (λ e. omega arith)
+past bytes ends name-bytes n (suc k) h = past-on bytes ends name-bytes n k (leb (nameStart ends n) (nameEnd ends n)) refl h (past bytes ends name-bytes (suc n) k)
 
-stands-not : (bytes ends : List ℕ) (used n k : ℕ) (t u : Bool) → leb (nameStart ends n) (nameEnd ends n) ≡ t → leb (nameEnd ends n) used ≡ u
-    → standing bytes used (nameStart ends n) (nameEnd ends n) ≡ false → (leb (nameStart ends n) (nameEnd ends n) && isName (nameOf bytes ends n) && standFrom bytes ends used (n + 1) k) ≡ false
+stands-not : (bytes ends : List ℕ) (name-bytes n k : ℕ) (t u : Bool) → leb (nameStart ends n) (nameEnd ends n) ≡ t → leb (nameEnd ends n) name-bytes ≡ u
+    → standing bytes name-bytes (nameStart ends n) (nameEnd ends n) ≡ false → (leb (nameStart ends n) (nameEnd ends n) && isName (nameOf bytes ends n) && standFrom bytes ends name-bytes (n + 1) k) ≡ false
 unfolding standing nameOf
-stands-not bytes ends used n k true true e f h = rw (e, rw (e, f) at h)
-stands-not bytes ends used n k true false e f h =
-    let l : used < getD ends n 0 = leb-false _ _ f in
-    let p : used < nameStart ends (n + 1) = rw (start-next ends n) l in
-    rw (e, past bytes ends used (n + 1) k p) (and-false (isName (slice (nameStart ends n) (nameEnd ends n) bytes)))
-stands-not bytes ends used n k false u e f h = rw e
+stands-not bytes ends name-bytes n k true true e f h = rw (e, rw (e, f) at h)
+stands-not bytes ends name-bytes n k true false e f h =
+    let l : name-bytes < getD ends n 0 = leb-false _ _ f in
+    let p : name-bytes < nameStart ends (n + 1) = rw (start-next ends n) l in
+    rw (e, past bytes ends name-bytes (n + 1) k p) (and-false (isName (slice (nameStart ends n) (nameEnd ends n) bytes)))
+stands-not bytes ends name-bytes n k false u e f h = rw e
 
-stands-so : (bytes ends : List ℕ) (used n k : ℕ) (t u : Bool) → leb (nameStart ends n) (nameEnd ends n) ≡ t → leb (nameEnd ends n) used ≡ u
-    → standing bytes used (nameStart ends n) (nameEnd ends n) ≡ true
-    → (leb (nameStart ends n) (nameEnd ends n) && isName (nameOf bytes ends n) && standFrom bytes ends used (n + 1) k) ≡ standFrom bytes ends used (n + 1) k
+stands-so : (bytes ends : List ℕ) (name-bytes n k : ℕ) (t u : Bool) → leb (nameStart ends n) (nameEnd ends n) ≡ t → leb (nameEnd ends n) name-bytes ≡ u
+    → standing bytes name-bytes (nameStart ends n) (nameEnd ends n) ≡ true
+    → (leb (nameStart ends n) (nameEnd ends n) && isName (nameOf bytes ends n) && standFrom bytes ends name-bytes (n + 1) k) ≡ standFrom bytes ends name-bytes (n + 1) k
 unfolding standing nameOf
-stands-so bytes ends used n k true true e f h = rw (e, rw (e, f) at h)
-stands-so bytes ends used n k true false e f h = let z : false ≡ true = rw (e, f) at h in absurd (false≢true z)
-stands-so bytes ends used n k false u e f h = let z : false ≡ true = rw e at h in absurd (false≢true z)
+stands-so bytes ends name-bytes n k true true e f h = rw (e, rw (e, f) at h)
+stands-so bytes ends name-bytes n k true false e f h = let z : false ≡ true = rw (e, f) at h in absurd (false≢true z)
+stands-so bytes ends name-bytes n k false u e f h = let z : false ≡ true = rw e at h in absurd (false≢true z)
 
 -- n names were passed, the last of which ends at start; what is left to check is what there was
-pub record Walked (bytes ends : List ℕ) (names used start n : ℕ) : Type 0 where
+pub record Walked (bytes ends : List ℕ) (names name-bytes start n : ℕ) : Type 0 where
   pub upto : n ≤ names
   pub begins : start ≡ nameStart ends n
-  pub left : wellFormed bytes ends names used ≡ standFrom bytes ends used n (names - n)
+  pub left : wellFormed bytes ends names name-bytes ≡ standFrom bytes ends name-bytes n (names - n)
 
-pub walk-none : (bytes ends : List ℕ) (names used : ℕ) → Walked bytes ends names used 0 0
+pub walk-none : (bytes ends : List ℕ) (names name-bytes : ℕ) → Walked bytes ends names name-bytes 0 0
 unfolding wellFormed nameStart
-walk-none bytes ends names used =
+walk-none bytes ends names name-bytes =
     let e : names ≡ names - 0 = omega arith in
-    record { upto = omega arith; begins = refl; left = ap (standFrom bytes ends used 0) e }
+    record { upto = omega arith; begins = refl; left = ap (standFrom bytes ends name-bytes 0) e }
 
-pub walk-turn : {bytes ends : List ℕ} {names used start end n : ℕ} {f : Bool} → Walked bytes ends names used start n → n < names → end ≡ getD ends n 0
-    → f ≡ standing bytes used start end → f ≡ true → Walked bytes ends names used end (n + 1)
-walk-turn {bytes} {ends} {names} {used} {start} {end} {n} w h e s t =
-    let st : standing bytes used (nameStart ends n) (nameEnd ends n) ≡ true = cc in
+pub walk-turn : {bytes ends : List ℕ} {names name-bytes start end n : ℕ} {f : Bool} → Walked bytes ends names name-bytes start n → n < names → end ≡ getD ends n 0
+    → f ≡ standing bytes name-bytes start end → f ≡ true → Walked bytes ends names name-bytes end (n + 1)
+walk-turn {bytes} {ends} {names} {name-bytes} {start} {end} {n} w h e s t =
+    let st : standing bytes name-bytes (nameStart ends n) (nameEnd ends n) ≡ true = cc in
     record {
       upto = omega arith;
       begins = e ∙ sym (start-next ends n);
-      left = w .left ∙ stand-next bytes ends used h ∙ stands-so bytes ends used n (names - (n + 1)) _ _ refl refl st;
+      left = w .left ∙ stand-next bytes ends name-bytes h ∙ stands-so bytes ends name-bytes n (names - (n + 1)) _ _ refl refl st;
     }
 
-pub walk-stop : {bytes ends : List ℕ} {names used start end n : ℕ} {f : Bool} → Walked bytes ends names used start n → n < names → end ≡ getD ends n 0
-    → f ≡ standing bytes used start end → f ≡ false → false ≡ wellFormed bytes ends names used
-walk-stop {bytes} {ends} {names} {used} {start} {end} {n} w h e s t =
-    let st : standing bytes used (nameStart ends n) (nameEnd ends n) ≡ false = cc in
-    sym (w .left ∙ stand-next bytes ends used h ∙ stands-not bytes ends used n (names - (n + 1)) _ _ refl refl st)
+pub walk-stop : {bytes ends : List ℕ} {names name-bytes start end n : ℕ} {f : Bool} → Walked bytes ends names name-bytes start n → n < names → end ≡ getD ends n 0
+    → f ≡ standing bytes name-bytes start end → f ≡ false → false ≡ wellFormed bytes ends names name-bytes
+walk-stop {bytes} {ends} {names} {name-bytes} {start} {end} {n} w h e s t =
+    let st : standing bytes name-bytes (nameStart ends n) (nameEnd ends n) ≡ false = cc in
+    sym (w .left ∙ stand-next bytes ends name-bytes h ∙ stands-not bytes ends name-bytes n (names - (n + 1)) _ _ refl refl st)
 
-pub walk-end : {bytes ends : List ℕ} {names used start n : ℕ} → Walked bytes ends names used start n → names ≤ n → eqb start used ≡ wellFormed bytes ends names used
+pub walk-end : {bytes ends : List ℕ} {names name-bytes start n : ℕ} → Walked bytes ends names name-bytes start n → names ≤ n → eqb start name-bytes ≡ wellFormed bytes ends names name-bytes
 unfolding standFrom
-walk-end {bytes} {ends} {names} {used} {start} {n} w h =
+walk-end {bytes} {ends} {names} {name-bytes} {start} {n} w h =
     let z : names - n ≡ 0 = omega arith in
-    ap (λ (x : ℕ). eqb x used) (w .begins) ∙ sym (w .left ∙ ap (standFrom bytes ends used n) z)
+    ap (λ (x : ℕ). eqb x name-bytes) (w .begins) ∙ sym (w .left ∙ ap (standFrom bytes ends name-bytes n) z)
 
 -- ---- what well-formed says of each name
 
 -- the names in use, name by name: no end falls or passes the bytes in use, each name is valid, and the last ends where those bytes do
-pub record Formed (bytes ends : List ℕ) (names used : ℕ) : Type 0 where
+pub record Formed (bytes ends : List ℕ) (names name-bytes : ℕ) : Type 0 where
   pub rising : (n : ℕ) → n < names → nameStart ends n ≤ nameEnd ends n
-  pub under : (n : ℕ) → n < names → nameEnd ends n ≤ used
+  pub under : (n : ℕ) → n < names → nameEnd ends n ≤ name-bytes
   pub valid : (n : ℕ) → n < names → isName (nameOf bytes ends n) ≡ true
-  pub last : nameStart ends names ≡ used
+  pub last : nameStart ends names ≡ name-bytes
 
-module _ (bytes ends : List ℕ) (used : ℕ) where
-  reach : (n k : ℕ) → standFrom bytes ends used n k ≡ true → nameStart ends n ≤ used
-  reach n k e = go (leb (nameStart ends n) used) refl
+module _ (bytes ends : List ℕ) (name-bytes : ℕ) where
+  reach : (n k : ℕ) → standFrom bytes ends name-bytes n k ≡ true → nameStart ends n ≤ name-bytes
+  reach n k e = go (leb (nameStart ends n) name-bytes) refl
     where
-      go : (t : Bool) → leb (nameStart ends n) used ≡ t → nameStart ends n ≤ used
+      go : (t : Bool) → leb (nameStart ends n) name-bytes ≡ t → nameStart ends n ≤ name-bytes
       go true l = leb-true _ _ l
-      go false l = absurd (false≢true (sym (past bytes ends used n k (leb-false _ _ l)) ∙ e))
+      go false l = absurd (false≢true (sym (past bytes ends name-bytes n k (leb-false _ _ l)) ∙ e))
 
-  module _ (names : ℕ) (w : wellFormed bytes ends names used ≡ true) where
-    suffix : (n : ℕ) → n ≤ names → standFrom bytes ends used n (names - n) ≡ true
+  module _ (names : ℕ) (w : wellFormed bytes ends names name-bytes ≡ true) where
+    suffix : (n : ℕ) → n ≤ names → standFrom bytes ends name-bytes n (names - n) ≡ true
     unfolding wellFormed
     suffix zero h = let e : names - 0 ≡ names = omega arith in rw e w
     suffix (suc n) h =
-        let e = sym (stand-next bytes ends used h) ∙ suffix n (omega arith) in
-        rw (← (add-one n)) (and-right (leb (nameStart ends n) (nameEnd ends n) && isName (nameOf bytes ends n)) (standFrom bytes ends used (n + 1) (names - (n + 1))) e)
+        let e = sym (stand-next bytes ends name-bytes h) ∙ suffix n (omega arith) in
+        rw (← (add-one n)) (and-right (leb (nameStart ends n) (nameEnd ends n) && isName (nameOf bytes ends n)) (standFrom bytes ends name-bytes (n + 1) (names - (n + 1))) e)
 
     first-two : {n : ℕ} → n < names → (leb (nameStart ends n) (nameEnd ends n) && isName (nameOf bytes ends n)) ≡ true
     first-two {n} h =
-        and-left (leb (nameStart ends n) (nameEnd ends n) && isName (nameOf bytes ends n)) (standFrom bytes ends used (n + 1) (names - (n + 1)))
-        (sym (stand-next bytes ends used h) ∙ suffix n (omega arith))
+        and-left (leb (nameStart ends n) (nameEnd ends n) && isName (nameOf bytes ends n)) (standFrom bytes ends name-bytes (n + 1) (names - (n + 1)))
+        (sym (stand-next bytes ends name-bytes h) ∙ suffix n (omega arith))
 
-    pub formed : Formed bytes ends names used
+    pub formed : Formed bytes ends names name-bytes
     unfolding standFrom
     formed =
         record {
           rising = λ n h. leb-true _ _ (and-left (leb (nameStart ends n) (nameEnd ends n)) (isName (nameOf bytes ends n)) (first-two h));
           under =
-              λ n h. let l : nameStart ends (n + 1) ≤ used = reach (n + 1) (names - (n + 1)) (suffix (n + 1) (omega arith)) in
+              λ n h. let l : nameStart ends (n + 1) ≤ name-bytes = reach (n + 1) (names - (n + 1)) (suffix (n + 1) (omega arith)) in
               rw (start-next ends n) at l;
           valid = λ n h. and-right (leb (nameStart ends n) (nameEnd ends n)) (isName (nameOf bytes ends n)) (first-two h);
           last = let z : names - names ≡ 0 = omega arith in let l = suffix names (omega arith) in eqb-true _ _ (rw z at l);
         }
 
   -- and back
-  module _ (names : ℕ) (f : Formed bytes ends names used) where
-    stands-on : (k n : ℕ) → n + k ≡ names → standFrom bytes ends used n k ≡ true
+  module _ (names : ℕ) (f : Formed bytes ends names name-bytes) where
+    stands-on : (k n : ℕ) → n + k ≡ names → standFrom bytes ends name-bytes n k ≡ true
     unfolding standFrom
     stands-on zero n e =
         let q : n ≡ names = omega arith in
-        eq-eqb (nameStart ends n) used (ap (nameStart ends) q ∙ f .last)
+        eq-eqb (nameStart ends n) name-bytes (ap (nameStart ends) q ∙ f .last)
     stands-on (suc k) n e =
         rw (le-leb _ _ (f .rising n (omega arith)), f .valid n (omega arith)) (stands-on k (suc n) (omega arith))
 
-    pub well-formed : wellFormed bytes ends names used ≡ true
+    pub well-formed : wellFormed bytes ends names name-bytes ≡ true
     unfolding wellFormed
     well-formed = stands-on names 0 (omega arith)
 
 -- a well-formed list in lent memory: its names lie one after another within the bytes lent
-pub ordered : {bytes ends : List ℕ} {names used : ℕ} → Memory (length bytes) (length ends) names used → Formed bytes ends names used → Ordered bytes ends names
+pub ordered : {bytes ends : List ℕ} {names name-bytes : ℕ} → Memory (length bytes) (length ends) names name-bytes → Formed bytes ends names name-bytes → Ordered bytes ends names
 ordered m f =
     let r = m .room in
     record { places = m .held; rising = f .rising; inside = λ n h. let u = f .under n h in omega arith }
@@ -412,30 +412,30 @@ copied-length bytes text at from to k l =
 
 -- ---- the case of a valid name
 
-pub numbered-old : (bytes places names used size number : ℕ) {r : ℕ} → r ≡ number → r < names → Old r ≡ numbering bytes places names used size number
+pub numbered-old : (bytes places names name-bytes size number : ℕ) {r : ℕ} → r ≡ number → r < names → Old r ≡ numbering bytes places names name-bytes size number
 unfolding numbering
-numbered-old bytes places names used size number e h =
+numbered-old bytes places names name-bytes size number e h =
     let l : number < names = omega arith in
     rw (lt-ltb number names l) (ap Old e)
 
-pub numbered-fresh : (bytes places names used size number : ℕ) {r : ℕ} → r ≡ number → names ≤ r
-    → numbering bytes places names used size number ≡ cond (hasRoom bytes places names used size) (New names) (Not-named NoNameRoom)
+pub numbered-fresh : (bytes places names name-bytes size number : ℕ) {r : ℕ} → r ≡ number → names ≤ r
+    → numbering bytes places names name-bytes size number ≡ cond (hasRoom bytes places names name-bytes size) (New names) (Not-named NoNameRoom)
 unfolding numbering
-numbered-fresh bytes places names used size number e h =
+numbered-fresh bytes places names name-bytes size number e h =
     let l : names ≤ number = omega arith in
     rw (le-ltb number names l)
 
-module _ (bytes places names used : ℕ) (text : List ℕ) (from to number : ℕ) (k : to ≤ length text) where
-  fresh : {r : ℕ} {f : Bool} → r ≡ number → names ≤ r → f ≡ hasRoom bytes places names used (to - from)
-      → numbering bytes places names used (length (slice from to text)) number ≡ cond f (New names) (Not-named NoNameRoom)
-  fresh e h g = rw (length-slice from to text k) (numbered-fresh bytes places names used (to - from) number e h ∙ rw (sym g))
+module _ (bytes places names name-bytes : ℕ) (text : List ℕ) (from to number : ℕ) (k : to ≤ length text) where
+  fresh : {r : ℕ} {f : Bool} → r ≡ number → names ≤ r → f ≡ hasRoom bytes places names name-bytes (to - from)
+      → numbering bytes places names name-bytes (length (slice from to text)) number ≡ cond f (New names) (Not-named NoNameRoom)
+  fresh e h g = rw (length-slice from to text k) (numbered-fresh bytes places names name-bytes (to - from) number e h ∙ rw (sym g))
 
-  numbered-new : {r : ℕ} {f : Bool} → r ≡ number → names ≤ r → f ≡ hasRoom bytes places names used (to - from) → f ≡ true
-      → New names ≡ numbering bytes places names used (length (slice from to text)) number
+  numbered-new : {r : ℕ} {f : Bool} → r ≡ number → names ≤ r → f ≡ hasRoom bytes places names name-bytes (to - from) → f ≡ true
+      → New names ≡ numbering bytes places names name-bytes (length (slice from to text)) number
   numbered-new e h g t = sym (fresh e h g ∙ rw t)
 
-  numbered-none : {r : ℕ} {f : Bool} → r ≡ number → names ≤ r → f ≡ hasRoom bytes places names used (to - from) → f ≡ false
-      → Not-named NoNameRoom ≡ numbering bytes places names used (length (slice from to text)) number
+  numbered-none : {r : ℕ} {f : Bool} → r ≡ number → names ≤ r → f ≡ hasRoom bytes places names name-bytes (to - from) → f ≡ false
+      → Not-named NoNameRoom ≡ numbering bytes places names name-bytes (length (slice from to text)) number
   numbered-none e h g t = sym (fresh e h g ∙ rw t)
 
 -- ---- what a case of naming says
@@ -458,52 +458,52 @@ is-old false true n m r e = let z : _≡_ {A = ℕ} 0 1 = cc in absurd (omega ar
 is-old false false n m r e = let z : _≡_ {A = ℕ} 0 1 = cc in absurd (omega arith)
 
 -- a valid name in a well-formed list in lent memory
-pub record Nameable (bytes ends : List ℕ) (names used : ℕ) (name : List ℕ) : Type 0 where
-  pub memory : Memory (length bytes) (length ends) names used
-  pub formed : Formed bytes ends names used
+pub record Nameable (bytes ends : List ℕ) (names name-bytes : ℕ) (name : List ℕ) : Type 0 where
+  pub memory : Memory (length bytes) (length ends) names name-bytes
+  pub formed : Formed bytes ends names name-bytes
   pub valid : isName name ≡ true
 
 -- room for one name more, of so many bytes
-pub record Room (bytes places names used size : ℕ) : Type 0 where
+pub record Room (bytes places names name-bytes size : ℕ) : Type 0 where
   pub few : names + 1 ≤ 4096
-  pub small : used + size ≤ 65536
+  pub small : name-bytes + size ≤ 65536
   pub place : names + 1 ≤ places
-  pub held : used + size ≤ bytes
+  pub held : name-bytes + size ≤ bytes
 
-pub room : (bytes places names used size : ℕ) → hasRoom bytes places names used size ≡ true → Room bytes places names used size
+pub room : (bytes places names name-bytes size : ℕ) → hasRoom bytes places names name-bytes size ≡ true → Room bytes places names name-bytes size
 unfolding hasRoom
-room bytes places names used size e =
-    let p = and-left (leb (names + 1) 4096 && leb (used + size) 65536 && leb (names + 1) places) (leb (used + size) bytes) e in
-    let q = and-left (leb (names + 1) 4096 && leb (used + size) 65536) (leb (names + 1) places) p in
+room bytes places names name-bytes size e =
+    let p = and-left (leb (names + 1) 4096 && leb (name-bytes + size) 65536 && leb (names + 1) places) (leb (name-bytes + size) bytes) e in
+    let q = and-left (leb (names + 1) 4096 && leb (name-bytes + size) 65536) (leb (names + 1) places) p in
     record {
-      few = leb-true _ _ (and-left (leb (names + 1) 4096) (leb (used + size) 65536) q);
-      small = leb-true _ _ (and-right (leb (names + 1) 4096) (leb (used + size) 65536) q);
-      place = leb-true _ _ (and-right (leb (names + 1) 4096 && leb (used + size) 65536) (leb (names + 1) places) p);
-      held = leb-true _ _ (and-right (leb (names + 1) 4096 && leb (used + size) 65536 && leb (names + 1) places) (leb (used + size) bytes) e);
+      few = leb-true _ _ (and-left (leb (names + 1) 4096) (leb (name-bytes + size) 65536) q);
+      small = leb-true _ _ (and-right (leb (names + 1) 4096) (leb (name-bytes + size) 65536) q);
+      place = leb-true _ _ (and-right (leb (names + 1) 4096 && leb (name-bytes + size) 65536) (leb (names + 1) places) p);
+      held = leb-true _ _ (and-right (leb (names + 1) 4096 && leb (name-bytes + size) 65536 && leb (names + 1) places) (leb (name-bytes + size) bytes) e);
     }
 
-module _ (bytes ends : List ℕ) (names used : ℕ) (name : List ℕ) {k : ℕ} where
+module _ (bytes ends : List ℕ) (names name-bytes : ℕ) (name : List ℕ) {k : ℕ} where
   -- an old name has the least number with equal bytes
-  pub case-old : naming bytes ends names used name ≡ Old k → Nameable bytes ends names used name × (k ≡ least name (namesOf bytes ends names)) × (k < names)
+  pub case-old : naming bytes ends names name-bytes name ≡ Old k → Nameable bytes ends names name-bytes name × (k ≡ least name (namesOf bytes ends names)) × (k < names)
   unfolding naming numbering
   case-old e =
-      let a = cond-old (memoryOk (length bytes) (length ends) names used) _ _ e in
-      let b = cond-old (wellFormed bytes ends names used) _ _ (a .1) in
+      let a = cond-old (listFits (length bytes) (length ends) names name-bytes) _ _ e in
+      let b = cond-old (wellFormed bytes ends names name-bytes) _ _ (a .1) in
       let c = cond-old (isName name) _ _ (b .1) in
-      let d = is-old (ltb (least name (namesOf bytes ends names)) names) (hasRoom (length bytes) (length ends) names used (length name)) _ _ _ (c .1) in
+      let d = is-old (ltb (least name (namesOf bytes ends names)) names) (hasRoom (length bytes) (length ends) names name-bytes (length name)) _ _ _ (c .1) in
       let l : least name (namesOf bytes ends names) < names = ltb-true _ _ (d .0) in
       (record { memory = memory _ _ _ _ (a .0); formed = formed _ _ _ _ (b .0); valid = c .0 }, sym (d .1), omega (arith, d .1))
 
   -- a new name has the next number, is in the list under no number, and there is room for it
-  pub case-new : naming bytes ends names used name ≡ New k
-      → Nameable bytes ends names used name × (k ≡ names) × (names ≤ least name (namesOf bytes ends names)) × Room (length bytes) (length ends) names used (length name)
+  pub case-new : naming bytes ends names name-bytes name ≡ New k
+      → Nameable bytes ends names name-bytes name × (k ≡ names) × (names ≤ least name (namesOf bytes ends names)) × Room (length bytes) (length ends) names name-bytes (length name)
   unfolding naming numbering
   case-new e =
-      let a = cond-new (memoryOk (length bytes) (length ends) names used) _ _ e in
-      let b = cond-new (wellFormed bytes ends names used) _ _ (a .1) in
+      let a = cond-new (listFits (length bytes) (length ends) names name-bytes) _ _ e in
+      let b = cond-new (wellFormed bytes ends names name-bytes) _ _ (a .1) in
       let c = cond-new (isName name) _ _ (b .1) in
       let d = not-old (ltb (least name (namesOf bytes ends names)) names) _ _ (c .1) in
-      let f = cond-new (hasRoom (length bytes) (length ends) names used (length name)) _ _ (d .1) in
+      let f = cond-new (hasRoom (length bytes) (length ends) names name-bytes (length name)) _ _ (d .1) in
       let g = f .1 in (
         record { memory = memory _ _ _ _ (a .0); formed = formed _ _ _ _ (b .0); valid = c .0 },
         cc,
@@ -513,61 +513,61 @@ module _ (bytes ends : List ℕ) (names used : ℕ) (name : List ℕ) {k : ℕ} 
 
 -- ---- what naming promises, case by case
 
-module _ (bytes ends : List ℕ) (names used : ℕ) (name : List ℕ) (became : Naming) where
+module _ (bytes ends : List ℕ) (names name-bytes : ℕ) (name : List ℕ) (became : Naming) where
   pub promised-old : {k : ℕ} → became ≡ Old k
-      → (answer 0 (k ∷ names ∷ used ∷ []) ≡ namingAnswer names used name became) × ((bytes ≡ bytesAfter bytes used name became) × (ends ≡ endsAfter ends names used name became))
+      → (answer 0 (k ∷ names ∷ name-bytes ∷ []) ≡ namingAnswer names name-bytes name became) × ((bytes ≡ bytesAfter bytes name-bytes name became) × (ends ≡ endsAfter ends names name-bytes name became))
   promised-old e = (rw e, (rw e, rw e))
 
   pub promised-refused : {r : Refusal} → became ≡ Not-named r
-      → (refused r ≡ namingAnswer names used name became) × ((bytes ≡ bytesAfter bytes used name became) × (ends ≡ endsAfter ends names used name became))
+      → (refused r ≡ namingAnswer names name-bytes name became) × ((bytes ≡ bytesAfter bytes name-bytes name became) × (ends ≡ endsAfter ends names name-bytes name became))
   promised-refused e = (rw e, (rw e, rw e))
 
-  pub promised-new : {k size r : ℕ} {part bytes′ ends′ : List ℕ} → became ≡ New k → part ≡ name → size ≡ length name → r ≡ used + size → bytes′ ≡ nameWritten bytes used part → ends′ ≡ set ends names (used + size)
-      → (answer 0 (k ∷ (names + 1) ∷ r ∷ []) ≡ namingAnswer names used name became) × ((bytes′ ≡ bytesAfter bytes used name became) × (ends′ ≡ endsAfter ends names used name became))
+  pub promised-new : {k size r : ℕ} {part bytes′ ends′ : List ℕ} → became ≡ New k → part ≡ name → size ≡ length name → r ≡ name-bytes + size → bytes′ ≡ nameWritten bytes name-bytes part → ends′ ≡ set ends names (name-bytes + size)
+      → (answer 0 (k ∷ (names + 1) ∷ r ∷ []) ≡ namingAnswer names name-bytes name became) × ((bytes′ ≡ bytesAfter bytes name-bytes name became) × (ends′ ≡ endsAfter ends names name-bytes name became))
   promised-new {k} {size} {r} e p z f g h = (
-    rw e (ap (λ (n : ℕ). answer 0 (k ∷ (names + 1) ∷ n ∷ [])) (f ∙ ap (λ (n : ℕ). used + n) z)),
-    (rw e (g ∙ ap (nameWritten bytes used) p), rw e (h ∙ ap (λ (n : ℕ). set ends names (used + n)) z)),
+    rw e (ap (λ (n : ℕ). answer 0 (k ∷ (names + 1) ∷ n ∷ [])) (f ∙ ap (λ (n : ℕ). name-bytes + n) z)),
+    (rw e (g ∙ ap (nameWritten bytes name-bytes) p), rw e (h ∙ ap (λ (n : ℕ). set ends names (name-bytes + n)) z)),
   )
 
 -- ---- what the tests say of a name; f, g and h are what those of the memory, the list and the name answered
 
-module _ (bytes ends : List ℕ) (names used : ℕ) (name : List ℕ) where
-  judged : {f g h : Bool} → f ≡ memoryOk (length bytes) (length ends) names used → not f ≡ false → g ≡ wellFormed bytes ends names used → not g ≡ false → h ≡ isName name → not h ≡ false
-      → naming bytes ends names used name ≡ numbering (length bytes) (length ends) names used (length name) (least name (namesOf bytes ends names))
+module _ (bytes ends : List ℕ) (names name-bytes : ℕ) (name : List ℕ) where
+  judged : {f g h : Bool} → f ≡ listFits (length bytes) (length ends) names name-bytes → not f ≡ false → g ≡ wellFormed bytes ends names name-bytes → not g ≡ false → h ≡ isName name → not h ≡ false
+      → naming bytes ends names name-bytes name ≡ numbering (length bytes) (length ends) names name-bytes (length name) (least name (namesOf bytes ends names))
   unfolding naming
   judged e p q r s t = rw (holds e p, holds q r, holds s t)
 
-  pub judged-15 : {f : Bool} → f ≡ memoryOk (length bytes) (length ends) names used → not f ≡ true → Not-named BadMemory ≡ naming bytes ends names used name
+  pub judged-15 : {f : Bool} → f ≡ listFits (length bytes) (length ends) names name-bytes → not f ≡ true → Not-named BadMemory ≡ naming bytes ends names name-bytes name
   unfolding naming
   judged-15 e p = rw (fails e p)
 
-  pub judged-14 : {f g : Bool} → f ≡ memoryOk (length bytes) (length ends) names used → not f ≡ false → g ≡ wellFormed bytes ends names used → not g ≡ true
-      → Not-named IllFormed ≡ naming bytes ends names used name
+  pub judged-14 : {f g : Bool} → f ≡ listFits (length bytes) (length ends) names name-bytes → not f ≡ false → g ≡ wellFormed bytes ends names name-bytes → not g ≡ true
+      → Not-named IllFormed ≡ naming bytes ends names name-bytes name
   unfolding naming
   judged-14 e p q r = rw (holds e p, fails q r)
 
-  pub judged-4 : {f g h : Bool} → f ≡ memoryOk (length bytes) (length ends) names used → not f ≡ false → g ≡ wellFormed bytes ends names used → not g ≡ false → h ≡ isName name → not h ≡ true
-      → Not-named BadName ≡ naming bytes ends names used name
+  pub judged-4 : {f g h : Bool} → f ≡ listFits (length bytes) (length ends) names name-bytes → not f ≡ false → g ≡ wellFormed bytes ends names name-bytes → not g ≡ false → h ≡ isName name → not h ≡ true
+      → Not-named BadName ≡ naming bytes ends names name-bytes name
   unfolding naming
   judged-4 e p q r s t = rw (holds e p, holds q r, fails s t)
 
-  pub judged-old : {f g h : Bool} {n : ℕ} → f ≡ memoryOk (length bytes) (length ends) names used → not f ≡ false → g ≡ wellFormed bytes ends names used → not g ≡ false
-      → h ≡ isName name → not h ≡ false → n ≡ least name (namesOf bytes ends names) → n < names → Old n ≡ naming bytes ends names used name
+  pub judged-old : {f g h : Bool} {n : ℕ} → f ≡ listFits (length bytes) (length ends) names name-bytes → not f ≡ false → g ≡ wellFormed bytes ends names name-bytes → not g ≡ false
+      → h ≡ isName name → not h ≡ false → n ≡ least name (namesOf bytes ends names) → n < names → Old n ≡ naming bytes ends names name-bytes name
   judged-old e p q r s t m l = numbered-old _ _ _ _ _ _ m l ∙ sym (judged e p q r s t)
 
-module _ (bytes ends : List ℕ) (names used : ℕ) (text : List ℕ) (from to : ℕ) where
-  pub judged-new : {f g h k : Bool} {n : ℕ} → f ≡ memoryOk (length bytes) (length ends) names used → not f ≡ false → g ≡ wellFormed bytes ends names used → not g ≡ false
+module _ (bytes ends : List ℕ) (names name-bytes : ℕ) (text : List ℕ) (from to : ℕ) where
+  pub judged-new : {f g h k : Bool} {n : ℕ} → f ≡ listFits (length bytes) (length ends) names name-bytes → not f ≡ false → g ≡ wellFormed bytes ends names name-bytes → not g ≡ false
       → h ≡ isName (slice from to text) → not h ≡ false → n ≡ least (slice from to text) (namesOf bytes ends names) → names ≤ n → to ≤ length text
-      → k ≡ hasRoom (length bytes) (length ends) names used (to - from) → k ≡ true → New names ≡ naming bytes ends names used (slice from to text)
+      → k ≡ hasRoom (length bytes) (length ends) names name-bytes (to - from) → k ≡ true → New names ≡ naming bytes ends names name-bytes (slice from to text)
   judged-new e p q r s t m l z a b =
-      numbered-new (length bytes) (length ends) names used text from to _ z m l a b ∙ sym (judged bytes ends names used (slice from to text) e p q r s t)
+      numbered-new (length bytes) (length ends) names name-bytes text from to _ z m l a b ∙ sym (judged bytes ends names name-bytes (slice from to text) e p q r s t)
 
-  pub judged-5 : {f g h k : Bool} {n : ℕ} → f ≡ memoryOk (length bytes) (length ends) names used → not f ≡ false → g ≡ wellFormed bytes ends names used → not g ≡ false
+  pub judged-5 : {f g h k : Bool} {n : ℕ} → f ≡ listFits (length bytes) (length ends) names name-bytes → not f ≡ false → g ≡ wellFormed bytes ends names name-bytes → not g ≡ false
       → h ≡ isName (slice from to text) → not h ≡ false → n ≡ least (slice from to text) (namesOf bytes ends names) → names ≤ n → to ≤ length text
-      → k ≡ hasRoom (length bytes) (length ends) names used (to - from) → k ≡ false → Not-named NoNameRoom ≡ naming bytes ends names used (slice from to text)
+      → k ≡ hasRoom (length bytes) (length ends) names name-bytes (to - from) → k ≡ false → Not-named NoNameRoom ≡ naming bytes ends names name-bytes (slice from to text)
   judged-5 e p q r s t m l z a b =
-      numbered-none (length bytes) (length ends) names used text from to _ z m l a b ∙ sym (judged bytes ends names used (slice from to text) e p q r s t)
+      numbered-none (length bytes) (length ends) names name-bytes text from to _ z m l a b ∙ sym (judged bytes ends names name-bytes (slice from to text) e p q r s t)
 
 -- what was judged of the text's bytes from 0 to its length is judged of the text
-pub of-whole : (bytes ends : List ℕ) (names used : ℕ) (text : List ℕ) {r x : Naming} → r ≡ naming bytes ends names used (slice 0 (length text) text) → r ≡ x → naming bytes ends names used text ≡ x
-of-whole bytes ends names used text e f = sym (e ∙ ap (naming bytes ends names used) (whole text)) ∙ f
+pub of-whole : (bytes ends : List ℕ) (names name-bytes : ℕ) (text : List ℕ) {r x : Naming} → r ≡ naming bytes ends names name-bytes (slice 0 (length text) text) → r ≡ x → naming bytes ends names name-bytes text ≡ x
+of-whole bytes ends names name-bytes text e f = sym (e ∙ ap (naming bytes ends names name-bytes) (whole text)) ∙ f

@@ -12,7 +12,7 @@ use borrow.Author.Tests.{eqb-true, eq-eqb}
 use lib.Dec.{eqb}
 use lib.ListN.{length, getD, set, take, drop, length-set, List·getD-append}
 use lib.Seq.{slice, take-append-le, take-take, take-paste, length-paste, length-take-le, drop-at, take-length, getD-set-same, getD-set-other}
-use Rattle.leaves_names.specs.Names.{nameStart, nameEnd, nameOf, namesFrom, namesOf, isName, wellFormed, memoryOk, same, least, naming, nameWritten}
+use Rattle.leaves_names.specs.Names.{nameStart, nameEnd, nameOf, namesFrom, namesOf, isName, wellFormed, listFits, same, least, naming, nameWritten}
 use Rattle.leaves_names.specs.NamesLaws.{Formed, Memory, Room, memory-so, start-next, well-formed, case-old, case-new}
 use Rattle.leaves_names.specs.declared.names.Naming.the-variants.{Old, New}
 
@@ -109,41 +109,41 @@ least-is name (x ∷ xs) = least-head name x xs (same name x) refl (least-is nam
 
 -- ---- one name more
 
-module _ (bytes ends : List ℕ) (names used : ℕ) (name : List ℕ) (m : Memory (length bytes) (length ends) names used) (f : Formed bytes ends names used) (v : isName name ≡ true) (r : Room (length bytes) (length ends) names used (length name)) where
+module _ (bytes ends : List ℕ) (names name-bytes : ℕ) (name : List ℕ) (m : Memory (length bytes) (length ends) names name-bytes) (f : Formed bytes ends names name-bytes) (v : isName name ≡ true) (r : Room (length bytes) (length ends) names name-bytes (length name)) where
   abbrev bytes′ : List ℕ
-  bytes′ = nameWritten bytes used name
+  bytes′ = nameWritten bytes name-bytes name
 
   abbrev ends′ : List ℕ
-  ends′ = set ends names (used + length name)
+  ends′ = set ends names (name-bytes + length name)
 
   pub bytes-length : length bytes′ ≡ length bytes
   unfolding nameWritten
   bytes-length =
       let h = r .held in
-      length-paste bytes used name (length name) h (omega arith)
+      length-paste bytes name-bytes name (length name) h (omega arith)
 
   pub ends-length : length ends′ ≡ length ends
-  ends-length = length-set ends names (used + length name)
+  ends-length = length-set ends names (name-bytes + length name)
 
   end-old : (n : ℕ) → n < names → nameEnd ends′ n ≡ nameEnd ends n
-  end-old n h = getD-set-other ends names n (used + length name) 0 (λ e. omega arith)
+  end-old n h = getD-set-other ends names n (name-bytes + length name) 0 (λ e. omega arith)
 
-  end-new : nameEnd ends′ names ≡ used + length name
-  end-new = let p = r .place in getD-set-same ends names (used + length name) 0 (omega arith)
+  end-new : nameEnd ends′ names ≡ name-bytes + length name
+  end-new = let p = r .place in getD-set-same ends names (name-bytes + length name) 0 (omega arith)
 
   start-old : (n : ℕ) → n ≤ names → nameStart ends′ n ≡ nameStart ends n
   unfolding nameStart
   start-old zero h = refl
   start-old (suc n) h = end-old n h
 
-  before : (t : ℕ) → t ≤ used → take t bytes′ ≡ take t bytes
+  before : (t : ℕ) → t ≤ name-bytes → take t bytes′ ≡ take t bytes
   unfolding nameWritten
   before t h =
       let l = r .held in
-      let e : t ≤ length (take used bytes) = rw (length-take-le used bytes (omega arith)) h in
-      ap (take t) (append-assoc (take used bytes) (take (length name) name) (drop (used + length name) bytes))
-      ∙ take-append-le t (take used bytes) (take (length name) name ++ drop (used + length name) bytes) e
-      ∙ take-take t used bytes h
+      let e : t ≤ length (take name-bytes bytes) = rw (length-take-le name-bytes bytes (omega arith)) h in
+      ap (take t) (append-assoc (take name-bytes bytes) (take (length name) name) (drop (name-bytes + length name) bytes))
+      ∙ take-append-le t (take name-bytes bytes) (take (length name) name ++ drop (name-bytes + length name) bytes) e
+      ∙ take-take t name-bytes bytes h
 
   -- an old name keeps its number
   pub name-old : (n : ℕ) → n < names → nameOf bytes′ ends′ n ≡ nameOf bytes ends n
@@ -158,8 +158,8 @@ module _ (bytes ends : List ℕ) (names used : ℕ) (name : List ℕ) (m : Memor
   name-new =
       let l = r .held in
       ap₂ (λ (s t : ℕ). slice s t bytes′) (start-old names (omega arith) ∙ f .last) end-new
-      ∙ ap (drop used) (take-paste bytes used name (length name) (omega arith) (omega arith))
-      ∙ drop-at (take used bytes) (take (length name) name) used (length-take-le used bytes (omega arith))
+      ∙ ap (drop name-bytes) (take-paste bytes name-bytes name (length name) (omega arith) (omega arith))
+      ∙ drop-at (take name-bytes bytes) (take (length name) name) name-bytes (length-take-le name-bytes bytes (omega arith))
       ∙ take-length name
 
   -- the list is the list before with the name at its end
@@ -178,20 +178,20 @@ module _ (bytes ends : List ℕ) (names used : ℕ) (name : List ℕ) (m : Memor
   case P old new n h = ⊎-elim (λ e. subst P (sym e) new) (λ l. old n l) (eq-or-lt-of-le (omega arith))
 
   -- and well-formed
-  pub formed-after : Formed bytes′ ends′ (names + 1) (used + length name)
+  pub formed-after : Formed bytes′ ends′ (names + 1) (name-bytes + length name)
   formed-after =
       record {
         rising =
             case (λ (n : ℕ). nameStart ends′ n ≤ nameEnd ends′ n) (λ n h. let q = f .rising n h in omega (arith, start-old n (omega arith), end-old n h))
             (omega (arith, start-old names (omega arith), f .last, end-new));
         under =
-            case (λ (n : ℕ). nameEnd ends′ n ≤ used + length name) (λ n h. let q = f .under n h in omega (arith, end-old n h)) (omega (arith, end-new));
+            case (λ (n : ℕ). nameEnd ends′ n ≤ name-bytes + length name) (λ n h. let q = f .under n h in omega (arith, end-old n h)) (omega (arith, end-new));
         valid =
             case (λ (n : ℕ). isName (nameOf bytes′ ends′ n) ≡ true) (λ n h. ap isName (name-old n h) ∙ f .valid n h) (ap isName name-new ∙ v);
         last = start-next ends′ names ∙ end-new;
       }
 
-  pub memory-after : Memory (length bytes′) (length ends′) (names + 1) (used + length name)
+  pub memory-after : Memory (length bytes′) (length ends′) (names + 1) (name-bytes + length name)
   memory-after =
       record {
         few = let q = m .few in omega (arith, ends-length);
@@ -208,38 +208,38 @@ pub record Known (bytes ends : List ℕ) (names : ℕ) (name : List ℕ) (k : �
   pub is : getD (namesOf bytes ends names) k [] ≡ name
   pub first : (i : ℕ) → i < k → getD (namesOf bytes ends names) i [] ≡ name → ⊥
 
-pub named-old : (bytes ends : List ℕ) (names used : ℕ) (name : List ℕ) {k : ℕ} → naming bytes ends names used name ≡ Old k → Known bytes ends names name k
-named-old bytes ends names used name {k} e =
-    let c = case-old bytes ends names used name e in
+pub named-old : (bytes ends : List ℕ) (names name-bytes : ℕ) (name : List ℕ) {k : ℕ} → naming bytes ends names name-bytes name ≡ Old k → Known bytes ends names name k
+named-old bytes ends names name-bytes name {k} e =
+    let c = case-old bytes ends names name-bytes name e in
     let l = subst (Least name (namesOf bytes ends names)) (sym (c .1)) (least-is name (namesOf bytes ends names)) in
     let n = names-length bytes ends names in
     let h = c .2 in
     record { handed = h; is = l .equal (omega arith); first = l .first }
 
 -- a new name: it was under no number, gets the next one and joins at the end; the earlier names keep theirs; list and memory stay sound
-pub record Joined (bytes ends : List ℕ) (names used : ℕ) (name : List ℕ) (k : ℕ) : Type 0 where
+pub record Joined (bytes ends : List ℕ) (names name-bytes : ℕ) (name : List ℕ) (k : ℕ) : Type 0 where
   pub next : k ≡ names
   pub absent : (i : ℕ) → i < names → getD (namesOf bytes ends names) i [] ≡ name → ⊥
-  pub list : namesOf (nameWritten bytes used name) (set ends names (used + length name)) (names + 1) ≡ namesOf bytes ends names ++ (name ∷ [])
-  pub kept : (i : ℕ) → i < names → getD (namesOf (nameWritten bytes used name) (set ends names (used + length name)) (names + 1)) i [] ≡ getD (namesOf bytes ends names) i []
-  pub formed : wellFormed (nameWritten bytes used name) (set ends names (used + length name)) (names + 1) (used + length name) ≡ true
-  pub memory : memoryOk (length (nameWritten bytes used name)) (length (set ends names (used + length name))) (names + 1) (used + length name) ≡ true
+  pub list : namesOf (nameWritten bytes name-bytes name) (set ends names (name-bytes + length name)) (names + 1) ≡ namesOf bytes ends names ++ (name ∷ [])
+  pub kept : (i : ℕ) → i < names → getD (namesOf (nameWritten bytes name-bytes name) (set ends names (name-bytes + length name)) (names + 1)) i [] ≡ getD (namesOf bytes ends names) i []
+  pub formed : wellFormed (nameWritten bytes name-bytes name) (set ends names (name-bytes + length name)) (names + 1) (name-bytes + length name) ≡ true
+  pub memory : listFits (length (nameWritten bytes name-bytes name)) (length (set ends names (name-bytes + length name))) (names + 1) (name-bytes + length name) ≡ true
 
-pub named-new : (bytes ends : List ℕ) (names used : ℕ) (name : List ℕ) {k : ℕ} → naming bytes ends names used name ≡ New k → Joined bytes ends names used name k
-named-new bytes ends names used name e =
-    let c = case-new bytes ends names used name e in
+pub named-new : (bytes ends : List ℕ) (names name-bytes : ℕ) (name : List ℕ) {k : ℕ} → naming bytes ends names name-bytes name ≡ New k → Joined bytes ends names name-bytes name k
+named-new bytes ends names name-bytes name e =
+    let c = case-new bytes ends names name-bytes name e in
     let m = c .0 .memory in
     let f = c .0 .formed in
     let v = c .0 .valid in
     let r = c .3 in
     let n = names-length bytes ends names in
-    let a = names-after bytes ends names used name m f v r in
+    let a = names-after bytes ends names name-bytes name m f v r in
     record {
       next = c .1;
       absent = λ i h q. least-is name (namesOf bytes ends names) .first i (omega (arith, c .2)) q;
       list = a;
       kept =
           λ i h. ap (λ (l : List (List ℕ)). getD l i []) a ∙ List·getD-append (namesOf bytes ends names) (name ∷ []) [] i (omega arith);
-      formed = well-formed _ _ _ _ (formed-after bytes ends names used name m f v r);
-      memory = memory-so _ _ _ _ (memory-after bytes ends names used name m f v r);
+      formed = well-formed _ _ _ _ (formed-after bytes ends names name-bytes name m f v r);
+      memory = memory-so _ _ _ _ (memory-after bytes ends names name-bytes name m f v r);
     }

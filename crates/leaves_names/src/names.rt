@@ -5,7 +5,7 @@ ghost use mathlib.Core.Bool.{true};
 ghost use Prim.Native.Nat.{_+_, _-_, _<_, _≤_};
 ghost use lib.ListN.{length, set};
 ghost use lib.Seq.{slice};
-ghost use Rattle.leaves_names.specs.Names.{nameStart, nameEnd, namesOf, isName, wellFormed, memoryOk, same, least, hasRoom, nameWritten, checkedOf, checkNames, naming, namedOf, namingAnswer, bytesAfter, endsAfter, placedOf, placeOfName};
+ghost use Rattle.leaves_names.specs.Names.{nameStart, nameEnd, namesOf, isName, wellFormed, listFits, same, least, hasRoom, nameWritten, checkedOf, checkNames, naming, namedOf, namingAnswer, bytesAfter, endsAfter, placedOf, placeOfName};
 ghost use Rattle.leaves_names.specs.NamesLaws.{standing, Ordered};
 use crate::utf8::is_utf8_within;
 use leaves::refusal::Refusal;
@@ -30,12 +30,12 @@ pub enum Naming {
     Refused(Refusal),
 }
 
-// What naming answers: the name's number, then the names and the bytes in use.
+// What naming answers: the name's number, then the names and the name bytes in use.
 pub enum Named {
     Number {
         number: u32,
         names: usize,
-        used: usize,
+        name_bytes: usize,
     },
     Refused(Refusal),
 }
@@ -53,9 +53,9 @@ fn place(x: u32) -> usize
     x as usize
 }
 
-// Whether lent memory of so many bytes and places is within the limits, and the numbers in use within the memory.
-pub fn is_memory(bytes: usize, places: usize, names: usize, used: usize) -> bool
-    ensures { λ r. ⌜ r ≡ memoryOk bytes places names used ⌝ }
+// Whether lent memory of so many bytes and places is within the limits, and the numbers in use within the memory; where not, 15.
+pub fn list_fits(bytes: usize, places: usize, names: usize, name_bytes: usize) -> bool
+    ensures { λ r. ⌜ r ≡ listFits bytes places names «name_bytes» ⌝ }
 {
     if NAMES < places {
         return false;
@@ -66,7 +66,7 @@ pub fn is_memory(bytes: usize, places: usize, names: usize, used: usize) -> bool
     if places < names {
         return false;
     }
-    used <= bytes
+    name_bytes <= bytes
 }
 
 // Whether the bytes from `from` to before `to` are a name: at most 255 bytes of UTF-8.
@@ -81,46 +81,46 @@ pub fn is_name(text: &[u8], from: usize, to: usize) -> bool
 }
 
 // Whether a name lies from `start` to `end`, within the bytes in use.
-fn stands(bytes: &[u8], used: usize, start: usize, end: usize) -> bool
-    requires { ⌜ used ≤ length (now bytes) ⌝ }
-    ensures { λ r. ⌜ r ≡ standing (now (bytes .entry)) used start end ⌝ }
+fn stands(bytes: &[u8], name_bytes: usize, start: usize, end: usize) -> bool
+    requires { ⌜ «name_bytes» ≤ length (now bytes) ⌝ }
+    ensures { λ r. ⌜ r ≡ standing (now (bytes .entry)) «name_bytes» start end ⌝ }
 {
     if end < start {
         return false;
     }
-    if used < end {
+    if name_bytes < end {
         return false;
     }
     is_name(bytes, start, end)
 }
 
 // Whether valid names stand one after another, up to the end of the bytes in use.
-pub fn is_list(bytes: &[u8], ends: &[u32], names: usize, used: usize) -> bool
-    requires { ⌜ (names ≤ length (now ends)) × (used ≤ length (now bytes)) ⌝ }
-    ensures { λ r. ⌜ r ≡ wellFormed (now (bytes .entry)) (now (ends .entry)) names used ⌝ }
+pub fn is_list(bytes: &[u8], ends: &[u32], names: usize, name_bytes: usize) -> bool
+    requires { ⌜ (names ≤ length (now ends)) × («name_bytes» ≤ length (now bytes)) ⌝ }
+    ensures { λ r. ⌜ r ≡ wellFormed (now (bytes .entry)) (now (ends .entry)) names «name_bytes» ⌝ }
 {
     let mut start = 0;
     let mut n = 0;
     while n < names {
         let end = place(ends[n]);
-        if stands(bytes, used, start, end) {
+        if stands(bytes, name_bytes, start, end) {
             start = end;
             n += 1;
         } else {
             return false;
         }
     }
-    start == used
+    start == name_bytes
 }
 
 // Whether the name list is well-formed: done, 15 or 14.
-pub fn check_names(bytes: &[u8], ends: &[u32], names: usize, used: usize) -> Checked
-    ensures { λ r. ⌜ checkedOf r ≡ checkNames (now (bytes .entry)) (now (ends .entry)) names used ⌝ }
+pub fn check_names(bytes: &[u8], ends: &[u32], names: usize, name_bytes: usize) -> Checked
+    ensures { λ r. ⌜ checkedOf r ≡ checkNames (now (bytes .entry)) (now (ends .entry)) names «name_bytes» ⌝ }
 {
-    if !is_memory(bytes.len(), ends.len(), names, used) {
+    if !list_fits(bytes.len(), ends.len(), names, name_bytes) {
         return Checked::Refused(Refusal::BadMemory);
     }
-    if is_list(bytes, ends, names, used) {
+    if is_list(bytes, ends, names, name_bytes) {
         Checked::Done
     } else {
         Checked::Refused(Refusal::IllFormed)
@@ -174,14 +174,14 @@ pub fn find_name(
 }
 
 // Whether one name more, of so many bytes, passes neither a limit nor the room lent.
-pub fn has_room(bytes: usize, places: usize, names: usize, used: usize, size: usize) -> bool
-    requires { ⌜ memoryOk bytes places names used ≡ true ⌝ }
-    ensures { λ r. ⌜ r ≡ hasRoom bytes places names used size ⌝ }
+pub fn has_room(bytes: usize, places: usize, names: usize, name_bytes: usize, size: usize) -> bool
+    requires { ⌜ listFits bytes places names «name_bytes» ≡ true ⌝ }
+    ensures { λ r. ⌜ r ≡ hasRoom bytes places names «name_bytes» size ⌝ }
 {
     if places <= names {
         return false;
     }
-    size <= bytes - used
+    size <= bytes - name_bytes
 }
 
 // Writes the text's bytes from `from` to before `to` at place `at`.
@@ -202,19 +202,19 @@ pub fn add_name(
     bytes: &mut [u8],
     ends: &mut [u32],
     names: usize,
-    used: usize,
+    name_bytes: usize,
     text: &[u8],
     from: usize,
     to: usize,
 ) -> usize
     requires { ⌜ (from ≤ to) × (to ≤ length (now text)) ⌝ }
-    requires { ⌜ (names < length (now ends)) × (used + (to - from) ≤ length (now bytes)) × (used + (to - from) < 4294967296) ⌝ }
-    ensures { λ r. ⌜ r ≡ used + (to - from) ⌝ }
-    ensures { λ _. ⌜ now (bytes .exit) ≡ nameWritten (now (bytes .entry)) used (slice from to (now (text .entry))) ⌝ }
-    ensures { λ _. ⌜ now (ends .exit) ≡ set (now (ends .entry)) names (used + (to - from)) ⌝ }
+    requires { ⌜ (names < length (now ends)) × («name_bytes» + (to - from) ≤ length (now bytes)) × («name_bytes» + (to - from) < 4294967296) ⌝ }
+    ensures { λ r. ⌜ r ≡ «name_bytes» + (to - from) ⌝ }
+    ensures { λ _. ⌜ now (bytes .exit) ≡ nameWritten (now (bytes .entry)) «name_bytes» (slice from to (now (text .entry))) ⌝ }
+    ensures { λ _. ⌜ now (ends .exit) ≡ set (now (ends .entry)) names («name_bytes» + (to - from)) ⌝ }
 {
-    let end = used + (to - from);
-    copy(bytes, used, text, from, to);
+    let end = name_bytes + (to - from);
+    copy(bytes, name_bytes, text, from, to);
     ends[names] = end as u32;
     end
 }
@@ -224,18 +224,18 @@ pub fn judge_name(
     bytes: &[u8],
     ends: &[u32],
     names: usize,
-    used: usize,
+    name_bytes: usize,
     text: &[u8],
     from: usize,
     to: usize,
 ) -> Naming
     requires { ⌜ (from ≤ to) × (to ≤ length (now text)) ⌝ }
-    ensures { λ r. ⌜ r ≡ naming (now (bytes .entry)) (now (ends .entry)) names used (slice from to (now (text .entry))) ⌝ }
+    ensures { λ r. ⌜ r ≡ naming (now (bytes .entry)) (now (ends .entry)) names «name_bytes» (slice from to (now (text .entry))) ⌝ }
 {
-    if !is_memory(bytes.len(), ends.len(), names, used) {
+    if !list_fits(bytes.len(), ends.len(), names, name_bytes) {
         return Naming::Refused(Refusal::BadMemory);
     }
-    if !is_list(bytes, ends, names, used) {
+    if !is_list(bytes, ends, names, name_bytes) {
         return Naming::Refused(Refusal::IllFormed);
     }
     if !is_name(text, from, to) {
@@ -245,7 +245,7 @@ pub fn judge_name(
     if number < names {
         return Naming::Old(number as u32);
     }
-    if has_room(bytes.len(), ends.len(), names, used, to - from) {
+    if has_room(bytes.len(), ends.len(), names, name_bytes, to - from) {
         Naming::New(names as u32)
     } else {
         Naming::Refused(Refusal::NoNameRoom)
@@ -257,27 +257,27 @@ pub fn number_of(
     bytes: &mut [u8],
     ends: &mut [u32],
     names: usize,
-    used: usize,
+    name_bytes: usize,
     text: &[u8],
 ) -> Named
-    ensures { λ r. ⌜ namedOf r ≡ namingAnswer names used (now (text .entry)) (naming (now (bytes .entry)) (now (ends .entry)) names used (now (text .entry))) ⌝ }
-    ensures { λ _. ⌜ now (bytes .exit) ≡ bytesAfter (now (bytes .entry)) used (now (text .entry)) (naming (now (bytes .entry)) (now (ends .entry)) names used (now (text .entry))) ⌝ }
-    ensures { λ _. ⌜ now (ends .exit) ≡ endsAfter (now (ends .entry)) names used (now (text .entry)) (naming (now (bytes .entry)) (now (ends .entry)) names used (now (text .entry))) ⌝ }
+    ensures { λ r. ⌜ namedOf r ≡ namingAnswer names «name_bytes» (now (text .entry)) (naming (now (bytes .entry)) (now (ends .entry)) names «name_bytes» (now (text .entry))) ⌝ }
+    ensures { λ _. ⌜ now (bytes .exit) ≡ bytesAfter (now (bytes .entry)) «name_bytes» (now (text .entry)) (naming (now (bytes .entry)) (now (ends .entry)) names «name_bytes» (now (text .entry))) ⌝ }
+    ensures { λ _. ⌜ now (ends .exit) ≡ endsAfter (now (ends .entry)) names «name_bytes» (now (text .entry)) (naming (now (bytes .entry)) (now (ends .entry)) names «name_bytes» (now (text .entry))) ⌝ }
 {
     let size = text.len();
-    let judged = judge_name(bytes, ends, names, used, text, 0, size);
+    let judged = judge_name(bytes, ends, names, name_bytes, text, 0, size);
     match judged {
         Naming::Old(number) => Named::Number {
             number,
             names,
-            used,
+            name_bytes,
         },
         Naming::New(number) => {
-            let end = add_name(bytes, ends, names, used, text, 0, size);
+            let end = add_name(bytes, ends, names, name_bytes, text, 0, size);
             Named::Number {
                 number,
                 names: names + 1,
-                used: end,
+                name_bytes: end,
             }
         }
         Naming::Refused(refusal) => Named::Refused(refusal),
@@ -309,15 +309,15 @@ pub fn place_of_name(
     bytes: &[u8],
     ends: &[u32],
     names: usize,
-    used: usize,
+    name_bytes: usize,
     number: u32,
 ) -> NamePlace
-    ensures { λ r. ⌜ placedOf r ≡ placeOfName (now (bytes .entry)) (now (ends .entry)) names used number ⌝ }
+    ensures { λ r. ⌜ placedOf r ≡ placeOfName (now (bytes .entry)) (now (ends .entry)) names «name_bytes» number ⌝ }
 {
-    if !is_memory(bytes.len(), ends.len(), names, used) {
+    if !list_fits(bytes.len(), ends.len(), names, name_bytes) {
         return NamePlace::Refused(Refusal::BadMemory);
     }
-    if !is_list(bytes, ends, names, used) {
+    if !is_list(bytes, ends, names, name_bytes) {
         return NamePlace::Refused(Refusal::IllFormed);
     }
     let n = place(number);

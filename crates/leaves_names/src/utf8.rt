@@ -39,12 +39,12 @@ fn is_2(a: u8, b: u8) -> bool
 }
 
 // Whether three bytes are one from `from` to `to`, one from `low` to `high` and a UTF8-tail.
-fn is_three(from: u8, to: u8, low: u8, high: u8, a: u8, b: u8, c: u8) -> bool
-    ensures { λ r. ⌜ r ≡ three from to low high a b c ⌝ }
+fn is_three(from: u8, to: u8, low: u8, high: u8, first: u8, second: u8, third: u8) -> bool
+    ensures { λ r. ⌜ r ≡ three from to low high first second third ⌝ }
 {
-    if is_within(from, to, a) {
-        if is_within(low, high, b) {
-            is_tail(c)
+    if is_within(from, to, first) {
+        if is_within(low, high, second) {
+            is_tail(third)
         } else {
             false
         }
@@ -70,11 +70,20 @@ fn is_3(a: u8, b: u8, c: u8) -> bool
 }
 
 // Whether four bytes are one from `from` to `to`, one from `low` to `high` and two UTF8-tails.
-fn is_four(from: u8, to: u8, low: u8, high: u8, a: u8, b: u8, c: u8, d: u8) -> bool
-    ensures { λ r. ⌜ r ≡ four from to low high a b c d ⌝ }
+fn is_four(
+    from: u8,
+    to: u8,
+    low: u8,
+    high: u8,
+    first: u8,
+    second: u8,
+    third: u8,
+    fourth: u8,
+) -> bool
+    ensures { λ r. ⌜ r ≡ four from to low high first second third fourth ⌝ }
 {
-    if is_three(from, to, low, high, a, b, c) {
-        is_tail(d)
+    if is_three(from, to, low, high, first, second, third) {
+        is_tail(fourth)
     } else {
         false
     }

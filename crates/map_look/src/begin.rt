@@ -23,14 +23,14 @@ fn onward(table: &[u8], used: usize, lo: usize, step: usize, instrument: u32) ->
     }
 }
 
-// The first of the n places from lo on whose interval is not of a lower instrument, or the one after them.
-fn narrow(table: &[u8], used: usize, lo: usize, n: usize, instrument: u32) -> usize
-    requires { ⌜ (used * width ≤ length (now table)) × (0 < n) × (lo + n ≤ used) ⌝ }
+// The first of so many places from lo on whose interval is not of a lower instrument, or the one after them.
+fn narrow(table: &[u8], used: usize, lo: usize, count: usize, instrument: u32) -> usize
+    requires { ⌜ (used * width ≤ length (now table)) × (0 < count) × (lo + count ≤ used) ⌝ }
     ensures within { λ r. ⌜ r ≤ used ⌝ }
-    ensures right { λ r. ⌜ (Ordered (rows (now (table .entry)) used) → Begun (now (table .entry)) used instrument lo n → Begun (now (table .entry)) used instrument r 0) ⌝ }
+    ensures right { λ r. ⌜ (Ordered (rows (now (table .entry)) used) → Begun (now (table .entry)) used instrument lo count → Begun (now (table .entry)) used instrument r 0) ⌝ }
 {
     let mut at = lo;
-    let mut left = n;
+    let mut left = count;
     while 1 < left {
         let step = left / 2;
         at = onward(table, used, at, step, instrument);

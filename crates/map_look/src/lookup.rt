@@ -2,7 +2,7 @@
 // with start <= moment. No step is linear in the table.
 use leaves::refusal::Refusal;
 ghost use mathlib.Core.Path.{_≡_};
-ghost use mathlib.Core.Bool.{false, _||_};
+ghost use mathlib.Core.Bool.{true, not, _||_};
 ghost use mathlib.Core.List.{[], _∷_};
 ghost use Prim.Native.Nat.{_*_, _+_, _≤_, _<_};
 ghost use lib.ListN.{length};
@@ -10,7 +10,7 @@ ghost use lib.Dec.{T};
 ghost use Rattle.theory.specs.Answer.{answer};
 ghost use Rattle.map_rules.specs.Table.{Ordered, ordered};
 ghost use Rattle.map_rules.specs.Lookup.{lookupRows};
-ghost use Rattle.map_rules.specs.Memory.{sameValue, width, rowAt, rows, badTable};
+ghost use Rattle.map_rules.specs.Memory.{sameValue, width, rowAt, rows, tableFits};
 ghost use Rattle.map_rules.specs.Looks.{numberIn, coversAt, Begun, Reach, last, Tells, lookupAnswer, lookupHint};
 ghost use Rattle.map_look.specs.Lookup.{lookedOf};
 
@@ -27,13 +27,13 @@ pub struct Looked {
     pub hint: u64,
 }
 
-// Whether the interval at place k is one of those in use, of the instrument, with start <= moment < end.
-fn covers_at(table: &[u8], used: usize, k: usize, instrument: u32, moment: u64) -> bool
+// Whether the interval at a place is one of those in use, of the instrument, with start <= moment < end.
+fn covers_at(table: &[u8], used: usize, place: usize, instrument: u32, moment: u64) -> bool
     requires { ⌜ used * width ≤ length (now table) ⌝ }
-    ensures { λ r. ⌜ r ≡ coversAt (now (table .entry)) used k instrument moment ⌝ }
+    ensures { λ r. ⌜ r ≡ coversAt (now (table .entry)) used place instrument moment ⌝ }
 {
-    if k < used {
-        let x = map_time::interval::interval_at(table, k);
+    if place < used {
+        let x = map_time::interval::interval_at(table, place);
         if x.instrument == instrument {
             if x.start <= moment {
                 moment < x.end
@@ -105,13 +105,13 @@ fn look_up(table: &[u8], used: usize, instrument: u32, moment: u64, hint: u64) -
 // The symbol of the instrument at the moment, with any hint, and the new hint: 15 only. On a table that is not in order the
 // answer may be any symbol or nothing.
 pub fn get_for_ts(table: &[u8], used: usize, instrument: u32, moment: u64, hint: u64) -> Looked
-    ensures right { λ r. ⌜ (T (badTable (length (now (table .entry))) used || ordered sameValue (rows (now (table .entry)) used)) → (lookedOf r ≡ lookupAnswer (now (table .entry)) used instrument moment hint) × (r .hint ≡ lookupHint (now (table .entry)) used instrument moment hint)) ⌝ }
-    ensures accepted { λ r. ⌜ (badTable (length (now (table .entry))) used ≡ false → numberIn (lookedOf r) ≡ 0) ⌝ }
+    ensures right { λ r. ⌜ (T (not (tableFits (length (now (table .entry))) used) || ordered sameValue (rows (now (table .entry)) used)) → (lookedOf r ≡ lookupAnswer (now (table .entry)) used instrument moment hint) × (r .hint ≡ lookupHint (now (table .entry)) used instrument moment hint)) ⌝ }
+    ensures accepted { λ r. ⌜ (tableFits (length (now (table .entry))) used ≡ true → numberIn (lookedOf r) ≡ 0) ⌝ }
 {
-    if map_time::table::bad_table(table.len(), used) {
+    if map_time::table::table_fits(table.len(), used) {
+        look_up(table, used, instrument, moment, hint)
+    } else {
         let found = Found::Refused(Refusal::BadMemory);
         Looked { found, hint }
-    } else {
-        look_up(table, used, instrument, moment, hint)
     }
 }

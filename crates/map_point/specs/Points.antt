@@ -2,7 +2,7 @@
 -- "sets the instrument's entry", "a later entry for one instrument replaces the earlier one"; "its lookup takes the instrument
 -- alone; its length counts entries".
 use Prim.Native.Nat.{ℕ, _/_, _%_}
-use mathlib.Core.Bool.{Bool, true, not, _&&_, cond}
+use mathlib.Core.Bool.{Bool, true, _&&_, cond}
 use mathlib.Core.Option.{Option, none, some}
 use mathlib.Core.List.{List, [], _∷_}
 use lib.ListN.{length}
@@ -10,7 +10,7 @@ use lib.Dec.{ltb, leb, eqb}
 use Rattle.theory.specs.Answer.{Answer, answer}
 use Rattle.leaves.specs.Refusal.{refused}
 use Rattle.leaves.specs.declared.refusal.Refusal.the-variants.{NoRoom, IllFormed, BadMemory}
-use Rattle.map_rules.specs.Table.{badRoom, badNames}
+use Rattle.map_rules.specs.Table.{roomFits, namesFit}
 use Rattle.map_point.specs.Entries.{entries, putEntries}
 use Rattle.map_point.specs.declared.entries.Entry.{Entry}
 use Rattle.map_look.specs.declared.lookup.Found.{Found}
@@ -56,16 +56,16 @@ setEntry x (y ∷ ys) =
 
 -- ---- calls
 
--- not 15: a length that is a multiple of 8, a room within the limit, and no more in use than the room (01, Numbers the desk
--- lives by)
+-- a length that is a multiple of 8, a room within the limit, and no more in use than the room; 15 where not (01, Numbers the
+-- desk lives by)
 unfoldable pub pointsFit : ℕ → ℕ → Bool
-pointsFit bytes used = eqb (bytes % 8) 0 && not (badRoom (bytes / 8) used)
+pointsFit bytes used = eqb (bytes % 8) 0 && roomFits (bytes / 8) used
 
 -- the check's answer: 15; 14 unless the table is well-formed; done
 unfoldable pub pointsChecked : List ℕ → ℕ → ℕ → Answer
 unfolding pointsFit wellFormed
 pointsChecked t used names =
-    cond (pointsFit (length t) used && not (badNames names))
+    cond (pointsFit (length t) used && namesFit names)
     (cond (wellFormed names (entries t used)) (answer 0 []) (refused IllFormed))
     (refused BadMemory)
 

@@ -11,14 +11,13 @@ use mathlib.Core.List.{List, [], _∷_, _++_}
 use lib.ListN.{length, getD, set, take, drop, length-set, length-append}
 use lib.Seq.{set-split}
 use lib.Dec.{T, ltb, leb, eqb, lt→ltb}
-use native.Mathlib.Decide.{decLe}
-use borrow.Author.Tests.{ltb-false, lt-ltb, le-ltb, le-leb, lt-leb, leb-true, ltb-true, eq-eqb, ne-eqb, eqb-true, not-true, not-false}
+use borrow.Author.Tests.{lt-ltb, le-ltb, le-leb, lt-leb, leb-true, ltb-true, eq-eqb, ne-eqb, eqb-true, not-true, not-false}
 use Rattle.theory.specs.Answer.{Answer, answer}
 use Rattle.theory.specs.Fields.{Bytes}
 use Rattle.theory.specs.RunsTools.{cond-case}
 use Rattle.leaves.specs.Refusal.{refused}
 use Rattle.leaves.specs.declared.refusal.Refusal.the-variants.{NoRoom, IllFormed, BadMemory}
-use Rattle.map_rules.specs.Table.{badRoom, badNames}
+use Rattle.map_rules.specs.Table.{roomFits, namesFit}
 use Rattle.map_point.specs.declared.entries.Entry.{Entry}
 use Rattle.map_point.specs.Entries.{entryAt, entriesFrom, entries, putEntry, putEntries}
 use Rattle.map_point.specs.EntriesLaws.{length-entries, getD-entries, entries-cons, take-entries, drop-entries, putEntries-append, putEntries-back, putEntries-comm, entries-put, Small, AllSmall, entries-small}
@@ -36,21 +35,12 @@ unfolding pointsFit
 fit-odd bytes used h = rw (ne-eqb (bytes % 8) 0 h) refl
 
 pub fit-large : (bytes used : ℕ) → 65536 < bytes / 8 → pointsFit bytes used ≡ false
-unfolding pointsFit badRoom
-fit-large bytes used h = and-false (eqb (bytes % 8) 0) (not (badRoom (bytes / 8) used)) (rw (lt-ltb 65536 (bytes / 8) h) refl)
-
-leb-not : (a b : ℕ) → leb a b ≡ not (ltb b a)
-leb-not a b = go (decLe a b)
-  where
-    go : Dec (a ≤ b) → leb a b ≡ not (ltb b a)
-    go (yes h) = rw (le-leb a b h, le-ltb b a h) refl
-    go (no h) =
-        let l : b < a = omega arith in
-        rw (lt-leb a b l, lt-ltb b a l) refl
+unfolding pointsFit roomFits
+fit-large bytes used h = and-false (eqb (bytes % 8) 0) (roomFits (bytes / 8) used) (rw (lt-leb (bytes / 8) 65536 h) refl)
 
 pub fit-used : (bytes used : ℕ) → bytes % 8 ≡ 0 → bytes / 8 ≤ 65536 → leb used (bytes / 8) ≡ pointsFit bytes used
-unfolding pointsFit badRoom
-fit-used bytes used e h = rw (eq-eqb (bytes % 8) 0 e, le-ltb 65536 (bytes / 8) h) (leb-not used (bytes / 8))
+unfolding pointsFit roomFits
+fit-used bytes used e h = rw (eq-eqb (bytes % 8) 0 e, le-leb (bytes / 8) 65536 h) refl
 
 and-fst : (a b : Bool) → (a && b) ≡ true → a ≡ true
 and-fst true b e = refl
@@ -60,16 +50,12 @@ and-snd : (a b : Bool) → (a && b) ≡ true → b ≡ true
 and-snd true b e = e
 and-snd false b e = let z : _≡_ {A = ℕ} 0 1 = cc in absurd (omega arith)
 
-or-snd : (a b : Bool) → (a || b) ≡ false → b ≡ false
-or-snd true b e = let z : _≡_ {A = ℕ} 0 1 = cc in absurd (omega arith)
-or-snd false b e = e
-
 -- a table that fits has its entries in use within its bytes
 pub fit-bytes : (bytes used : ℕ) → pointsFit bytes used ≡ true → used * 8 ≤ bytes
-unfolding pointsFit badRoom
+unfolding pointsFit roomFits
 fit-bytes bytes used e =
-    let good : badRoom (bytes / 8) used ≡ false = not-true _ (and-snd (eqb (bytes % 8) 0) (not (badRoom (bytes / 8) used)) e) in
-    omega (arith, ltb-false (bytes / 8) used (or-snd (ltb 65536 (bytes / 8)) (ltb (bytes / 8) used) good))
+    let r : roomFits (bytes / 8) used ≡ true = and-snd (eqb (bytes % 8) 0) (roomFits (bytes / 8) used) e in
+    omega (arith, leb-true used (bytes / 8) (and-snd (leb (bytes / 8) 65536) (leb used (bytes / 8)) r))
 
 -- ---- the check
 
@@ -274,22 +260,22 @@ module _ (t : List ℕ) (used : ℕ) {b : Bool} (e : b ≡ pointsFit (length t) 
   check-memory names f = rw (unfit f) refl
 
   pub check-names : (names : ℕ) → not b ≡ false → 4096 < names → refused BadMemory ≡ pointsChecked t used names
-  unfolding pointsChecked badNames
-  check-names names f h = rw (fits f, lt-ltb 4096 names h) refl
+  unfolding pointsChecked namesFit
+  check-names names f h = rw (fits f, lt-leb names 4096 h) refl
 
   pub check-no : (names : ℕ) {w : Bool} → not b ≡ false → names ≤ 4096 → w ≡ wellFormed names (entries t used) → not w ≡ true
       → refused IllFormed ≡ pointsChecked t used names
-  unfolding pointsChecked badNames
+  unfolding pointsChecked namesFit
   check-no names {w} f h g n =
       let i : wellFormed names (entries t used) ≡ false = sym g ∙ not-true w n in
-      rw (fits f, le-ltb 4096 names h, i) refl
+      rw (fits f, le-leb names 4096 h, i) refl
 
   pub check-yes : (names : ℕ) {w : Bool} → not b ≡ false → names ≤ 4096 → w ≡ wellFormed names (entries t used) → not w ≡ false
       → answer 0 [] ≡ pointsChecked t used names
-  unfolding pointsChecked badNames
+  unfolding pointsChecked namesFit
   check-yes names {w} f h g n =
       let i : wellFormed names (entries t used) ≡ true = sym g ∙ not-false w n in
-      rw (fits f, le-ltb 4096 names h, i) refl
+      rw (fits f, le-leb names 4096 h, i) refl
 
   pub get-memory : (i : ℕ) → not b ≡ true → refused BadMemory ≡ pointFound t used i
   unfolding pointFound

@@ -1,7 +1,7 @@
 -- The mapping call: what a record's bytes ask of a name list and a table, and what is left of both (01, The map over time: "A
 -- symbol mapping record inserts"; Merging records: "The mapping call takes a record's bytes").
 use Prim.Native.Nat.{ℕ, _+_}
-use mathlib.Core.Bool.{Bool, true, false, not, _&&_, cond}
+use mathlib.Core.Bool.{Bool, true, false, _&&_, cond}
 use mathlib.Core.List.{List, [], _∷_}
 use lib.ListN.{length, set}
 use lib.Dec.{ltb, eqb}
@@ -9,12 +9,12 @@ use Rattle.theory.specs.Answer.{Answer, answer}
 use Rattle.leaves.specs.Refusal.{refused}
 use Rattle.leaves.specs.declared.refusal.Refusal.the-variants.{Reversed, NoRoom, BadName, IllFormed, BadMemory, Damaged}
 use Rattle.leaves.specs.Frame.{Mapped, other, symbol, notOne, mappedIn, nameIn}
-use Rattle.leaves_names.specs.Names.{isName, memoryOk, namesOf, least, numbering, nameWritten}
+use Rattle.leaves_names.specs.Names.{isName, listFits, namesOf, least, numbering, nameWritten}
 use Rattle.leaves_names.specs.Names.{wellFormed as wellFormedNames}
 use Rattle.leaves_names.specs.declared.names.Naming.{Naming}
 use Rattle.leaves_names.specs.declared.names.Naming.the-variants.{Old, New, Refused as NotNamed}
 use Rattle.map_rules.specs.Table.{Row, Outcome, refusedBy, stored, nowStored, ifRoom, insertRows, wellFormed as wellFormedRows}
-use Rattle.map_rules.specs.Memory.{sameValue, knownValue, rows, roomOf, badTable, memoryAfter, usedAfter}
+use Rattle.map_rules.specs.Memory.{sameValue, knownValue, rows, roomOf, tableFits, memoryAfter, usedAfter}
 use Rattle.map_point.specs.Entries.{entries}
 use Rattle.map_point.specs.Points.{wellFormed, setEntry, pointsFit, hasRoom, storedBytes, usedThen, entriesThen}
 use Rattle.map_point.specs.declared.entries.Entry.{Entry}
@@ -34,7 +34,7 @@ pub data Wanted : Type 0 where
 
 -- what becomes of a valid name: "the least number with equal bytes, else the next new one", or 5
 unfoldable pub numberingIn : List ℕ → List ℕ → ℕ → ℕ → List ℕ → Naming
-numberingIn bytes ends names used name = numbering (length bytes) (length ends) names used (length name) (least name (namesOf bytes ends names))
+numberingIn bytes ends names name-bytes name = numbering (length bytes) (length ends) names name-bytes (length name) (least name (namesOf bytes ends names))
 
 -- a symbol stored by its number, or 5
 abbrev pub numbered : ℕ → ℕ → ℕ → Naming → Wanted
@@ -45,39 +45,39 @@ numbered instrument start end (NotNamed r) = refuses (refused r)
 -- on a point-in-time table: 13, 4, 5; "ignores both times"; other kinds are done and change nothing
 unfoldable pub pointWanted : List ℕ → List ℕ → ℕ → ℕ → List ℕ → Mapped → Wanted
 unfolding numberingIn
-pointWanted bytes ends names used name other = nothing
-pointWanted bytes ends names used name (notOne reason) = refuses (refused (Damaged 0 0 reason))
-pointWanted bytes ends names used name (symbol instrument start end) =
-    cond (isName name) (numbered instrument start end (numberingIn bytes ends names used name)) (refuses (refused BadName))
+pointWanted bytes ends names name-bytes name other = nothing
+pointWanted bytes ends names name-bytes name (notOne reason) = refuses (refused (Damaged 0 0 reason))
+pointWanted bytes ends names name-bytes name (symbol instrument start end) =
+    cond (isName name) (numbered instrument start end (numberingIn bytes ends names name-bytes name)) (refuses (refused BadName))
 
 -- a call on a point-in-time table: 15 for all lent memory, 14 for table and list, then as above
 unfoldable pub pointJudged : List ℕ → ℕ → List ℕ → List ℕ → ℕ → ℕ → List ℕ → Wanted
 unfolding pointWanted
-pointJudged t used bytes ends names size record′ =
-    cond (pointsFit (length t) used && memoryOk (length bytes) (length ends) names size)
-    (cond (wellFormed names (entries t used) && wellFormedNames bytes ends names size)
-    (pointWanted bytes ends names size (nameIn record′) (mappedIn record′))
+pointJudged t used bytes ends names name-bytes record′ =
+    cond (pointsFit (length t) used && listFits (length bytes) (length ends) names name-bytes)
+    (cond (wellFormed names (entries t used) && wellFormedNames bytes ends names name-bytes)
+    (pointWanted bytes ends names name-bytes (nameIn record′) (mappedIn record′))
     (refuses (refused IllFormed)))
     (refuses (refused BadMemory))
 
 -- on a table over time: 13, 4, 1; start = end is done; 5. A missing start is 0 and a missing end the greatest time before they are compared
 unfoldable pub timeWanted : List ℕ → List ℕ → ℕ → ℕ → List ℕ → Mapped → Wanted
 unfolding numberingIn
-timeWanted bytes ends names used name other = nothing
-timeWanted bytes ends names used name (notOne reason) = refuses (refused (Damaged 0 0 reason))
-timeWanted bytes ends names used name (symbol instrument start end) =
+timeWanted bytes ends names name-bytes name other = nothing
+timeWanted bytes ends names name-bytes name (notOne reason) = refuses (refused (Damaged 0 0 reason))
+timeWanted bytes ends names name-bytes name (symbol instrument start end) =
     cond (isName name)
     (cond (ltb end start) (refuses (refused Reversed))
-    (cond (eqb start end) nothing (numbered instrument start end (numberingIn bytes ends names used name))))
+    (cond (eqb start end) nothing (numbered instrument start end (numberingIn bytes ends names name-bytes name))))
     (refuses (refused BadName))
 
 -- a call on a table over time: 15 for all lent memory, 14 for table and list, then as above
 unfoldable pub timeJudged : List ℕ → ℕ → List ℕ → List ℕ → ℕ → ℕ → List ℕ → Wanted
 unfolding timeWanted
-timeJudged t used bytes ends names size record′ =
-    cond (not (badTable (length t) used) && memoryOk (length bytes) (length ends) names size)
-    (cond (wellFormedRows sameValue knownValue names (rows t used) && wellFormedNames bytes ends names size)
-    (timeWanted bytes ends names size (nameIn record′) (mappedIn record′))
+timeJudged t used bytes ends names name-bytes record′ =
+    cond (tableFits (length t) used && listFits (length bytes) (length ends) names name-bytes)
+    (cond (wellFormedRows sameValue knownValue names (rows t used) && wellFormedNames bytes ends names name-bytes)
+    (timeWanted bytes ends names name-bytes (nameIn record′) (mappedIn record′))
     (refuses (refused IllFormed)))
     (refuses (refused BadMemory))
 
@@ -118,24 +118,24 @@ pointEntries t used (stores instrument start end number new) = entriesThen t use
 abbrev pub namesThen : Bool → ℕ → ℕ
 namesThen joins names = cond joins (names + 1) names
 
-abbrev pub sizeThen : Bool → ℕ → List ℕ → ℕ
-sizeThen joins size name = cond joins (size + length name) size
+abbrev pub nameBytesThen : Bool → ℕ → List ℕ → ℕ
+nameBytesThen joins name-bytes name = cond joins (name-bytes + length name) name-bytes
 
 -- the list's bytes and ends: the new name's after those in use, or as at entry
 unfoldable pub bytesThen : Bool → List ℕ → ℕ → List ℕ → List ℕ
-bytesThen joins bytes size name = cond joins (nameWritten bytes size name) bytes
+bytesThen joins bytes name-bytes name = cond joins (nameWritten bytes name-bytes name) bytes
 
 unfoldable pub endsThen : Bool → List ℕ → ℕ → ℕ → List ℕ → List ℕ
-endsThen joins ends names size name = cond joins (set ends names (size + length name)) ends
+endsThen joins ends names name-bytes name = cond joins (set ends names (name-bytes + length name)) ends
 
 -- the answer: 2 if the outcome would not fit the room; the entries, the names and the name bytes in use
 unfoldable pub pointAnswer : List ℕ → ℕ → ℕ → ℕ → List ℕ → Wanted → Answer
 unfolding pointOutcome
-pointAnswer t used names size name nothing = answer 0 (used ∷ names ∷ size ∷ [])
-pointAnswer t used names size name (refuses a) = a
-pointAnswer t used names size name (stores instrument start end number new) =
+pointAnswer t used names name-bytes name nothing = answer 0 (used ∷ names ∷ name-bytes ∷ [])
+pointAnswer t used names name-bytes name (refuses a) = a
+pointAnswer t used names name-bytes name (stores instrument start end number new) =
     let out = pointOutcome t used instrument number in
-    cond (hasRoom t out) (answer 0 (length out ∷ namesThen new names ∷ sizeThen new size name ∷ [])) (refused NoRoom)
+    cond (hasRoom t out) (answer 0 (length out ∷ namesThen new names ∷ nameBytesThen new name-bytes name ∷ [])) (refused NoRoom)
 
 -- the row of a symbol mapping
 abbrev pub mappingRow : ℕ → ℕ → ℕ → ℕ → Row ℕ
@@ -180,19 +180,19 @@ timeRows t used (stores instrument start end number new) = nowStored (rows t use
 
 -- the answer of an outcome: 2, or the intervals, the names and the name bytes in use
 abbrev pub outcomeThen : ℕ → ℕ → List ℕ → Bool → Outcome (Row ℕ) → Answer
-outcomeThen names size name new (refusedBy c) = answer c []
-outcomeThen names size name new (stored ys) = answer 0 (length ys ∷ namesThen new names ∷ sizeThen new size name ∷ [])
+outcomeThen names name-bytes name new (refusedBy c) = answer c []
+outcomeThen names name-bytes name new (stored ys) = answer 0 (length ys ∷ namesThen new names ∷ nameBytesThen new name-bytes name ∷ [])
 
 unfoldable pub timeAnswer : List ℕ → ℕ → ℕ → ℕ → List ℕ → Wanted → Answer
 unfolding timeOutcome
-timeAnswer t used names size name nothing = answer 0 (used ∷ names ∷ size ∷ [])
-timeAnswer t used names size name (refuses a) = a
-timeAnswer t used names size name (stores instrument start end number new) =
-    outcomeThen names size name new (timeOutcome t used instrument start end number)
+timeAnswer t used names name-bytes name nothing = answer 0 (used ∷ names ∷ name-bytes ∷ [])
+timeAnswer t used names name-bytes name (refuses a) = a
+timeAnswer t used names name-bytes name (stores instrument start end number new) =
+    outcomeThen names name-bytes name new (timeOutcome t used instrument start end number)
 
 -- the answer of a mapping call
 abbrev pub recordedOf : Recorded → Answer
-recordedOf (Done used names size) = answer 0 (used ∷ names ∷ size ∷ [])
+recordedOf (Done used names name-bytes) = answer 0 (used ∷ names ∷ name-bytes ∷ [])
 recordedOf (Refused r) = refused r
 
 -- what a plan wants

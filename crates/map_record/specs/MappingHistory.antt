@@ -4,24 +4,24 @@ use mathlib.Core.Path.{_≡_, refl, sym, ap, _∙_}
 use mathlib.Core.Logic.{_≢_, _⊎_, inl, inr}
 use Prim.Native.Nat.{ℕ, _+_, _≤_, _<_}
 use native.Mathlib.Omega.{arith}
-use mathlib.Core.Bool.{Bool, true, false, not, _&&_, _||_, cond}
+use mathlib.Core.Bool.{Bool, true, false, _&&_, cond}
 use mathlib.Core.List.{List, [], _∷_}
 use lib.ListN.{length}
 use lib.Dec.{T, ltb, leb, eqb, lt→ltb}
-use borrow.Author.Tests.{lt-ltb, le-ltb, ltb-true, ltb-false, leb-true, eqb-false, ne-eqb, not-true, not-false}
+use borrow.Author.Tests.{lt-ltb, le-ltb, le-leb, ltb-true, ltb-false, eqb-false, ne-eqb}
 use mir.Facts.{ltb-yes}
 use Rattle.theory.specs.Answer.{Answer}
 use Rattle.theory.specs.RunsTools.{T-and, T-fst, T-snd}
 use Rattle.leaves.specs.Refusal.{refused}
 use Rattle.leaves.specs.declared.refusal.Refusal.the-variants.{Reversed, BadName, NoNameRoom, IllFormed, BadMemory}
 use Rattle.leaves.specs.Frame.{Mapped, other, symbol, notOne, mappedIn, nameIn}
-use Rattle.leaves_names.specs.Names.{memoryOk, wellFormed as wellFormedNames, isName, numbering, naming, hasRoom}
+use Rattle.leaves_names.specs.Names.{listFits, wellFormed as wellFormedNames, isName, numbering, naming, hasRoom}
 use Rattle.leaves_names.specs.NamesLaws.{Memory, memory}
 use Rattle.leaves_names.specs.declared.names.Naming.{Naming}
 use Rattle.leaves_names.specs.declared.names.Naming.the-variants.{Old, New, Refused as NotNamed}
-use Rattle.map_rules.specs.Table.{Row, Ordered, Outcome, nowStored, ifRoom, badRoom, badNames, wellFormed, ordered, allKnown, insertRows, entered, inserted}
+use Rattle.map_rules.specs.Table.{Row, Ordered, Outcome, nowStored, ifRoom, roomFits, namesFit, wellFormed, ordered, allKnown, insertRows, entered, inserted}
 use Rattle.map_rules.specs.History.{Event, insertion, after}
-use Rattle.map_rules.specs.Memory.{sameValue, knownValue, rows, roomOf, badTable, usedAfter}
+use Rattle.map_rules.specs.Memory.{sameValue, knownValue, rows, roomOf, tableFits, usedAfter}
 use Rattle.map_rules.specs.MemoryLaws.{length-rows}
 use Rattle.map_rules.specs.Outcomes.{Lent, table-lent}
 use Rattle.map_rules.specs.Calls.{Holds}
@@ -36,7 +36,7 @@ use Rattle.map_record.specs.MappingLaws.{two, and-fst, and-snd, room}
 -- ---- what a call that stores has passed
 
 pub record Passed (t : List ℕ) (used names i s e n : ℕ) (new : Bool) : Type 0 where
-  pub fits : badTable (length t) used ≡ false
+  pub fits : tableFits (length t) used ≡ true
   pub formed : wellFormed sameValue knownValue names (rows t used) ≡ true
   pub forward : s < e
   pub known : n < namesThen new names
@@ -60,10 +60,10 @@ nonempty true w h = let z : _≡_ {A = ℕ} 0 1 = cc in absurd (omega arith)
 nonempty false w h = (refl, h)
 
 -- the number that a valid name gets is known then
-numbered-known : (bytes places names used size number i s e : ℕ) {i′ s′ e′ n : ℕ} {new : Bool} → names ≤ 4096
-    → numbered i s e (numbering bytes places names used size number) ≡ stores i′ s′ e′ n new → (n < namesThen new names) × (namesThen new names ≤ 4096) × (s ≡ s′) × (e ≡ e′)
+numbered-known : (bytes places names name-bytes size number i s e : ℕ) {i′ s′ e′ n : ℕ} {new : Bool} → names ≤ 4096
+    → numbered i s e (numbering bytes places names name-bytes size number) ≡ stores i′ s′ e′ n new → (n < namesThen new names) × (namesThen new names ≤ 4096) × (s ≡ s′) × (e ≡ e′)
 unfolding numbering
-numbered-known bytes places names used size number i s e {i′} {s′} {e′} {n} {new} few h =
+numbered-known bytes places names name-bytes size number i s e {i′} {s′} {e′} {n} {new} few h =
     first (ltb number names) refl h
   where
     old : number < names → stores i s e number false ≡ stores i′ s′ e′ n new → (n < namesThen new names) × (namesThen new names ≤ 4096) × (s ≡ s′) × (e ≡ e′)
@@ -72,20 +72,20 @@ numbered-known bytes places names used size number i s e {i′} {s′} {e′} {n
         let b : false ≡ new = cc in
         rw (← b, ← a) (l, few, cc, cc)
 
-    fresh : (b : Bool) → hasRoom bytes places names used size ≡ b → numbered i s e (cond b (New names) (NotNamed NoNameRoom)) ≡ stores i′ s′ e′ n new
+    fresh : (b : Bool) → hasRoom bytes places names name-bytes size ≡ b → numbered i s e (cond b (New names) (NotNamed NoNameRoom)) ≡ stores i′ s′ e′ n new
         → (n < namesThen new names) × (namesThen new names ≤ 4096) × (s ≡ s′) × (e ≡ e′)
     fresh true r q =
         let a : names ≡ n = cc in
         let b : true ≡ new = cc in
-        let m : names + 1 ≤ 4096 = room bytes places names used size r .few in
+        let m : names + 1 ≤ 4096 = room bytes places names name-bytes size r .few in
         rw (← b, ← a) (omega arith, m, cc, cc)
     fresh false r q = let z : _≡_ {A = ℕ} 0 1 = cc in absurd (omega arith)
 
     first : (b : Bool) → ltb number names ≡ b
-        → numbered i s e (cond b (Old number) (cond (hasRoom bytes places names used size) (New names) (NotNamed NoNameRoom))) ≡ stores i′ s′ e′ n new
+        → numbered i s e (cond b (Old number) (cond (hasRoom bytes places names name-bytes size) (New names) (NotNamed NoNameRoom))) ≡ stores i′ s′ e′ n new
         → (n < namesThen new names) × (namesThen new names ≤ 4096) × (s ≡ s′) × (e ≡ e′)
     first true l q = old (ltb-true number names l) q
-    first false l q = fresh (hasRoom bytes places names used size) refl q
+    first false l q = fresh (hasRoom bytes places names name-bytes size) refl q
 
 numbered-is : (x : Naming) (i s e : ℕ) {i′ s′ e′ n : ℕ} {new : Bool} → numbered i s e x ≡ stores i′ s′ e′ n new → x ≡ named new n
 numbered-is (Old k) i s e {i′} {s′} {e′} {n} {new} h =
@@ -99,62 +99,62 @@ numbered-is (New k) i s e {i′} {s′} {e′} {n} {new} h =
 numbered-is (NotNamed r) i s e h = let z : _≡_ {A = ℕ} 0 1 = cc in absurd (omega arith)
 
 -- in a well-formed list in lent memory, a valid name is named so
-named-so : (bytes ends : List ℕ) (names size : ℕ) (name : List ℕ) → memoryOk (length bytes) (length ends) names size ≡ true → wellFormedNames bytes ends names size ≡ true
-    → isName name ≡ true → naming bytes ends names size name ≡ numberingIn bytes ends names size name
+named-so : (bytes ends : List ℕ) (names name-bytes : ℕ) (name : List ℕ) → listFits (length bytes) (length ends) names name-bytes ≡ true → wellFormedNames bytes ends names name-bytes ≡ true
+    → isName name ≡ true → naming bytes ends names name-bytes name ≡ numberingIn bytes ends names name-bytes name
 unfolding naming numberingIn
-named-so bytes ends names size name m w v = rw (m, w, v) refl
+named-so bytes ends names name-bytes name m w v = rw (m, w, v) refl
 
-wanted-known : (bytes ends : List ℕ) (names size : ℕ) (name : List ℕ) (m : Mapped) {i s e n : ℕ} {new : Bool} → names ≤ 4096
-    → timeWanted bytes ends names size name m ≡ stores i s e n new → (s < e) × (n < namesThen new names) × (namesThen new names ≤ 4096) × (isName name ≡ true) × (numberingIn bytes ends names size name ≡ named new n)
+wanted-known : (bytes ends : List ℕ) (names name-bytes : ℕ) (name : List ℕ) (m : Mapped) {i s e n : ℕ} {new : Bool} → names ≤ 4096
+    → timeWanted bytes ends names name-bytes name m ≡ stores i s e n new → (s < e) × (n < namesThen new names) × (namesThen new names ≤ 4096) × (isName name ≡ true) × (numberingIn bytes ends names name-bytes name ≡ named new n)
 unfolding timeWanted numberingIn
-wanted-known bytes ends names size name other few h = let z : _≡_ {A = ℕ} 0 1 = cc in absurd (omega arith)
-wanted-known bytes ends names size name (notOne reason) few h = let z : _≡_ {A = ℕ} 0 1 = cc in absurd (omega arith)
-wanted-known bytes ends names size name (symbol j a b) few h =
-    let number = numbered j a b (numberingIn bytes ends names size name) in
+wanted-known bytes ends names name-bytes name other few h = let z : _≡_ {A = ℕ} 0 1 = cc in absurd (omega arith)
+wanted-known bytes ends names name-bytes name (notOne reason) few h = let z : _≡_ {A = ℕ} 0 1 = cc in absurd (omega arith)
+wanted-known bytes ends names name-bytes name (symbol j a b) few h =
+    let number = numbered j a b (numberingIn bytes ends names name-bytes name) in
     let p = chosen (isName name) (cond (ltb b a) (refuses (refused Reversed)) (cond (eqb a b) nothing number)) (refused BadName) h in
     let q = past (ltb b a) (refused Reversed) (cond (eqb a b) nothing number) (p .1) in
     let r = nonempty (eqb a b) number (q .1) in
-    let k = numbered-known (length bytes) (length ends) names size (length name) _ j a b few (r .1) in
+    let k = numbered-known (length bytes) (length ends) names name-bytes (length name) _ j a b few (r .1) in
     let le : a ≤ b = ltb-false b a (q .0) in
     let ne : a ≢ b = eqb-false a b (r .0) in
-    (omega (arith, k .2, k .3), k .0, k .1, p .0, numbered-is (numberingIn bytes ends names size name) j a b (r .1))
+    (omega (arith, k .2, k .3), k .0, k .1, p .0, numbered-is (numberingIn bytes ends names name-bytes name) j a b (r .1))
 
 -- a call that stores has passed every test
-pub passed : (t : List ℕ) (used : ℕ) (bytes ends : List ℕ) (names size : ℕ) (rec : List ℕ) {i s e n : ℕ} {new : Bool}
-    → timeJudged t used bytes ends names size rec ≡ stores i s e n new → Passed t used names i s e n new
+pub passed : (t : List ℕ) (used : ℕ) (bytes ends : List ℕ) (names name-bytes : ℕ) (rec : List ℕ) {i s e n : ℕ} {new : Bool}
+    → timeJudged t used bytes ends names name-bytes rec ≡ stores i s e n new → Passed t used names i s e n new
 unfolding timeJudged
-passed t used bytes ends names size rec h =
-    let w = timeWanted bytes ends names size (nameIn rec) (mappedIn rec) in
-    let bad = badTable (length t) used in
-    let lent = memoryOk (length bytes) (length ends) names size in
+passed t used bytes ends names name-bytes rec h =
+    let w = timeWanted bytes ends names name-bytes (nameIn rec) (mappedIn rec) in
+    let fit = tableFits (length t) used in
+    let lent = listFits (length bytes) (length ends) names name-bytes in
     let rowsOk = wellFormed sameValue knownValue names (rows t used) in
-    let listOk = wellFormedNames bytes ends names size in
-    let p = chosen (not bad && lent) (cond (rowsOk && listOk) w (refuses (refused IllFormed))) (refused BadMemory) h in
+    let listOk = wellFormedNames bytes ends names name-bytes in
+    let p = chosen (fit && lent) (cond (rowsOk && listOk) w (refuses (refused IllFormed))) (refused BadMemory) h in
     let q = chosen (rowsOk && listOk) w (refused IllFormed) (p .1) in
-    let m : Memory (length bytes) (length ends) names size = memory _ _ _ _ (and-snd (not bad) lent (p .0)) in
-    let k = wanted-known bytes ends names size (nameIn rec) (mappedIn rec) (omega (arith, m .held, m .few)) (q .1) in
+    let m : Memory (length bytes) (length ends) names name-bytes = memory _ _ _ _ (and-snd fit lent (p .0)) in
+    let k = wanted-known bytes ends names name-bytes (nameIn rec) (mappedIn rec) (omega (arith, m .held, m .few)) (q .1) in
     record {
-      fits = not-true bad (and-fst (not bad) lent (p .0));
+      fits = and-fst fit lent (p .0);
       formed = and-fst rowsOk listOk (q .0);
       forward = k .0;
       known = k .1;
       few = k .2;
     }
 
-pub time-naming : (t : List ℕ) (used : ℕ) (bytes ends : List ℕ) (names size : ℕ) (rec : List ℕ) {i s e n : ℕ} {new : Bool}
-    → timeJudged t used bytes ends names size rec ≡ stores i s e n new → naming bytes ends names size (nameIn rec) ≡ named new n
+pub time-naming : (t : List ℕ) (used : ℕ) (bytes ends : List ℕ) (names name-bytes : ℕ) (rec : List ℕ) {i s e n : ℕ} {new : Bool}
+    → timeJudged t used bytes ends names name-bytes rec ≡ stores i s e n new → naming bytes ends names name-bytes (nameIn rec) ≡ named new n
 unfolding timeJudged
-time-naming t used bytes ends names size rec h =
-    let w = timeWanted bytes ends names size (nameIn rec) (mappedIn rec) in
-    let bad = badTable (length t) used in
-    let lent = memoryOk (length bytes) (length ends) names size in
+time-naming t used bytes ends names name-bytes rec h =
+    let w = timeWanted bytes ends names name-bytes (nameIn rec) (mappedIn rec) in
+    let fit = tableFits (length t) used in
+    let lent = listFits (length bytes) (length ends) names name-bytes in
     let rowsOk = wellFormed sameValue knownValue names (rows t used) in
-    let listOk = wellFormedNames bytes ends names size in
-    let p = chosen (not bad && lent) (cond (rowsOk && listOk) w (refuses (refused IllFormed))) (refused BadMemory) h in
+    let listOk = wellFormedNames bytes ends names name-bytes in
+    let p = chosen (fit && lent) (cond (rowsOk && listOk) w (refuses (refused IllFormed))) (refused BadMemory) h in
     let q = chosen (rowsOk && listOk) w (refused IllFormed) (p .1) in
-    let m : Memory (length bytes) (length ends) names size = memory _ _ _ _ (and-snd (not bad) lent (p .0)) in
-    let k = wanted-known bytes ends names size (nameIn rec) (mappedIn rec) (omega (arith, m .held, m .few)) (q .1) in
-    named-so bytes ends names size (nameIn rec) (and-snd (not bad) lent (p .0)) (and-snd rowsOk listOk (q .0)) (k .3) ∙ k .4
+    let m : Memory (length bytes) (length ends) names name-bytes = memory _ _ _ _ (and-snd fit lent (p .0)) in
+    let k = wanted-known bytes ends names name-bytes (nameIn rec) (mappedIn rec) (omega (arith, m .held, m .few)) (q .1) in
+    named-so bytes ends names name-bytes (nameIn rec) (and-snd fit lent (p .0)) (and-snd rowsOk listOk (q .0)) (k .3) ∙ k .4
 
 -- ---- and is an insert
 
@@ -187,15 +187,15 @@ names-more false names = omega arith
 
 pub stores-insert : (t : List ℕ) (used names i s e n : ℕ) (new : Bool) → Passed t used names i s e n new
     → inserted sameValue knownValue (namesThen new names) (roomOf t) (mappingRow i s e n) (rows t used) ≡ timeOutcome t used i s e n
-unfolding inserted entered badRoom badNames timeOutcome
+unfolding inserted entered roomFits namesFit timeOutcome
 stores-insert t used names i s e n new p =
     let l : Lent (length t) used = table-lent (length t) used (p .fits) in
     let ne : s ≢ e = omega (arith, p .forward) in
     rw (
       length-rows t 0 used,
-      le-ltb 65536 (roomOf t) (l .limit),
-      le-ltb (roomOf t) used (l .in-use),
-      le-ltb 4096 (namesThen new names) (p .few),
+      le-leb (roomOf t) 65536 (l .limit),
+      le-leb used (roomOf t) (l .in-use),
+      le-leb (namesThen new names) 4096 (p .few),
       formed-more names (namesThen new names) (rows t used) (names-more new names) (p .formed),
       le-ltb e s (omega (arith, p .forward)),
       ne-eqb s e ne,
@@ -204,15 +204,15 @@ stores-insert t used names i s e n new p =
     refl
 
 -- memory that holds the table after some events holds it after the call: one insert more where it stores, else the same
-module _ (es : List (Event ℕ)) (t : List ℕ) (used : ℕ) (bytes ends : List ℕ) (names size : ℕ) (rec : List ℕ) (held : Holds es t used) where
+module _ (es : List (Event ℕ)) (t : List ℕ) (used : ℕ) (bytes ends : List ℕ) (names name-bytes : ℕ) (rec : List ℕ) (held : Holds es t used) where
   abbrev judged : Wanted
-  judged = timeJudged t used bytes ends names size rec
+  judged = timeJudged t used bytes ends names name-bytes rec
 
   pub stores-call : {i s e n : ℕ} {new : Bool} (t′ : List ℕ) → judged ≡ stores i s e n new → rows t′ (timeUsed t used judged) ≡ timeRows t used judged
       → Holds (insertion (namesThen new names) (roomOf t) (mappingRow i s e n) ∷ es) t′ (timeUsed t used judged)
   unfolding after timeRows
   stores-call {i} {s} {e} {n} {new} t′ h r =
-      let o = stores-insert t used names i s e n new (passed t used bytes ends names size rec h) in
+      let o = stores-insert t used names i s e n new (passed t used bytes ends names name-bytes rec h) in
       r
       ∙ ap (timeRows t used) h
       ∙ ap (nowStored (rows t used)) (sym o)
@@ -228,41 +228,41 @@ module _ (es : List (Event ℕ)) (t : List ℕ) (used : ℕ) (bytes ends : List 
 
 -- ---- on a point-in-time table
 
-point-known : (bytes ends : List ℕ) (names size : ℕ) (name : List ℕ) (m : Mapped) {i s e n : ℕ} {new : Bool} → names ≤ 4096
-    → pointWanted bytes ends names size name m ≡ stores i s e n new
-    → (n < namesThen new names) × (isName name ≡ true) × (numberingIn bytes ends names size name ≡ named new n)
+point-known : (bytes ends : List ℕ) (names name-bytes : ℕ) (name : List ℕ) (m : Mapped) {i s e n : ℕ} {new : Bool} → names ≤ 4096
+    → pointWanted bytes ends names name-bytes name m ≡ stores i s e n new
+    → (n < namesThen new names) × (isName name ≡ true) × (numberingIn bytes ends names name-bytes name ≡ named new n)
 unfolding pointWanted numberingIn
-point-known bytes ends names size name other few h = let z : _≡_ {A = ℕ} 0 1 = cc in absurd (omega arith)
-point-known bytes ends names size name (notOne reason) few h = let z : _≡_ {A = ℕ} 0 1 = cc in absurd (omega arith)
-point-known bytes ends names size name (symbol j a b) few h =
-    let number = numbered j a b (numberingIn bytes ends names size name) in
+point-known bytes ends names name-bytes name other few h = let z : _≡_ {A = ℕ} 0 1 = cc in absurd (omega arith)
+point-known bytes ends names name-bytes name (notOne reason) few h = let z : _≡_ {A = ℕ} 0 1 = cc in absurd (omega arith)
+point-known bytes ends names name-bytes name (symbol j a b) few h =
+    let number = numbered j a b (numberingIn bytes ends names name-bytes name) in
     let p = chosen (isName name) number (refused BadName) h in
-    let k = numbered-known (length bytes) (length ends) names size (length name) _ j a b few (p .1) in
-    (k .0, p .0, numbered-is (numberingIn bytes ends names size name) j a b (p .1))
+    let k = numbered-known (length bytes) (length ends) names name-bytes (length name) _ j a b few (p .1) in
+    (k .0, p .0, numbered-is (numberingIn bytes ends names name-bytes name) j a b (p .1))
 
 -- what a call that stores has passed, and what naming makes of its name
-pub record PointPassed (t : List ℕ) (used : ℕ) (bytes ends : List ℕ) (names size : ℕ) (name : List ℕ) (n : ℕ) (new : Bool) : Type 0 where
+pub record PointPassed (t : List ℕ) (used : ℕ) (bytes ends : List ℕ) (names name-bytes : ℕ) (name : List ℕ) (n : ℕ) (new : Bool) : Type 0 where
   pub formed : points.wellFormed names (entries t used) ≡ true
   pub known : n < namesThen new names
-  pub naming-is : naming bytes ends names size name ≡ named new n
+  pub naming-is : naming bytes ends names name-bytes name ≡ named new n
 
-pub point-passed : (t : List ℕ) (used : ℕ) (bytes ends : List ℕ) (names size : ℕ) (rec : List ℕ) {i s e n : ℕ} {new : Bool}
-    → pointJudged t used bytes ends names size rec ≡ stores i s e n new → PointPassed t used bytes ends names size (nameIn rec) n new
+pub point-passed : (t : List ℕ) (used : ℕ) (bytes ends : List ℕ) (names name-bytes : ℕ) (rec : List ℕ) {i s e n : ℕ} {new : Bool}
+    → pointJudged t used bytes ends names name-bytes rec ≡ stores i s e n new → PointPassed t used bytes ends names name-bytes (nameIn rec) n new
 unfolding pointJudged
-point-passed t used bytes ends names size rec h =
-    let w = pointWanted bytes ends names size (nameIn rec) (mappedIn rec) in
+point-passed t used bytes ends names name-bytes rec h =
+    let w = pointWanted bytes ends names name-bytes (nameIn rec) (mappedIn rec) in
     let fit = pointsFit (length t) used in
-    let lent = memoryOk (length bytes) (length ends) names size in
+    let lent = listFits (length bytes) (length ends) names name-bytes in
     let entriesOk = points.wellFormed names (entries t used) in
-    let listOk = wellFormedNames bytes ends names size in
+    let listOk = wellFormedNames bytes ends names name-bytes in
     let p = chosen (fit && lent) (cond (entriesOk && listOk) w (refuses (refused IllFormed))) (refused BadMemory) h in
     let q = chosen (entriesOk && listOk) w (refused IllFormed) (p .1) in
-    let m : Memory (length bytes) (length ends) names size = memory _ _ _ _ (and-snd fit lent (p .0)) in
-    let k = point-known bytes ends names size (nameIn rec) (mappedIn rec) (omega (arith, m .held, m .few)) (q .1) in
+    let m : Memory (length bytes) (length ends) names name-bytes = memory _ _ _ _ (and-snd fit lent (p .0)) in
+    let k = point-known bytes ends names name-bytes (nameIn rec) (mappedIn rec) (omega (arith, m .held, m .few)) (q .1) in
     record {
       formed = and-fst entriesOk listOk (q .0);
       known = k .0;
-      naming-is = named-so bytes ends names size (nameIn rec) (and-snd fit lent (p .0)) (and-snd entriesOk listOk (q .0)) (k .1) ∙ k .2;
+      naming-is = named-so bytes ends names name-bytes (nameIn rec) (and-snd fit lent (p .0)) (and-snd entriesOk listOk (q .0)) (k .1) ∙ k .2;
     }
 
 entries-more : (names more : ℕ) (xs : List Entry) → names ≤ more → T (points.allKnown names xs) → T (points.allKnown more xs)
@@ -274,10 +274,10 @@ entries-more names more (x ∷ xs) h k =
     (entries-more names more xs h (T-snd (ltb (x .symbol) names) (points.allKnown names xs) k))
 
 -- the entries that it sets are well-formed with the names known then
-pub point-formed : (t : List ℕ) (used : ℕ) (bytes ends : List ℕ) (names size : ℕ) (name : List ℕ) (i n : ℕ) (new : Bool)
-    → PointPassed t used bytes ends names size name n new → points.wellFormed (namesThen new names) (pointOutcome t used i n) ≡ true
+pub point-formed : (t : List ℕ) (used : ℕ) (bytes ends : List ℕ) (names name-bytes : ℕ) (name : List ℕ) (i n : ℕ) (new : Bool)
+    → PointPassed t used bytes ends names name-bytes name n new → points.wellFormed (namesThen new names) (pointOutcome t used i n) ≡ true
 unfolding points.wellFormed pointOutcome
-point-formed t used bytes ends names size name i n new p =
+point-formed t used bytes ends names name-bytes name i n new p =
     let xs = entries t used in
     let x : Entry = record { instrument = i; symbol = n } in
     let more = namesThen new names in

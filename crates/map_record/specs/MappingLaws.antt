@@ -18,40 +18,40 @@ use Rattle.leaves.specs.Frame.{Read, whole, ended, damaged, Mapped, other, symb
 use Rattle.leaves.specs.FrameLaws.{mapped-other, mapped-symbol, mapped-refused, refused-not-done}
 use Rattle.leaves.specs.declared.frame.Mapping.{Mapping}
 use Rattle.leaves.specs.declared.frame.Mapping.the-variants.{Other, Symbol, Refused as NotRead}
-use Rattle.leaves_names.specs.Names.{memoryOk, wellFormed as wellFormedNames, namesOf, least, isName, nameWritten, hasRoom as hasNameRoom}
+use Rattle.leaves_names.specs.Names.{listFits, wellFormed as wellFormedNames, namesOf, least, isName, nameWritten, hasRoom as hasNameRoom}
 use Rattle.leaves_names.specs.declared.names.Naming.the-variants.{New, Refused as NotNamed}
 use Rattle.leaves_names.specs.NamesLaws.{holds, fails, Memory, memory, Ordered as OrderedNames, formed, ordered, numbered-old, numbered-fresh}
 use Rattle.map_point.specs.Entries.{entries}
 use Rattle.map_point.specs.declared.entries.Entry.{Entry}
 use Rattle.map_point.specs.Points.{rising, allKnown, wellFormed, setEntry, pointsFit, hasRoom, storedAnswer, storedBytes}
 use Rattle.map_point.specs.PointsSteps.{fit-bytes, Stores}
-use Rattle.map_record.specs.Mapping.{Wanted, nothing, refuses, stores, numberingIn, numbered, pointWanted, pointJudged, pointOutcome, pointJoins, pointTable, pointUsed, pointEntries, pointAnswer, namesThen, sizeThen, bytesThen, endsThen, planOf}
+use Rattle.map_record.specs.Mapping.{Wanted, nothing, refuses, stores, numberingIn, numbered, pointWanted, pointJudged, pointOutcome, pointJoins, pointTable, pointUsed, pointEntries, pointAnswer, namesThen, nameBytesThen, bytesThen, endsThen, planOf}
 use Rattle.map_rules.specs.Table.{Ordered}
 use Rattle.map_rules.specs.Memory.{width, rows, roomOf}
 use Rattle.map_record.specs.declared.mapping.Plan.{Plan}
 use Rattle.map_record.specs.declared.mapping.Plan.the-variants.{Nothing, Store, Refuse}
 
 -- where the name of a plan lies, and that there is room for it if it is new
-pub record Lies (bytes ends : List ℕ) (names size : ℕ) (rec : List ℕ) (from to : ℕ) (new : Bool) : Type 0 where
+pub record Lies (bytes ends : List ℕ) (names name-bytes : ℕ) (rec : List ℕ) (from to : ℕ) (new : Bool) : Type 0 where
   pub apart : from ≤ to
   pub inside : to ≤ length rec
   pub name : slice from to rec ≡ nameIn rec
   pub places : new ≡ true → names < length ends
-  pub room : new ≡ true → size + (to - from) ≤ length bytes
-  pub small : new ≡ true → size + (to - from) < 4294967296
+  pub room : new ≡ true → name-bytes + (to - from) ≤ length bytes
+  pub small : new ≡ true → name-bytes + (to - from) < 4294967296
 
 -- what a plan to store has been tested for
 abbrev pub Ready : List ℕ → List ℕ → ℕ → ℕ → List ℕ → Plan → Type 0
-Ready bytes ends names size rec Nothing = Unit {0}
-Ready bytes ends names size rec (Refuse r) = Unit {0}
-Ready bytes ends names size rec (Store instrument start end number new from to) = Lies bytes ends names size rec from to new
+Ready bytes ends names name-bytes rec Nothing = Unit {0}
+Ready bytes ends names name-bytes rec (Refuse r) = Unit {0}
+Ready bytes ends names name-bytes rec (Store instrument start end number new from to) = Lies bytes ends names name-bytes rec from to new
 
 -- and of a point-in-time table
 abbrev pub ReadyPoint : List ℕ → ℕ → List ℕ → List ℕ → ℕ → ℕ → List ℕ → Plan → Type 0
-ReadyPoint t used bytes ends names size rec Nothing = Unit {0}
-ReadyPoint t used bytes ends names size rec (Refuse r) = Unit {0}
-ReadyPoint t used bytes ends names size rec (Store instrument start end number new from to) =
-    Lies bytes ends names size rec from to new × (used * 8 ≤ length t) × T (rising (entries t used))
+ReadyPoint t used bytes ends names name-bytes rec Nothing = Unit {0}
+ReadyPoint t used bytes ends names name-bytes rec (Refuse r) = Unit {0}
+ReadyPoint t used bytes ends names name-bytes rec (Store instrument start end number new from to) =
+    Lies bytes ends names name-bytes rec from to new × (used * 8 ≤ length t) × T (rising (entries t used))
 
 -- a plan for a table over time stores a stretch that is not empty
 abbrev pub Forward : Plan → Type 0
@@ -61,10 +61,10 @@ Forward (Store instrument start end number new from to) = start < end
 
 -- and what such a table has been tested for
 abbrev pub ReadyInterval : List ℕ → ℕ → List ℕ → List ℕ → ℕ → ℕ → List ℕ → Plan → Type 0
-ReadyInterval t used bytes ends names size rec Nothing = Unit {0}
-ReadyInterval t used bytes ends names size rec (Refuse r) = Unit {0}
-ReadyInterval t used bytes ends names size rec (Store instrument start end number new from to) =
-    Lies bytes ends names size rec from to new
+ReadyInterval t used bytes ends names name-bytes rec Nothing = Unit {0}
+ReadyInterval t used bytes ends names name-bytes rec (Refuse r) = Unit {0}
+ReadyInterval t used bytes ends names name-bytes rec (Store instrument start end number new from to) =
+    Lies bytes ends names name-bytes rec from to new
     × ((length t ≡ roomOf t * width) × (used ≤ roomOf t) × (start < end) × Ordered (rows t used))
 
 -- ---- the number of a valid name
@@ -78,26 +78,26 @@ and-snd true b e = e
 and-snd false b e = let z : _≡_ {A = ℕ} 0 1 = cc in absurd (omega arith)
 
 -- what room for one name more gives
-pub record Room (bytes places names used size : ℕ) : Type 0 where
+pub record Room (bytes places names name-bytes size : ℕ) : Type 0 where
   pub few : names + 1 ≤ 4096
-  pub small : used + size ≤ 65536
+  pub small : name-bytes + size ≤ 65536
   pub place : names < places
-  pub inside : used + size ≤ bytes
+  pub inside : name-bytes + size ≤ bytes
 
-pub room : (bytes places names used size : ℕ) → hasNameRoom bytes places names used size ≡ true → Room bytes places names used size
+pub room : (bytes places names name-bytes size : ℕ) → hasNameRoom bytes places names name-bytes size ≡ true → Room bytes places names name-bytes size
 unfolding hasNameRoom
-room bytes places names used size e =
+room bytes places names name-bytes size e =
     let a = leb (names + 1) 4096 in
-    let b = leb (used + size) 65536 in
+    let b = leb (name-bytes + size) 65536 in
     let c = leb (names + 1) places in
-    let d = leb (used + size) bytes in
+    let d = leb (name-bytes + size) bytes in
     let abc : (a && b && c) ≡ true = and-fst (a && b && c) d e in
     let ab : (a && b) ≡ true = and-fst (a && b) c abc in
     record {
       few = leb-true (names + 1) 4096 (and-fst a b ab);
-      small = leb-true (used + size) 65536 (and-snd a b ab);
+      small = leb-true (name-bytes + size) 65536 (and-snd a b ab);
       place = omega (arith, leb-true (names + 1) places (and-snd (a && b) c abc));
-      inside = leb-true (used + size) bytes (and-snd (a && b && c) d e);
+      inside = leb-true (name-bytes + size) bytes (and-snd (a && b && c) d e);
     }
 
 -- where a name lies in a record's bytes
@@ -107,39 +107,39 @@ Part rec from to = (from ≤ to) × (to ≤ length rec) × (slice from to rec �
 part-length : (rec : List ℕ) (from to : ℕ) → Part rec from to → length (nameIn rec) ≡ to - from
 part-length rec from to p = ap length (sym (p .2)) ∙ length-slice from to rec (p .1)
 
-pub few-names : (bytes places names size : ℕ) → memoryOk bytes places names size ≡ true → names ≤ 4096
-few-names bytes places names size m = let l = memory bytes places names size m in omega (arith, l .few, l .held)
+pub few-names : (bytes places names name-bytes : ℕ) → listFits bytes places names name-bytes ≡ true → names ≤ 4096
+few-names bytes places names name-bytes m = let l = memory bytes places names name-bytes m in omega (arith, l .few, l .held)
 
-module _ (bytes ends rec : List ℕ) (names size from to : ℕ) (m : memoryOk (length bytes) (length ends) names size ≡ true) (p : Part rec from to) where
-  pub find-ready : wellFormedNames bytes ends names size ≡ true → OrderedNames bytes ends names
-  find-ready w = ordered (memory _ _ _ _ m) (formed bytes ends size names w)
+module _ (bytes ends rec : List ℕ) (names name-bytes from to : ℕ) (m : listFits (length bytes) (length ends) names name-bytes ≡ true) (p : Part rec from to) where
+  pub find-ready : wellFormedNames bytes ends names name-bytes ≡ true → OrderedNames bytes ends names
+  find-ready w = ordered (memory _ _ _ _ m) (formed bytes ends name-bytes names w)
 
   module _ {n : ℕ} (e : n ≡ least (slice from to rec) (namesOf bytes ends names)) where
     least-is : n ≡ least (nameIn rec) (namesOf bytes ends names)
     least-is = e ∙ ap (λ (l : List ℕ). least l (namesOf bytes ends names)) (p .2)
 
-    pub plan-old : (i s t : ℕ) → n < names → stores i s t n false ≡ numbered i s t (numberingIn bytes ends names size (nameIn rec))
+    pub plan-old : (i s t : ℕ) → n < names → stores i s t n false ≡ numbered i s t (numberingIn bytes ends names name-bytes (nameIn rec))
     unfolding numberingIn
     plan-old i s t h = ap (numbered i s t) (numbered-old _ _ _ _ _ _ least-is h)
 
-    module _ {b : Bool} (f : b ≡ hasNameRoom (length bytes) (length ends) names size (to - from)) (h : names ≤ n) where
-      judged : {v : Bool} → b ≡ v → hasNameRoom (length bytes) (length ends) names size (length (nameIn rec)) ≡ v
-      judged g = ap (hasNameRoom (length bytes) (length ends) names size) (part-length rec from to p) ∙ sym f ∙ g
+    module _ {b : Bool} (f : b ≡ hasNameRoom (length bytes) (length ends) names name-bytes (to - from)) (h : names ≤ n) where
+      judged : {v : Bool} → b ≡ v → hasNameRoom (length bytes) (length ends) names name-bytes (length (nameIn rec)) ≡ v
+      judged g = ap (hasNameRoom (length bytes) (length ends) names name-bytes) (part-length rec from to p) ∙ sym f ∙ g
 
       -- a name that the list has not: the next new number, or 5
-      fresh : {v : Bool} → b ≡ v → numberingIn bytes ends names size (nameIn rec) ≡ cond v (New names) (NotNamed NoNameRoom)
+      fresh : {v : Bool} → b ≡ v → numberingIn bytes ends names name-bytes (nameIn rec) ≡ cond v (New names) (NotNamed NoNameRoom)
       unfolding numberingIn
       fresh g =
           numbered-fresh _ _ _ _ _ _ least-is h
           ∙ ap (λ (v : Bool). cond v (New names) (NotNamed NoNameRoom)) (judged g)
 
-      pub plan-new : (i s t : ℕ) → b ≡ true → stores i s t names true ≡ numbered i s t (numberingIn bytes ends names size (nameIn rec))
+      pub plan-new : (i s t : ℕ) → b ≡ true → stores i s t names true ≡ numbered i s t (numberingIn bytes ends names name-bytes (nameIn rec))
       plan-new i s t g = ap (numbered i s t) (sym (fresh g))
 
-      pub plan-none : (i s t : ℕ) → b ≡ false → refuses (refused NoNameRoom) ≡ numbered i s t (numberingIn bytes ends names size (nameIn rec))
+      pub plan-none : (i s t : ℕ) → b ≡ false → refuses (refused NoNameRoom) ≡ numbered i s t (numberingIn bytes ends names name-bytes (nameIn rec))
       plan-none i s t g = ap (numbered i s t) (sym (fresh g))
 
-  pub lies-old : Lies bytes ends names size rec from to false
+  pub lies-old : Lies bytes ends names name-bytes rec from to false
   lies-old = record {
     apart = p .0;
     inside = p .1;
@@ -149,9 +149,9 @@ module _ (bytes ends rec : List ℕ) (names size from to : ℕ) (m : memoryOk (l
     small = λ e. absurd (false≢true e);
   }
 
-  pub lies-new : {b : Bool} → b ≡ hasNameRoom (length bytes) (length ends) names size (to - from) → b ≡ true → Lies bytes ends names size rec from to true
+  pub lies-new : {b : Bool} → b ≡ hasNameRoom (length bytes) (length ends) names name-bytes (to - from) → b ≡ true → Lies bytes ends names name-bytes rec from to true
   lies-new f g =
-      let r = room (length bytes) (length ends) names size (to - from) (sym f ∙ g) in
+      let r = room (length bytes) (length ends) names name-bytes (to - from) (sym f ∙ g) in
       record {
         apart = p .0;
         inside = p .1;
@@ -194,21 +194,21 @@ symbol-one b (whole size kind instrument time) {i} {s} {e} h =
     go (inl p) = symbol-kind b kind instrument (p .1)
     go (inr p) = let f = p .1 in let z : _≡_ {A = ℕ} 0 1 = cc in absurd (omega arith)
 
-module _ (bytes ends rec : List ℕ) (names size : ℕ) where
-  wanted : {m m′ : Mapped} → m ≡ m′ → pointWanted bytes ends names size (nameIn rec) m ≡ pointWanted bytes ends names size (nameIn rec) m′
-  wanted h = ap (pointWanted bytes ends names size (nameIn rec)) h
+module _ (bytes ends rec : List ℕ) (names name-bytes : ℕ) where
+  wanted : {m m′ : Mapped} → m ≡ m′ → pointWanted bytes ends names name-bytes (nameIn rec) m ≡ pointWanted bytes ends names name-bytes (nameIn rec) m′
+  wanted h = ap (pointWanted bytes ends names name-bytes (nameIn rec)) h
 
-module _ (bytes ends rec : List ℕ) (names size : ℕ) {a : Mapping} (e : mappingOf a ≡ mappedOf (length rec) (mappedIn rec)) where
-  pub asked-other : a ≡ Other → nothing ≡ pointWanted bytes ends names size (nameIn rec) (mappedIn rec)
+module _ (bytes ends rec : List ℕ) (names name-bytes : ℕ) {a : Mapping} (e : mappingOf a ≡ mappedOf (length rec) (mappedIn rec)) where
+  pub asked-other : a ≡ Other → nothing ≡ pointWanted bytes ends names name-bytes (nameIn rec) (mappedIn rec)
   unfolding pointWanted
-  asked-other f = wanted bytes ends rec names size (sym (mapped-other (length rec) (mappedIn rec) (sym (ap mappingOf f) ∙ e)))
+  asked-other f = wanted bytes ends rec names name-bytes (sym (mapped-other (length rec) (mappedIn rec) (sym (ap mappingOf f) ∙ e)))
 
-  pub asked-refused : {r : Refusal} → a ≡ NotRead r → refuses (refused r) ≡ pointWanted bytes ends names size (nameIn rec) (mappedIn rec)
+  pub asked-refused : {r : Refusal} → a ≡ NotRead r → refuses (refused r) ≡ pointWanted bytes ends names name-bytes (nameIn rec) (mappedIn rec)
   unfolding pointWanted
   asked-refused {r} f =
       let g : refused r ≡ mappedOf (length rec) (mappedIn rec) = sym (ap mappingOf f) ∙ e in
       let m = mapped-refused (length rec) (mappedIn rec) r g in
-      ap refuses (g ∙ ap (mappedOf (length rec)) (m .1)) ∙ wanted bytes ends rec names size (sym (m .1))
+      ap refuses (g ∙ ap (mappedOf (length rec)) (m .1)) ∙ wanted bytes ends rec names name-bytes (sym (m .1))
 
   module _ {i s t from to : ℕ} (f : a ≡ Symbol i s t from to) where
     pub asked : (mappedIn rec ≡ symbol i s t) × (from ≡ 32) × (to ≡ length rec)
@@ -224,14 +224,14 @@ module _ (bytes ends rec : List ℕ) (names size : ℕ) {a : Mapping} (e : mappi
       named : {v : Bool} → b ≡ v → isName (nameIn rec) ≡ v
       named h = ap isName (sym (asked-part .2)) ∙ sym g ∙ h
 
-      pub asked-symbol : b ≡ true → {w : Wanted} → w ≡ numbered i s t (numberingIn bytes ends names size (nameIn rec))
-          → w ≡ pointWanted bytes ends names size (nameIn rec) (mappedIn rec)
+      pub asked-symbol : b ≡ true → {w : Wanted} → w ≡ numbered i s t (numberingIn bytes ends names name-bytes (nameIn rec))
+          → w ≡ pointWanted bytes ends names name-bytes (nameIn rec) (mappedIn rec)
       unfolding pointWanted
-      asked-symbol h {w} v = v ∙ sym (wanted bytes ends rec names size (asked .0) ∙ rw (named h) refl)
+      asked-symbol h {w} v = v ∙ sym (wanted bytes ends rec names name-bytes (asked .0) ∙ rw (named h) refl)
 
-      pub asked-bad : b ≡ false → refuses (refused BadName) ≡ pointWanted bytes ends names size (nameIn rec) (mappedIn rec)
+      pub asked-bad : b ≡ false → refuses (refused BadName) ≡ pointWanted bytes ends names name-bytes (nameIn rec) (mappedIn rec)
       unfolding pointWanted
-      asked-bad h = sym (wanted bytes ends rec names size (asked .0) ∙ rw (named h) refl)
+      asked-bad h = sym (wanted bytes ends rec names name-bytes (asked .0) ∙ rw (named h) refl)
 
 -- ---- the tests of memory, table and list
 
@@ -239,64 +239,64 @@ formed-rising : (names : ℕ) (t : List ℕ) (used : ℕ) → wellFormed names (
 unfolding wellFormed
 formed-rising names t used e = rw (and-fst (rising (entries t used)) (allKnown names (entries t used)) e) tt
 
-pub ready-point : (t : List ℕ) (used : ℕ) (bytes ends : List ℕ) (names size : ℕ) (rec : List ℕ) (p : Plan)
-    → pointsFit (length t) used ≡ true → wellFormed names (entries t used) ≡ true → Ready bytes ends names size rec p → ReadyPoint t used bytes ends names size rec p
-ready-point t used bytes ends names size rec Nothing f w r = tt
-ready-point t used bytes ends names size rec (Refuse x) f w r = tt
-ready-point t used bytes ends names size rec (Store i s e n new from to) f w r = (r, fit-bytes (length t) used f, formed-rising names t used w)
+pub ready-point : (t : List ℕ) (used : ℕ) (bytes ends : List ℕ) (names name-bytes : ℕ) (rec : List ℕ) (p : Plan)
+    → pointsFit (length t) used ≡ true → wellFormed names (entries t used) ≡ true → Ready bytes ends names name-bytes rec p → ReadyPoint t used bytes ends names name-bytes rec p
+ready-point t used bytes ends names name-bytes rec Nothing f w r = tt
+ready-point t used bytes ends names name-bytes rec (Refuse x) f w r = tt
+ready-point t used bytes ends names name-bytes rec (Store i s e n new from to) f w r = (r, fit-bytes (length t) used f, formed-rising names t used w)
 
-module _ (t : List ℕ) (used : ℕ) (bytes ends : List ℕ) (names size : ℕ) (rec : List ℕ) where
+module _ (t : List ℕ) (used : ℕ) (bytes ends : List ℕ) (names name-bytes : ℕ) (rec : List ℕ) where
   abbrev judge : Wanted
-  judge = pointJudged t used bytes ends names size rec
+  judge = pointJudged t used bytes ends names name-bytes rec
 
   pub judged-table : pointsFit (length t) used ≡ false → refuses (refused BadMemory) ≡ judge
   unfolding pointJudged
   judged-table f = rw f refl
 
   module _ (f : pointsFit (length t) used ≡ true) where
-    pub judged-list : memoryOk (length bytes) (length ends) names size ≡ false → refuses (refused BadMemory) ≡ judge
+    pub judged-list : listFits (length bytes) (length ends) names name-bytes ≡ false → refuses (refused BadMemory) ≡ judge
     unfolding pointJudged
     judged-list g = rw (f, g) refl
 
-    module _ (g : memoryOk (length bytes) (length ends) names size ≡ true) where
+    module _ (g : listFits (length bytes) (length ends) names name-bytes ≡ true) where
       pub judged-ill-table : wellFormed names (entries t used) ≡ false → refuses (refused IllFormed) ≡ judge
       unfolding pointJudged
       judged-ill-table h = rw (f, g, h) refl
 
       module _ (h : wellFormed names (entries t used) ≡ true) where
-        pub judged-ill-list : wellFormedNames bytes ends names size ≡ false → refuses (refused IllFormed) ≡ judge
+        pub judged-ill-list : wellFormedNames bytes ends names name-bytes ≡ false → refuses (refused IllFormed) ≡ judge
         unfolding pointJudged
         judged-ill-list k = rw (f, g, h, k) refl
 
-        pub judged-on : wellFormedNames bytes ends names size ≡ true → pointWanted bytes ends names size (nameIn rec) (mappedIn rec) ≡ judge
+        pub judged-on : wellFormedNames bytes ends names name-bytes ≡ true → pointWanted bytes ends names name-bytes (nameIn rec) (mappedIn rec) ≡ judge
         unfolding pointJudged
         judged-on k = rw (f, g, h, k) refl
 
 -- ---- the name joins the list
 
-module _ (bytes ends : List ℕ) (names size : ℕ) (rec : List ℕ) (from to : ℕ) {new : Bool} (l : Lies bytes ends names size rec from to new) where
-  name-size : size + (to - from) ≡ size + length (nameIn rec)
-  name-size = ap (λ (k : ℕ). size + k) (sym (ap length (sym (l .name)) ∙ length-slice from to rec (l .inside)))
+module _ (bytes ends : List ℕ) (names name-bytes : ℕ) (rec : List ℕ) (from to : ℕ) {new : Bool} (l : Lies bytes ends names name-bytes rec from to new) where
+  name-size : name-bytes + (to - from) ≡ name-bytes + length (nameIn rec)
+  name-size = ap (λ (k : ℕ). name-bytes + k) (sym (ap length (sym (l .name)) ∙ length-slice from to rec (l .inside)))
 
-  pub joined-new : new ≡ true → {end : ℕ} {b e : List ℕ} → end ≡ size + (to - from) → b ≡ nameWritten bytes size (slice from to rec) → e ≡ set ends names (size + (to - from))
-      → ((names + 1 ≡ namesThen new names) × (end ≡ sizeThen new size (nameIn rec)))
-      × ((b ≡ bytesThen new bytes size (nameIn rec)) × (e ≡ endsThen new ends names size (nameIn rec)))
+  pub joined-new : new ≡ true → {end : ℕ} {b e : List ℕ} → end ≡ name-bytes + (to - from) → b ≡ nameWritten bytes name-bytes (slice from to rec) → e ≡ set ends names (name-bytes + (to - from))
+      → ((names + 1 ≡ namesThen new names) × (end ≡ nameBytesThen new name-bytes (nameIn rec)))
+      × ((b ≡ bytesThen new bytes name-bytes (nameIn rec)) × (e ≡ endsThen new ends names name-bytes (nameIn rec)))
   unfolding bytesThen endsThen
   joined-new h p q r =
       rw h
-      ((refl, p ∙ name-size), (q ∙ ap (nameWritten bytes size) (l .name), r ∙ ap (set ends names) name-size))
+      ((refl, p ∙ name-size), (q ∙ ap (nameWritten bytes name-bytes) (l .name), r ∙ ap (set ends names) name-size))
 
-pub joined-old : (bytes ends : List ℕ) (names size : ℕ) (name : List ℕ) {new : Bool} → new ≡ false
-    → ((names ≡ namesThen new names) × (size ≡ sizeThen new size name)) × ((bytes ≡ bytesThen new bytes size name) × (ends ≡ endsThen new ends names size name))
+pub joined-old : (bytes ends : List ℕ) (names name-bytes : ℕ) (name : List ℕ) {new : Bool} → new ≡ false
+    → ((names ≡ namesThen new names) × (name-bytes ≡ nameBytesThen new name-bytes name)) × ((bytes ≡ bytesThen new bytes name-bytes name) × (ends ≡ endsThen new ends names name-bytes name))
 unfolding bytesThen endsThen
-joined-old bytes ends names size name h = rw h ((refl, refl), (refl, refl))
+joined-old bytes ends names name-bytes name h = rw h ((refl, refl), (refl, refl))
 
 -- ---- the entry is stored, and what is left
 
-pub ready-store : (t : List ℕ) (used : ℕ) (bytes ends : List ℕ) (names size : ℕ) (rec : List ℕ) {p : Plan} {i s e n from to : ℕ} {new : Bool}
-    → ReadyPoint t used bytes ends names size rec p → p ≡ Store i s e n new from to
-    → Lies bytes ends names size rec from to new × (used * 8 ≤ length t) × T (rising (entries t used))
-ready-store t used bytes ends names size rec r h = rw h at r
+pub ready-store : (t : List ℕ) (used : ℕ) (bytes ends : List ℕ) (names name-bytes : ℕ) (rec : List ℕ) {p : Plan} {i s e n from to : ℕ} {new : Bool}
+    → ReadyPoint t used bytes ends names name-bytes rec p → p ≡ Store i s e n new from to
+    → Lies bytes ends names name-bytes rec from to new × (used * 8 ≤ length t) × T (rising (entries t used))
+ready-store t used bytes ends names name-bytes rec r h = rw h at r
 
 stored-no : (t : List ℕ) (out : List Entry) (r : Refusal) → refused r ≡ storedAnswer t out → (hasRoom t out ≡ false) × (refused r ≡ refused NoRoom)
 unfolding storedAnswer
@@ -314,15 +314,15 @@ stored-yes t out u h = go (two (hasRoom t out) (answer 0 (length out ∷ [])) (r
     go (inl p) = let f = p .1 in (p .0, cc)
     go (inr p) = let f = p .1 in let z : _≡_ {A = ℕ} 0 2 = cc in absurd (omega arith)
 
-module _ (t : List ℕ) (used : ℕ) (bytes ends : List ℕ) (names size : ℕ) (name : List ℕ) where
+module _ (t : List ℕ) (used : ℕ) (bytes ends : List ℕ) (names name-bytes : ℕ) (name : List ℕ) where
   -- the answer and the lent memory are those of what was wanted
   abbrev pub Leaves : Wanted → Answer → List ℕ → List ℕ → List ℕ → Type 0
   Leaves w a t′ b e =
-      (a ≡ pointAnswer t used names size name w)
-      × ((t′ ≡ pointTable t used w) × ((b ≡ bytesThen (pointJoins t used w) bytes size name) × ((e ≡ endsThen (pointJoins t used w) ends names size name)
+      (a ≡ pointAnswer t used names name-bytes name w)
+      × ((t′ ≡ pointTable t used w) × ((b ≡ bytesThen (pointJoins t used w) bytes name-bytes name) × ((e ≡ endsThen (pointJoins t used w) ends names name-bytes name)
       × (entries t′ (pointUsed t used w) ≡ pointEntries t used w))))
 
-  pub leaves-nothing : {w : Wanted} → nothing ≡ w → Leaves w (answer 0 (used ∷ names ∷ size ∷ [])) t bytes ends
+  pub leaves-nothing : {w : Wanted} → nothing ≡ w → Leaves w (answer 0 (used ∷ names ∷ name-bytes ∷ [])) t bytes ends
   unfolding pointAnswer pointTable pointJoins pointUsed pointEntries bytesThen endsThen
   leaves-nothing h = rw (← h) (refl, (refl, (refl, (refl, refl))))
 
@@ -341,7 +341,7 @@ module _ (t : List ℕ) (used : ℕ) (bytes ends : List ℕ) (names size : ℕ) 
         rw (← h) (rw (no′ .0) (no′ .1), (st .1 .0, (rw (no′ .0) refl, (rw (no′ .0) refl, st .1 .1))))
 
     pub leaves-stored : {u k z : ℕ} {a : Answer} {t′ b′ e′ : List ℕ} → answer 0 (u ∷ []) ≡ a → Stores t used (record { instrument = i; symbol = n }) a t′
-        → k ≡ namesThen new names → z ≡ sizeThen new size name → b′ ≡ bytesThen new bytes size name → e′ ≡ endsThen new ends names size name
+        → k ≡ namesThen new names → z ≡ nameBytesThen new name-bytes name → b′ ≡ bytesThen new bytes name-bytes name → e′ ≡ endsThen new ends names name-bytes name
         → Leaves w (answer 0 (u ∷ k ∷ z ∷ [])) t′ b′ e′
     unfolding pointAnswer pointTable pointJoins pointUsed pointEntries
     leaves-stored {u} q st a b c d =

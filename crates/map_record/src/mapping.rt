@@ -7,8 +7,8 @@ use leaves_names::names::add_name;
 use leaves_names::names::find_name;
 use leaves_names::names::has_room;
 use leaves_names::names::is_list;
-use leaves_names::names::is_memory;
 use leaves_names::names::is_name;
+use leaves_names::names::list_fits;
 use map_point::entries::Entry;
 use map_point::points::Stored;
 use map_point::points::points_fit;
@@ -17,17 +17,17 @@ use map_point::points::well_formed;
 use map_time::insert::Inserted;
 use map_time::insert::place;
 use map_time::interval::Interval;
-use map_time::table::bad_table;
+use map_time::table::table_fits;
 ghost use mathlib.Core.Path.{_≡_};
 ghost use mathlib.Core.Bool.{true};
 ghost use Prim.Native.Nat.{_≤_};
 ghost use lib.ListN.{length};
 ghost use lib.Seq.{slice};
-ghost use Rattle.leaves_names.specs.Names.{memoryOk, wellFormed};
+ghost use Rattle.leaves_names.specs.Names.{listFits, wellFormed};
 ghost use Rattle.leaves.specs.Frame.{mappedIn, nameIn};
 ghost use Rattle.map_rules.specs.Memory.{rows};
 ghost use Rattle.map_point.specs.Entries.{entries};
-ghost use Rattle.map_record.specs.Mapping.{numberingIn, numbered, pointWanted, pointJudged, pointJoins, pointTable, pointUsed, pointEntries, pointAnswer, timeWanted, timeJudged, timeJoins, timeTable, timeUsed, timeRows, timeAnswer, namesThen, sizeThen, bytesThen, endsThen, recordedOf, planOf};
+ghost use Rattle.map_record.specs.Mapping.{numberingIn, numbered, pointWanted, pointJudged, pointJoins, pointTable, pointUsed, pointEntries, pointAnswer, timeWanted, timeJudged, timeJoins, timeTable, timeUsed, timeRows, timeAnswer, namesThen, nameBytesThen, bytesThen, endsThen, recordedOf, planOf};
 ghost use Rattle.map_record.specs.MappingLaws.{Lies, Ready, ReadyPoint, Forward, ReadyInterval};
 
 // What a mapping call comes to before the room of the table is judged.
@@ -52,7 +52,7 @@ pub enum Recorded {
     Done {
         used: usize,
         names: usize,
-        size: usize,
+        name_bytes: usize,
     },
     Refused(Refusal),
 }
@@ -60,7 +60,7 @@ pub enum Recorded {
 // The names and the name bytes in use.
 pub struct Joined {
     pub names: usize,
-    pub size: usize,
+    pub name_bytes: usize,
 }
 
 // A symbol stored by the number of its name, a valid one, or 5.
@@ -68,7 +68,7 @@ fn plan_name(
     bytes: &[u8],
     ends: &[u32],
     names: usize,
-    size: usize,
+    name_bytes: usize,
     rec: &[u8],
     instrument: u32,
     start: u64,
@@ -76,10 +76,10 @@ fn plan_name(
     from: usize,
     to: usize,
 ) -> Plan
-    requires { ⌜ (memoryOk (length (now bytes)) (length (now ends)) names size ≡ true) × (wellFormed (now bytes) (now ends) names size ≡ true) ⌝ }
+    requires { ⌜ (listFits (length (now bytes)) (length (now ends)) names «name_bytes» ≡ true) × (wellFormed (now bytes) (now ends) names «name_bytes» ≡ true) ⌝ }
     requires { ⌜ (from ≤ to) × (to ≤ length (now rec)) × (slice from to (now rec) ≡ nameIn (now rec)) ⌝ }
-    ensures { λ r. ⌜ planOf r ≡ numbered instrument start end (numberingIn (now (bytes .entry)) (now (ends .entry)) names size (nameIn (now (rec .entry)))) ⌝ }
-    ensures { λ r. ⌜ Ready (now (bytes .entry)) (now (ends .entry)) names size (now (rec .entry)) r ⌝ }
+    ensures { λ r. ⌜ planOf r ≡ numbered instrument start end (numberingIn (now (bytes .entry)) (now (ends .entry)) names «name_bytes» (nameIn (now (rec .entry)))) ⌝ }
+    ensures { λ r. ⌜ Ready (now (bytes .entry)) (now (ends .entry)) names «name_bytes» (now (rec .entry)) r ⌝ }
 {
     let number = find_name(bytes, ends, names, rec, from, to);
     if number < names {
@@ -93,7 +93,7 @@ fn plan_name(
             to,
         };
     }
-    if has_room(bytes.len(), ends.len(), names, size, to - from) {
+    if has_room(bytes.len(), ends.len(), names, name_bytes, to - from) {
         Plan::Store {
             instrument,
             start,
@@ -109,10 +109,10 @@ fn plan_name(
 }
 
 // What a record asks of a well-formed name list and a point-in-time table: 13, 4, 5.
-fn plan_point(bytes: &[u8], ends: &[u32], names: usize, size: usize, rec: &[u8]) -> Plan
-    requires { ⌜ (memoryOk (length (now bytes)) (length (now ends)) names size ≡ true) × (wellFormed (now bytes) (now ends) names size ≡ true) ⌝ }
-    ensures { λ r. ⌜ planOf r ≡ pointWanted (now (bytes .entry)) (now (ends .entry)) names size (nameIn (now (rec .entry))) (mappedIn (now (rec .entry))) ⌝ }
-    ensures { λ r. ⌜ Ready (now (bytes .entry)) (now (ends .entry)) names size (now (rec .entry)) r ⌝ }
+fn plan_point(bytes: &[u8], ends: &[u32], names: usize, name_bytes: usize, rec: &[u8]) -> Plan
+    requires { ⌜ (listFits (length (now bytes)) (length (now ends)) names «name_bytes» ≡ true) × (wellFormed (now bytes) (now ends) names «name_bytes» ≡ true) ⌝ }
+    ensures { λ r. ⌜ planOf r ≡ pointWanted (now (bytes .entry)) (now (ends .entry)) names «name_bytes» (nameIn (now (rec .entry))) (mappedIn (now (rec .entry))) ⌝ }
+    ensures { λ r. ⌜ Ready (now (bytes .entry)) (now (ends .entry)) names «name_bytes» (now (rec .entry)) r ⌝ }
 {
     let asked = read_mapping(rec);
     match asked {
@@ -130,7 +130,7 @@ fn plan_point(bytes: &[u8], ends: &[u32], names: usize, size: usize, rec: &[u8])
                     bytes,
                     ends,
                     names,
-                    size,
+                    name_bytes,
                     rec,
                     instrument,
                     start,
@@ -152,32 +152,32 @@ fn judge_point(
     bytes: &[u8],
     ends: &[u32],
     names: usize,
-    size: usize,
+    name_bytes: usize,
     rec: &[u8],
 ) -> Plan
-    ensures { λ r. ⌜ planOf r ≡ pointJudged (now (table .entry)) used (now (bytes .entry)) (now (ends .entry)) names size (now (rec .entry)) ⌝ }
-    ensures { λ r. ⌜ ReadyPoint (now (table .entry)) used (now (bytes .entry)) (now (ends .entry)) names size (now (rec .entry)) r ⌝ }
+    ensures { λ r. ⌜ planOf r ≡ pointJudged (now (table .entry)) used (now (bytes .entry)) (now (ends .entry)) names «name_bytes» (now (rec .entry)) ⌝ }
+    ensures { λ r. ⌜ ReadyPoint (now (table .entry)) used (now (bytes .entry)) (now (ends .entry)) names «name_bytes» (now (rec .entry)) r ⌝ }
 {
     if !points_fit(table.len(), used) {
         return Plan::Refuse(Refusal::BadMemory);
     }
-    if !is_memory(bytes.len(), ends.len(), names, size) {
+    if !list_fits(bytes.len(), ends.len(), names, name_bytes) {
         return Plan::Refuse(Refusal::BadMemory);
     }
     if !well_formed(table, used, names) {
         return Plan::Refuse(Refusal::IllFormed);
     }
-    if !is_list(bytes, ends, names, size) {
+    if !is_list(bytes, ends, names, name_bytes) {
         return Plan::Refuse(Refusal::IllFormed);
     }
-    plan_point(bytes, ends, names, size, rec)
+    plan_point(bytes, ends, names, name_bytes, rec)
 }
 
 // What a record asks of a well-formed name list and a table over time: 13, 4, 1; start = end is done; 5.
-fn plan_interval(bytes: &[u8], ends: &[u32], names: usize, size: usize, rec: &[u8]) -> Plan
-    requires { ⌜ (memoryOk (length (now bytes)) (length (now ends)) names size ≡ true) × (wellFormed (now bytes) (now ends) names size ≡ true) ⌝ }
-    ensures { λ r. ⌜ planOf r ≡ timeWanted (now (bytes .entry)) (now (ends .entry)) names size (nameIn (now (rec .entry))) (mappedIn (now (rec .entry))) ⌝ }
-    ensures { λ r. ⌜ Ready (now (bytes .entry)) (now (ends .entry)) names size (now (rec .entry)) r ⌝ }
+fn plan_interval(bytes: &[u8], ends: &[u32], names: usize, name_bytes: usize, rec: &[u8]) -> Plan
+    requires { ⌜ (listFits (length (now bytes)) (length (now ends)) names «name_bytes» ≡ true) × (wellFormed (now bytes) (now ends) names «name_bytes» ≡ true) ⌝ }
+    ensures { λ r. ⌜ planOf r ≡ timeWanted (now (bytes .entry)) (now (ends .entry)) names «name_bytes» (nameIn (now (rec .entry))) (mappedIn (now (rec .entry))) ⌝ }
+    ensures { λ r. ⌜ Ready (now (bytes .entry)) (now (ends .entry)) names «name_bytes» (now (rec .entry)) r ⌝ }
     ensures { λ r. ⌜ Forward r ⌝ }
 {
     let asked = read_mapping(rec);
@@ -200,7 +200,7 @@ fn plan_interval(bytes: &[u8], ends: &[u32], names: usize, size: usize, rec: &[u
                     bytes,
                     ends,
                     names,
-                    size,
+                    name_bytes,
                     rec,
                     instrument,
                     start,
@@ -222,25 +222,25 @@ fn judge_interval(
     bytes: &[u8],
     ends: &[u32],
     names: usize,
-    size: usize,
+    name_bytes: usize,
     rec: &[u8],
 ) -> Plan
-    ensures { λ r. ⌜ planOf r ≡ timeJudged (now (table .entry)) used (now (bytes .entry)) (now (ends .entry)) names size (now (rec .entry)) ⌝ }
-    ensures { λ r. ⌜ ReadyInterval (now (table .entry)) used (now (bytes .entry)) (now (ends .entry)) names size (now (rec .entry)) r ⌝ }
+    ensures { λ r. ⌜ planOf r ≡ timeJudged (now (table .entry)) used (now (bytes .entry)) (now (ends .entry)) names «name_bytes» (now (rec .entry)) ⌝ }
+    ensures { λ r. ⌜ ReadyInterval (now (table .entry)) used (now (bytes .entry)) (now (ends .entry)) names «name_bytes» (now (rec .entry)) r ⌝ }
 {
-    if bad_table(table.len(), used) {
+    if !table_fits(table.len(), used) {
         return Plan::Refuse(Refusal::BadMemory);
     }
-    if !is_memory(bytes.len(), ends.len(), names, size) {
+    if !list_fits(bytes.len(), ends.len(), names, name_bytes) {
         return Plan::Refuse(Refusal::BadMemory);
     }
     if !map_time::table::well_formed(table, used, names) {
         return Plan::Refuse(Refusal::IllFormed);
     }
-    if !is_list(bytes, ends, names, size) {
+    if !is_list(bytes, ends, names, name_bytes) {
         return Plan::Refuse(Refusal::IllFormed);
     }
-    plan_interval(bytes, ends, names, size, rec)
+    plan_interval(bytes, ends, names, name_bytes, rec)
 }
 
 // The name of a plan joins the list, if it is new.
@@ -248,25 +248,25 @@ fn join_name(
     bytes: &mut [u8],
     ends: &mut [u32],
     names: usize,
-    size: usize,
+    name_bytes: usize,
     rec: &[u8],
     from: usize,
     to: usize,
     new: bool,
 ) -> Joined
-    requires { ⌜ Lies (now bytes) (now ends) names size (now rec) from to new ⌝ }
-    ensures { λ r. ⌜ (r .names ≡ namesThen new names) × (r .size ≡ sizeThen new size (nameIn (now (rec .entry)))) ⌝ }
-    ensures { λ _. ⌜ now (bytes .exit) ≡ bytesThen new (now (bytes .entry)) size (nameIn (now (rec .entry))) ⌝ }
-    ensures { λ _. ⌜ now (ends .exit) ≡ endsThen new (now (ends .entry)) names size (nameIn (now (rec .entry))) ⌝ }
+    requires { ⌜ Lies (now bytes) (now ends) names «name_bytes» (now rec) from to new ⌝ }
+    ensures { λ r. ⌜ (r .names ≡ namesThen new names) × (r .«name_bytes» ≡ nameBytesThen new «name_bytes» (nameIn (now (rec .entry)))) ⌝ }
+    ensures { λ _. ⌜ now (bytes .exit) ≡ bytesThen new (now (bytes .entry)) «name_bytes» (nameIn (now (rec .entry))) ⌝ }
+    ensures { λ _. ⌜ now (ends .exit) ≡ endsThen new (now (ends .entry)) names «name_bytes» (nameIn (now (rec .entry))) ⌝ }
 {
     if new {
-        let end = add_name(bytes, ends, names, size, rec, from, to);
+        let end = add_name(bytes, ends, names, name_bytes, rec, from, to);
         return Joined {
             names: names + 1,
-            size: end,
+            name_bytes: end,
         };
     }
-    Joined { names, size }
+    Joined { names, name_bytes }
 }
 
 // A record's bytes on a point-in-time table: a symbol mapping sets its instrument's entry, and a new name joins the list.
@@ -276,18 +276,22 @@ pub fn on_record_point(
     bytes: &mut [u8],
     ends: &mut [u32],
     names: usize,
-    size: usize,
+    name_bytes: usize,
     rec: &[u8],
 ) -> Recorded
-    ensures { λ r. ⌜ recordedOf r ≡ pointAnswer (now (table .entry)) used names size (nameIn (now (rec .entry))) (pointJudged (now (table .entry)) used (now (bytes .entry)) (now (ends .entry)) names size (now (rec .entry))) ⌝ }
-    ensures { λ _. ⌜ now (table .exit) ≡ pointTable (now (table .entry)) used (pointJudged (now (table .entry)) used (now (bytes .entry)) (now (ends .entry)) names size (now (rec .entry))) ⌝ }
-    ensures { λ _. ⌜ now (bytes .exit) ≡ bytesThen (pointJoins (now (table .entry)) used (pointJudged (now (table .entry)) used (now (bytes .entry)) (now (ends .entry)) names size (now (rec .entry)))) (now (bytes .entry)) size (nameIn (now (rec .entry))) ⌝ }
-    ensures { λ _. ⌜ now (ends .exit) ≡ endsThen (pointJoins (now (table .entry)) used (pointJudged (now (table .entry)) used (now (bytes .entry)) (now (ends .entry)) names size (now (rec .entry)))) (now (ends .entry)) names size (nameIn (now (rec .entry))) ⌝ }
-    ensures { λ _. ⌜ entries (now (table .exit)) (pointUsed (now (table .entry)) used (pointJudged (now (table .entry)) used (now (bytes .entry)) (now (ends .entry)) names size (now (rec .entry)))) ≡ pointEntries (now (table .entry)) used (pointJudged (now (table .entry)) used (now (bytes .entry)) (now (ends .entry)) names size (now (rec .entry))) ⌝ }
+    ensures { λ r. ⌜ recordedOf r ≡ pointAnswer (now (table .entry)) used names «name_bytes» (nameIn (now (rec .entry))) (pointJudged (now (table .entry)) used (now (bytes .entry)) (now (ends .entry)) names «name_bytes» (now (rec .entry))) ⌝ }
+    ensures { λ _. ⌜ now (table .exit) ≡ pointTable (now (table .entry)) used (pointJudged (now (table .entry)) used (now (bytes .entry)) (now (ends .entry)) names «name_bytes» (now (rec .entry))) ⌝ }
+    ensures { λ _. ⌜ now (bytes .exit) ≡ bytesThen (pointJoins (now (table .entry)) used (pointJudged (now (table .entry)) used (now (bytes .entry)) (now (ends .entry)) names «name_bytes» (now (rec .entry)))) (now (bytes .entry)) «name_bytes» (nameIn (now (rec .entry))) ⌝ }
+    ensures { λ _. ⌜ now (ends .exit) ≡ endsThen (pointJoins (now (table .entry)) used (pointJudged (now (table .entry)) used (now (bytes .entry)) (now (ends .entry)) names «name_bytes» (now (rec .entry)))) (now (ends .entry)) names «name_bytes» (nameIn (now (rec .entry))) ⌝ }
+    ensures { λ _. ⌜ entries (now (table .exit)) (pointUsed (now (table .entry)) used (pointJudged (now (table .entry)) used (now (bytes .entry)) (now (ends .entry)) names «name_bytes» (now (rec .entry)))) ≡ pointEntries (now (table .entry)) used (pointJudged (now (table .entry)) used (now (bytes .entry)) (now (ends .entry)) names «name_bytes» (now (rec .entry))) ⌝ }
 {
-    let plan = judge_point(table, used, bytes, ends, names, size, rec);
+    let plan = judge_point(table, used, bytes, ends, names, name_bytes, rec);
     match plan {
-        Plan::Nothing => Recorded::Done { used, names, size },
+        Plan::Nothing => Recorded::Done {
+            used,
+            names,
+            name_bytes,
+        },
         Plan::Refuse(refusal) => Recorded::Refused(refusal),
         Plan::Store {
             instrument,
@@ -306,11 +310,11 @@ pub fn on_record_point(
             match stored {
                 Stored::Refused(refusal) => Recorded::Refused(refusal),
                 Stored::Done(then) => {
-                    let joined = join_name(bytes, ends, names, size, rec, from, to, new);
+                    let joined = join_name(bytes, ends, names, name_bytes, rec, from, to, new);
                     Recorded::Done {
                         used: then,
                         names: joined.names,
-                        size: joined.size,
+                        name_bytes: joined.name_bytes,
                     }
                 }
             }
@@ -325,18 +329,22 @@ pub fn on_record(
     bytes: &mut [u8],
     ends: &mut [u32],
     names: usize,
-    size: usize,
+    name_bytes: usize,
     rec: &[u8],
 ) -> Recorded
-    ensures { λ r. ⌜ recordedOf r ≡ timeAnswer (now (table .entry)) used names size (nameIn (now (rec .entry))) (timeJudged (now (table .entry)) used (now (bytes .entry)) (now (ends .entry)) names size (now (rec .entry))) ⌝ }
-    ensures { λ _. ⌜ now (table .exit) ≡ timeTable (now (table .entry)) used (timeJudged (now (table .entry)) used (now (bytes .entry)) (now (ends .entry)) names size (now (rec .entry))) ⌝ }
-    ensures { λ _. ⌜ now (bytes .exit) ≡ bytesThen (timeJoins (now (table .entry)) used (timeJudged (now (table .entry)) used (now (bytes .entry)) (now (ends .entry)) names size (now (rec .entry)))) (now (bytes .entry)) size (nameIn (now (rec .entry))) ⌝ }
-    ensures { λ _. ⌜ now (ends .exit) ≡ endsThen (timeJoins (now (table .entry)) used (timeJudged (now (table .entry)) used (now (bytes .entry)) (now (ends .entry)) names size (now (rec .entry)))) (now (ends .entry)) names size (nameIn (now (rec .entry))) ⌝ }
-    ensures { λ _. ⌜ rows (now (table .exit)) (timeUsed (now (table .entry)) used (timeJudged (now (table .entry)) used (now (bytes .entry)) (now (ends .entry)) names size (now (rec .entry)))) ≡ timeRows (now (table .entry)) used (timeJudged (now (table .entry)) used (now (bytes .entry)) (now (ends .entry)) names size (now (rec .entry))) ⌝ }
+    ensures { λ r. ⌜ recordedOf r ≡ timeAnswer (now (table .entry)) used names «name_bytes» (nameIn (now (rec .entry))) (timeJudged (now (table .entry)) used (now (bytes .entry)) (now (ends .entry)) names «name_bytes» (now (rec .entry))) ⌝ }
+    ensures { λ _. ⌜ now (table .exit) ≡ timeTable (now (table .entry)) used (timeJudged (now (table .entry)) used (now (bytes .entry)) (now (ends .entry)) names «name_bytes» (now (rec .entry))) ⌝ }
+    ensures { λ _. ⌜ now (bytes .exit) ≡ bytesThen (timeJoins (now (table .entry)) used (timeJudged (now (table .entry)) used (now (bytes .entry)) (now (ends .entry)) names «name_bytes» (now (rec .entry)))) (now (bytes .entry)) «name_bytes» (nameIn (now (rec .entry))) ⌝ }
+    ensures { λ _. ⌜ now (ends .exit) ≡ endsThen (timeJoins (now (table .entry)) used (timeJudged (now (table .entry)) used (now (bytes .entry)) (now (ends .entry)) names «name_bytes» (now (rec .entry)))) (now (ends .entry)) names «name_bytes» (nameIn (now (rec .entry))) ⌝ }
+    ensures { λ _. ⌜ rows (now (table .exit)) (timeUsed (now (table .entry)) used (timeJudged (now (table .entry)) used (now (bytes .entry)) (now (ends .entry)) names «name_bytes» (now (rec .entry)))) ≡ timeRows (now (table .entry)) used (timeJudged (now (table .entry)) used (now (bytes .entry)) (now (ends .entry)) names «name_bytes» (now (rec .entry))) ⌝ }
 {
-    let plan = judge_interval(table, used, bytes, ends, names, size, rec);
+    let plan = judge_interval(table, used, bytes, ends, names, name_bytes, rec);
     match plan {
-        Plan::Nothing => Recorded::Done { used, names, size },
+        Plan::Nothing => Recorded::Done {
+            used,
+            names,
+            name_bytes,
+        },
         Plan::Refuse(refusal) => Recorded::Refused(refusal),
         Plan::Store {
             instrument,
@@ -357,11 +365,11 @@ pub fn on_record(
             match inserted {
                 Inserted::Refused(refusal) => Recorded::Refused(refusal),
                 Inserted::Done(then) => {
-                    let joined = join_name(bytes, ends, names, size, rec, from, to, new);
+                    let joined = join_name(bytes, ends, names, name_bytes, rec, from, to, new);
                     Recorded::Done {
                         used: then,
                         names: joined.names,
-                        size: joined.size,
+                        name_bytes: joined.name_bytes,
                     }
                 }
             }

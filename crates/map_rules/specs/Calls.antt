@@ -5,14 +5,14 @@ use mathlib.Core.Path.{_≡_, ap, _∙_}
 use mathlib.Core.Logic.{_≢_}
 use Prim.Native.Nat.{ℕ, _%_, _≤_, _<_}
 use native.Mathlib.Omega.{arith}
-use mathlib.Core.Bool.{Bool, not, _||_}
+use mathlib.Core.Bool.{Bool, not, _&&_}
 use mathlib.Core.List.{List, [], _∷_}
 use lib.ListN.{length}
 use lib.Dec.{T, ltb, eqb, eqb-refl, not-T}
 use mir.Facts.{eqb-yes, eqb-no, ltb-yes, ltb-no}
 use Rattle.theory.specs.Answer.{Answer, answer}
 use Rattle.theory.specs.RunsTools.{cond-case, cond-yes, cond-no}
-use Rattle.map_rules.specs.Table.{Row, answerFor, Ordered, Outcome, refusedBy, stored, nowStored, ifRoom, badRoom, badNames, wellFormed, insertRows, entered, inserted}
+use Rattle.map_rules.specs.Table.{Row, answerFor, Ordered, Outcome, refusedBy, stored, nowStored, ifRoom, roomFits, namesFit, wellFormed, insertRows, entered, inserted}
 use Rattle.map_rules.specs.History.{Event, insertion, after, accepted, history-told}
 use Rattle.map_rules.specs.Lookup.{lookupRows, lookupRows-right}
 use Rattle.map_rules.specs.Memory.{width, sameValue, knownValue, rows, roomOf, insertOutcome, memoryAfter, outcomeAnswer, usedAfter, Gives}
@@ -59,29 +59,29 @@ outcomeNumber (refusedBy c) = c
 outcomeNumber (stored ys) = 0
 
 module _ (names room : ℕ) (n : Row ℕ) (xs : List (Row ℕ)) where
-  abbrev bad : Bool
-  bad = badRoom room (length xs) || badNames names
+  abbrev lent : Bool
+  lent = roomFits room (length xs) && namesFit names
 
   abbrev formed : Bool
   formed = wellFormed sameValue knownValue names xs
 
   -- which refusal, if any, comes first in the order
   pub data First : ℕ → Type 0 where
-    by-15 : T (badRoom room (length xs) || badNames names) → First 15
-    by-14 : T (not (badRoom room (length xs) || badNames names)) → T (not (wellFormed sameValue knownValue names xs)) → First 14
-    by-1 : T (not (badRoom room (length xs) || badNames names)) → T (wellFormed sameValue knownValue names xs) → n .end < n .start → First 1
-    empty : T (not (badRoom room (length xs) || badNames names)) → T (wellFormed sameValue knownValue names xs) → n .start ≡ n .end → First 0
-    by-3 : T (not (badRoom room (length xs) || badNames names)) → T (wellFormed sameValue knownValue names xs) → n .start < n .end → names ≤ n .value → First 3
-    by-2 : T (not (badRoom room (length xs) || badNames names)) → T (wellFormed sameValue knownValue names xs) → n .start < n .end → n .value < names
+    by-15 : T (not (roomFits room (length xs) && namesFit names)) → First 15
+    by-14 : T (roomFits room (length xs) && namesFit names) → T (not (wellFormed sameValue knownValue names xs)) → First 14
+    by-1 : T (roomFits room (length xs) && namesFit names) → T (wellFormed sameValue knownValue names xs) → n .end < n .start → First 1
+    empty : T (roomFits room (length xs) && namesFit names) → T (wellFormed sameValue knownValue names xs) → n .start ≡ n .end → First 0
+    by-3 : T (roomFits room (length xs) && namesFit names) → T (wellFormed sameValue knownValue names xs) → n .start < n .end → names ≤ n .value → First 3
+    by-2 : T (roomFits room (length xs) && namesFit names) → T (wellFormed sameValue knownValue names xs) → n .start < n .end → n .value < names
         → room < length (insertRows sameValue n xs) → First 2
-    fits : T (not (badRoom room (length xs) || badNames names)) → T (wellFormed sameValue knownValue names xs) → n .start < n .end → n .value < names
+    fits : T (roomFits room (length xs) && namesFit names) → T (wellFormed sameValue knownValue names xs) → n .start < n .end → n .value < names
         → length (insertRows sameValue n xs) ≤ room → First 0
 
   pub refused-first : First (outcomeNumber (inserted sameValue knownValue names room n xs))
   unfolding inserted entered ifRoom outcomeNumber
   refused-first =
       let P : Outcome (Row ℕ) → Type 0 = λ o. First (outcomeNumber o) in
-      cond-case P bad _ _ (λ b. by-15 b) (λ b.
+      cond-case P lent _ _ (λ b.
       cond-case P formed _ _ (λ f.
       cond-case P (ltb (n .end) (n .start)) _ _ (λ h. by-1 b f (ltb-yes h)) (λ h.
       cond-case P (eqb (n .start) (n .end)) _ _ (λ e. empty b f (eqb-yes e)) (λ e.
@@ -90,4 +90,4 @@ module _ (names room : ℕ) (n : Row ℕ) (xs : List (Row ℕ)) where
       let l : n .start < n .end = omega arith in
       cond-case P (ltb (n .value) names) _ _ (λ k.
       cond-case P (ltb room (length (insertRows sameValue n xs))) _ _ (λ r. by-2 b f l (ltb-yes k) (ltb-yes r)) (λ r. fits b f l (ltb-yes k) (ltb-no r)))
-      (λ k. by-3 b f l (ltb-no k))))) (λ f. by-14 b f))
+      (λ k. by-3 b f l (ltb-no k))))) (λ f. by-14 b f)) (λ b. by-15 b)

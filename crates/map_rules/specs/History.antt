@@ -5,7 +5,7 @@ use mathlib.Core.Path.{_≡_, refl, sym, _∙_}
 use mathlib.Core.Logic.{_≢_, _↔_}
 use Prim.Native.Nat.{ℕ, _≤_, _<_}
 use native.Mathlib.Omega.{arith}
-use mathlib.Core.Bool.{Bool, _||_}
+use mathlib.Core.Bool.{Bool, _&&_}
 use mathlib.Core.Option.{Option}
 use mathlib.Core.List.{List, [], _∷_}
 use lib.ListN.{length}
@@ -14,7 +14,7 @@ use mir.Facts.{eqb-yes, eqb-no}
 use Rattle.theory.specs.Runs.{answerAt, Mem, IsRun, Same}
 use Rattle.theory.specs.RunsTools.{cond-case, ltb-case, T-and}
 use Rattle.theory.specs.RunsLongest.{Rising, same-run}
-use Rattle.map_rules.specs.Table.{Row, intervalOf, group, answerFor, Ordered, allKnown, Outcome, refusedBy, stored, nowStored, ifRoom, badRoom, badNames, wellFormed, insertRows, entered, inserted}
+use Rattle.map_rules.specs.Table.{Row, intervalOf, group, answerFor, Ordered, allKnown, Outcome, refusedBy, stored, nowStored, ifRoom, roomFits, namesFit, wellFormed, insertRows, entered, inserted}
 use Rattle.map_rules.specs.Tests.{formed-parts, formed-both, memory-good}
 use Rattle.map_rules.specs.Groups.{Sorted}
 use Rattle.map_rules.specs.Rules.{rows-longest, only-rows, front, empty-front, rows-ok, rows-answer, known-answers}
@@ -88,9 +88,9 @@ module _ {A : Type 0} (same : A → A → Bool) (laws : Same same) (known : ℕ 
   pub inserted-ok : (names room : ℕ) (n : Row A) (xs : List (Row A)) → AcceptedIf names room n xs (inserted same known names room n xs)
   unfolding inserted
   inserted-ok names room n xs =
-      cond-case (λ (o : Outcome (Row A)). AcceptedIf names room n xs o) (badRoom room (length xs) || badNames names) _ _ (λ t. tt) (λ t.
+      cond-case (λ (o : Outcome (Row A)). AcceptedIf names room n xs o) (roomFits room (length xs) && namesFit names) _ _ (λ t.
       cond-case (λ (o : Outcome (Row A)). AcceptedIf names room n xs o) (wellFormed same known names xs) _ _
-      (λ f. entered-ok names room n xs (memory-good room (length xs) names t .0 .in-use) f) (λ f. tt))
+      (λ f. entered-ok names room n xs (memory-good room (length xs) names t .0 .in-use) f) (λ f. tt)) (λ t. tt)
 
   -- what holds of the table after any events
   pub record Told (xs ac : List (Row A)) : Type 0 where

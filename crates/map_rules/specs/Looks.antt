@@ -22,7 +22,7 @@ use Rattle.map_rules.specs.Groups.{Sorted, formed-iff}
 use Rattle.map_rules.specs.Cuts.{Behind, behind, row-some}
 use Rattle.map_rules.specs.Lookup.{Finding, says, seen, started, arrive, lookupRows, lookupRows-last}
 use Rattle.map_rules.specs.Places.{own, own-yes, own-no, lower, upper, group-place, started-place, Begins, lower-begins, Passed, Ahead, Reaches, upper-reaches}
-use Rattle.map_rules.specs.Memory.{width, sameValue, rowAt, rows, badTable}
+use Rattle.map_rules.specs.Memory.{width, sameValue, rowAt, rows, tableFits}
 use Rattle.map_rules.specs.MemoryLaws.{blank, length-rows}
 use Rattle.map_rules.specs.Pieces.{symbols}
 use Rattle.map_rules.specs.Outcomes.{Lent, table-lent}
@@ -45,11 +45,11 @@ findingAnswer f = saidAnswer (f .hint) (f .said)
 
 -- a lookup in lent memory: 15, else as rows
 unfoldable pub lookupAnswer : List ℕ → ℕ → ℕ → ℕ → ℕ → Answer
-lookupAnswer t used i m h = cond (badTable (length t) used) (answer 15 []) (findingAnswer (lookupRows (rows t used) i m h))
+lookupAnswer t used i m h = cond (tableFits (length t) used) (findingAnswer (lookupRows (rows t used) i m h)) (answer 15 [])
 
 -- the new hint: a refusal leaves it
 unfoldable pub lookupHint : List ℕ → ℕ → ℕ → ℕ → ℕ → ℕ
-lookupHint t used i m h = cond (badTable (length t) used) h (lookupRows (rows t used) i m h .hint)
+lookupHint t used i m h = cond (tableFits (length t) used) (lookupRows (rows t used) i m h .hint) h
 
 -- an answer and a hint tell a finding
 pub record Tells (f : Finding ℕ) (a : Answer) (h : ℕ) : Type 0 where
@@ -518,33 +518,33 @@ look-last t used i m h w s =
 
 -- ---- the whole
 
-or-no : (a b : Bool) → a ≡ false → T (a || b) → T b
-or-no true b e t = absurd (let z : _≡_ {A = ℕ} 0 1 = cc in omega arith)
-or-no false b e t = t
+good-or : (a b : Bool) → a ≡ true → T (not a || b) → T b
+good-or true b e t = t
+good-or false b e t = absurd (let z : _≡_ {A = ℕ} 0 1 = cc in omega arith)
 
-module _ (t : List ℕ) (used i m h : ℕ) {b : Bool} (e : b ≡ badTable (length t) used) where
-  pub looked-bad : b ≡ true → (answer 15 [] ≡ lookupAnswer t used i m h) × (h ≡ lookupHint t used i m h)
+module _ (t : List ℕ) (used i m h : ℕ) {b : Bool} (e : b ≡ tableFits (length t) used) where
+  pub looked-unfit : b ≡ false → (answer 15 [] ≡ lookupAnswer t used i m h) × (h ≡ lookupHint t used i m h)
   unfolding lookupAnswer lookupHint
-  looked-bad f =
-      let t′ : T (badTable (length t) used) = true-T (badTable (length t) used) (sym e ∙ f) in
-      (sym (cond-yes (badTable (length t) used) _ _ t′), sym (cond-yes (badTable (length t) used) _ _ t′))
+  looked-unfit f =
+      let t′ : T (not (tableFits (length t) used)) = let n : tableFits (length t) used ≡ false = sym e ∙ f in rw n tt in
+      (sym (cond-no (tableFits (length t) used) _ _ t′), sym (cond-no (tableFits (length t) used) _ _ t′))
 
-  pub looked-good : {r : Answer} {k : ℕ} → b ≡ false → (Ordered (rows t used) → Tells (lookupRows (rows t used) i m h) r k)
-      → T (badTable (length t) used || ordered sameValue (rows t used)) → (r ≡ lookupAnswer t used i m h) × (k ≡ lookupHint t used i m h)
+  pub looked-fit : {r : Answer} {k : ℕ} → b ≡ true → (Ordered (rows t used) → Tells (lookupRows (rows t used) i m h) r k)
+      → T (not (tableFits (length t) used) || ordered sameValue (rows t used)) → (r ≡ lookupAnswer t used i m h) × (k ≡ lookupHint t used i m h)
   unfolding lookupAnswer lookupHint
-  looked-good f g d =
-      let n : badTable (length t) used ≡ false = sym e ∙ f in
+  looked-fit f g d =
+      let n : tableFits (length t) used ≡ true = sym e ∙ f in
       let s : Tells (lookupRows (rows t used) i m h) _ _ =
-      g (ordered-iff sameValue symbols (rows t used) .0 (or-no (badTable (length t) used) (ordered sameValue (rows t used)) n d)) in
-      let t′ : T (not (badTable (length t) used)) = rw n tt in
-      (s .answers ∙ sym (cond-no (badTable (length t) used) _ _ t′), s .hints ∙ sym (cond-no (badTable (length t) used) _ _ t′))
+      g (ordered-iff sameValue symbols (rows t used) .0 (good-or (tableFits (length t) used) (ordered sameValue (rows t used)) n d)) in
+      let t′ : T (tableFits (length t) used) = rw n tt in
+      (s .answers ∙ sym (cond-yes (tableFits (length t) used) _ _ t′), s .hints ∙ sym (cond-yes (tableFits (length t) used) _ _ t′))
 
 -- what the code asks of the memory
-pub table-fits : {b : Bool} (long used : ℕ) → b ≡ badTable long used → b ≡ false → used * width ≤ long
-table-fits long used e f = let l : Lent long used = table-lent long used (sym e ∙ f) in omega (arith, l .whole, l .in-use)
+pub table-holds : {b : Bool} (long used : ℕ) → b ≡ tableFits long used → b ≡ true → used * width ≤ long
+table-holds long used e f = let l : Lent long used = table-lent long used (sym e ∙ f) in omega (arith, l .whole, l .in-use)
 
-pub table-limit : {b : Bool} (long used : ℕ) → b ≡ badTable long used → b ≡ false → used ≤ 65536
+pub table-limit : {b : Bool} (long used : ℕ) → b ≡ tableFits long used → b ≡ true → used ≤ 65536
 table-limit long used e f = let l : Lent long used = table-lent long used (sym e ∙ f) in omega (arith, l .limit, l .in-use)
 
-pub bad-not : {b : Bool} (long used : ℕ) → b ≡ badTable long used → b ≡ true → badTable long used ≡ false → ⊥
-bad-not long used e f g = never (badTable long used) (true-T (badTable long used) (sym e ∙ f)) g
+pub unfit-not : {b : Bool} (long used : ℕ) → b ≡ tableFits long used → b ≡ false → tableFits long used ≡ true → ⊥
+unfit-not long used e f g = never (tableFits long used) (true-T (tableFits long used) g) (sym e ∙ f)

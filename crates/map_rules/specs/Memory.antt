@@ -2,13 +2,13 @@
 -- its rows, and the memory that an accepted insert leaves.
 use Prim.Native.Nat.{ℕ, zero, suc, _+_, _-_, _*_, _/_, _%_, _<_, max}
 use mathlib.Core.Path.{_≡_}
-use mathlib.Core.Bool.{Bool, not, _||_, cond}
+use mathlib.Core.Bool.{Bool, _&&_, cond}
 use mathlib.Core.List.{List, [], _∷_, _++_}
 use lib.ListN.{length, drop, replicate}
 use lib.Dec.{ltb, eqb}
 use Rattle.theory.specs.Fields.{field, putField}
 use Rattle.theory.specs.Answer.{Answer, answer}
-use Rattle.map_rules.specs.Table.{Row, Outcome, refusedBy, stored, nowStored, badRoom, badNames, wellFormed, inserted}
+use Rattle.map_rules.specs.Table.{Row, Outcome, refusedBy, stored, nowStored, roomFits, namesFit, wellFormed, inserted}
 
 -- two values are the same: symbol numbers are equal (01: "names are equal when their numbers are")
 abbrev pub sameValue : ℕ → ℕ → Bool
@@ -71,9 +71,9 @@ unfoldable pub rowsBytes : List (Row ℕ) → List ℕ
 rowsBytes [] = []
 rowsBytes (x ∷ xs) = rowBytes x ++ rowsBytes xs
 
--- 15: lent memory of this length is no table with so many in use, for its length is no multiple of 24, or by its room
-unfoldable pub badTable : ℕ → ℕ → Bool
-badTable long used = not (eqb (long % width) 0) || badRoom (long / width) used
+-- lent memory of this length may be a table with so many in use: its length is a multiple of 24, and they fit its room; 15 where not
+unfoldable pub tableFits : ℕ → ℕ → Bool
+tableFits long used = eqb (long % width) 0 && roomFits (long / width) used
 
 -- the outcome of an insert into lent memory: 15 for an odd length, else as rows
 unfoldable pub insertOutcome : List ℕ → ℕ → ℕ → Row ℕ → Outcome (Row ℕ)
@@ -82,8 +82,9 @@ insertOutcome t used names n = cond (eqb (length t % width) 0) (inserted sameVal
 -- the check's answer: 15, else 0 exactly for well-formed tables, else 14
 unfoldable pub checkAnswer : List ℕ → ℕ → ℕ → Answer
 checkAnswer t used names =
-    cond (badTable (length t) used || badNames names) (answer 15 [])
+    cond (tableFits (length t) used && namesFit names)
     (cond (wellFormed sameValue knownValue names (rows t used)) (answer 0 []) (answer 14 []))
+    (answer 15 [])
 
 -- the memory once the rows ys stand where `used` rows stood: the rows, 0 in the places that were freed, the rest as it was
 unfoldable pub rowsWritten : List ℕ → ℕ → List (Row ℕ) → List ℕ

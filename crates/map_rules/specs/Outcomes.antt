@@ -3,126 +3,122 @@ use mathlib.Core.Path.{_≡_, refl, sym, ap, _∙_}
 use mathlib.Core.Logic.{_≢_}
 use Prim.Native.Nat.{ℕ, _*_, _/_, _%_, _≤_, _<_}
 use native.Mathlib.Omega.{arith}
-use mathlib.Core.Bool.{Bool, true, false, not, _||_, cond}
+use mathlib.Core.Bool.{Bool, true, false, not, _&&_, cond, false≢true}
 use mathlib.Core.List.{List, [], _∷_}
 use lib.ListN.{length}
-use lib.Dec.{T, ltb, eqb, eqb-refl, not-T}
-use lib.Arith.{le→nltb}
+use lib.Dec.{T, leb, eqb, eqb-refl, not-T}
+use borrow.Author.Tests.{le-leb, eq-eqb, ne-eqb, eqb-true, not-true, not-false}
 use mir.Facts.{eqb-yes}
 use Rattle.theory.specs.Answer.{Answer, answer}
 use Rattle.theory.specs.Fields.{Bytes}
-use Rattle.theory.specs.RunsTools.{ltb-case, cond-lt, cond-ge, cond-yes, cond-no}
-use Rattle.map_rules.specs.Table.{Row, Ordered, Outcome, refusedBy, stored, nowStored, ifRoom, badRoom, badNames, wellFormed, insertRows, entered, inserted}
-use Rattle.map_rules.specs.Tests.{Good, room-good, good-room, bad-limit, formed-parts}
+use Rattle.theory.specs.RunsTools.{ltb-case, cond-lt, cond-ge, cond-yes, cond-no, T-and}
+use Rattle.map_rules.specs.Table.{Row, Ordered, Outcome, refusedBy, stored, nowStored, ifRoom, roomFits, namesFit, wellFormed, insertRows, entered, inserted}
+use Rattle.map_rules.specs.Tests.{Good, room-good, good-room, room-over, formed-parts}
 use Rattle.map_rules.specs.Rules.{rows-ok}
-use Rattle.map_rules.specs.Memory.{width, sameValue, knownValue, rows, badTable, insertOutcome, checkAnswer, rowsWritten, memoryAfter, outcomeAnswer, usedAfter, Gives}
+use Rattle.map_rules.specs.Memory.{width, sameValue, knownValue, rows, tableFits, insertOutcome, checkAnswer, rowsWritten, memoryAfter, outcomeAnswer, usedAfter, Gives}
 use Rattle.map_rules.specs.MemoryLaws.{length-rows, written-same}
 use Rattle.map_rules.specs.Pieces.{symbols}
 
 -- ---- the memory
 
-is-true : (b : Bool) → T b → true ≡ b
-is-true true t = refl
-is-true false t = absurd t
+-- what a test's answer says, where the code goes by its contrary
+fails : {f t : Bool} → f ≡ t → not f ≡ true → t ≡ false
+fails {f} e h = sym e ∙ not-true f h
 
-is-false : (b : Bool) → T (not b) → false ≡ b
-is-false true t = absurd t
-is-false false t = refl
+passes : {f t : Bool} → f ≡ t → not f ≡ false → t ≡ true
+passes {f} e h = sym e ∙ not-false f h
 
-or-true : (a b : Bool) → true ≡ a → true ≡ a || b
-or-true a b e = ap (λ (c : Bool). c || b) e
+true-T : (b : Bool) → b ≡ true → T b
+true-T b e = rw e tt
 
-or-right : (a b : Bool) → true ≡ b → true ≡ a || b
-or-right true b e = refl
-or-right false b e = e
+false-T : (b : Bool) → b ≡ false → T (not b)
+false-T b e = rw e tt
 
-even : (n : ℕ) → n ≡ 0 → eqb n 0 ≡ true
-even n e = sym (is-true (eqb n 0) (rw e (eqb-refl 0)))
+T-false : (b : Bool) → T (not b) → false ≡ b
+T-false true t = absurd t
+T-false false t = refl
 
-odd : (n : ℕ) → n ≢ 0 → eqb n 0 ≡ false
-odd n d = sym (is-false (eqb n 0) (not-T (eqb n 0) (λ t. d (eqb-yes t))))
+and-false : (a b : Bool) → a ≡ false → false ≡ a && b
+and-false a b e = rw e refl
+
+and-right : (a b : Bool) → false ≡ b → false ≡ a && b
+and-right true b e = e
+and-right false b e = refl
+
+and-true : (a b : Bool) → a && b ≡ true → (a ≡ true) × (b ≡ true)
+and-true true b e = (refl, e)
+and-true false b e = absurd (false≢true e)
 
 module _ (long used : ℕ) where
-  pub table-odd : long % width ≢ 0 → true ≡ badTable long used
-  unfolding badTable
-  table-odd h = or-true (not (eqb (long % width) 0)) (badRoom (long / width) used) (sym (ap not (odd (long % width) h)))
+  pub table-odd : long % width ≢ 0 → false ≡ tableFits long used
+  unfolding tableFits
+  table-odd h = and-false (eqb (long % width) 0) (roomFits (long / width) used) (ne-eqb (long % width) 0 h)
 
-  pub table-big : 65536 < long / width → true ≡ badTable long used
-  unfolding badTable
-  table-big h = or-right (not (eqb (long % width) 0)) (badRoom (long / width) used) (is-true (badRoom (long / width) used) (bad-limit (long / width) used h))
+  pub table-big : 65536 < long / width → false ≡ tableFits long used
+  unfolding tableFits
+  table-big h = and-right (eqb (long % width) 0) (roomFits (long / width) used) (T-false (roomFits (long / width) used) (room-over (long / width) used h))
 
-  pub table-rest : long % width ≡ 0 → long / width ≤ 65536 → ltb (long / width) used ≡ badTable long used
-  unfolding badTable badRoom
+  pub table-rest : long % width ≡ 0 → long / width ≤ 65536 → leb used (long / width) ≡ tableFits long used
+  unfolding tableFits roomFits
   table-rest h k =
-      let e : eqb (long % width) 0 ≡ true = even (long % width) h in
-      let d : ltb 65536 (long / width) ≡ false = sym (is-false (ltb 65536 (long / width)) (le→nltb 65536 (long / width) k)) in
-      sym (λ i. not (e i) || (d i || ltb (long / width) used))
+      let e : eqb (long % width) 0 ≡ true = eq-eqb (long % width) 0 h in
+      let d : leb (long / width) 65536 ≡ true = le-leb (long / width) 65536 k in
+      sym (λ i. e i && (d i && leb used (long / width)))
 
--- what a good table's memory is, as numbers
+-- what a table's memory is where it fits, as numbers
 pub record Lent (long used : ℕ) : Type 0 where
   pub whole : long ≡ long / width * width
   pub even : long % width ≡ 0
   pub limit : long / width ≤ 65536
   pub in-use : used ≤ long / width
 
-not-or : (a b : Bool) → a || b ≡ false → (a ≡ false) × (b ≡ false)
-not-or true b e = absurd (let z : _≡_ {A = ℕ} 0 1 = cc in omega arith)
-not-or false b e = (refl, e)
-
-false-T : (b : Bool) → b ≡ false → T (not b)
-false-T b e = rw e tt
-
-not-not : (b : Bool) → not b ≡ false → T b
-not-not true e = tt
-not-not false e = absurd (let z : _≡_ {A = ℕ} 0 1 = cc in omega arith)
-
-pub table-lent : (long used : ℕ) → badTable long used ≡ false → Lent long used
-unfolding badTable
+pub table-lent : (long used : ℕ) → tableFits long used ≡ true → Lent long used
+unfolding tableFits
 table-lent long used e =
-    let p : (not (eqb (long % width) 0) ≡ false) × (badRoom (long / width) used ≡ false) = not-or (not (eqb (long % width) 0)) (badRoom (long / width) used) e in
-    let z : long % width ≡ 0 = eqb-yes (not-not (eqb (long % width) 0) (p .0)) in
-    let g : Good (long / width) used = room-good (long / width) used (false-T (badRoom (long / width) used) (p .1)) in
+    let p : (eqb (long % width) 0 ≡ true) × (roomFits (long / width) used ≡ true) = and-true (eqb (long % width) 0) (roomFits (long / width) used) e in
+    let z : long % width ≡ 0 = eqb-true (long % width) 0 (p .0) in
+    let g : Good (long / width) used = room-good (long / width) used (true-T (roomFits (long / width) used) (p .1)) in
     record { whole = omega arith; even = z; limit = g .limit; in-use = g .in-use }
 
 -- with the names
 module _ (long used names : ℕ) where
-  pub memory-bad : {b : Bool} → b ≡ badTable long used → b ≡ true → true ≡ badTable long used || badNames names
-  memory-bad {b} e f = or-true (badTable long used) (badNames names) (sym f ∙ e)
+  pub memory-not : {b : Bool} → b ≡ tableFits long used → b ≡ false → false ≡ tableFits long used && namesFit names
+  memory-not e f = and-false (tableFits long used) (namesFit names) (sym e ∙ f)
 
-  pub memory-rest : {b : Bool} → b ≡ badTable long used → b ≡ false → ltb 4096 names ≡ badTable long used || badNames names
-  unfolding badNames
-  memory-rest {b} e f = ap (λ (c : Bool). c || ltb 4096 names) (sym f ∙ e)
+  pub memory-rest : {b : Bool} → b ≡ tableFits long used → b ≡ true → leb names 4096 ≡ tableFits long used && namesFit names
+  unfolding namesFit
+  memory-rest e f = sym (ap (λ (c : Bool). c && leb names 4096) (sym e ∙ f))
 
-  pub memory-lent : {b : Bool} → b ≡ badTable long used || badNames names → b ≡ false → Lent long used
-  memory-lent {b} e f = table-lent long used (not-or (badTable long used) (badNames names) (sym e ∙ f) .0)
+  pub memory-lent : {b : Bool} → b ≡ tableFits long used && namesFit names → not b ≡ false → Lent long used
+  memory-lent e f = table-lent long used (and-true (tableFits long used) (namesFit names) (passes e f) .0)
 
   -- what the code asks of it
-  pub memory-fits : {b : Bool} → b ≡ badTable long used || badNames names → b ≡ false → used * width ≤ long
-  memory-fits e f = let l : Lent long used = memory-lent e f in omega (arith, l .whole, l .in-use)
+  pub memory-holds : {b : Bool} → b ≡ tableFits long used && namesFit names → not b ≡ false → used * width ≤ long
+  memory-holds e f = let l : Lent long used = memory-lent e f in omega (arith, l .whole, l .in-use)
 
-  pub memory-whole : {b : Bool} → b ≡ badTable long used || badNames names → b ≡ false → long ≡ long / width * width
+  pub memory-whole : {b : Bool} → b ≡ tableFits long used && namesFit names → not b ≡ false → long ≡ long / width * width
   memory-whole e f = memory-lent e f .whole
 
-  pub memory-use : {b : Bool} → b ≡ badTable long used || badNames names → b ≡ false → used ≤ long / width
+  pub memory-use : {b : Bool} → b ≡ tableFits long used && namesFit names → not b ≡ false → used ≤ long / width
   memory-use e f = memory-lent e f .in-use
 
 -- ---- the check
 
 module _ (t : List ℕ) (used names : ℕ) where
-  pub checked-bad : {b : Bool} → b ≡ badTable (length t) used || badNames names → b ≡ true → answer 15 [] ≡ checkAnswer t used names
+  pub checked-unfit : {b : Bool} → b ≡ tableFits (length t) used && namesFit names → not b ≡ true → answer 15 [] ≡ checkAnswer t used names
   unfolding checkAnswer
-  checked-bad e f = sym (cond-yes (badTable (length t) used || badNames names) _ _ (rw (sym e ∙ f) tt))
+  checked-unfit e f = sym (cond-no (tableFits (length t) used && namesFit names) _ _ (false-T _ (fails e f)))
 
-  checked-on : {b : Bool} → b ≡ badTable (length t) used || badNames names → b ≡ false
+  checked-on : {b : Bool} → b ≡ tableFits (length t) used && namesFit names → not b ≡ false
       → checkAnswer t used names ≡ cond (wellFormed sameValue knownValue names (rows t used)) (answer 0 []) (answer 14 [])
   unfolding checkAnswer
-  checked-on e f = cond-no (badTable (length t) used || badNames names) _ _ (rw (sym e ∙ f) tt)
+  checked-on e f = cond-yes (tableFits (length t) used && namesFit names) _ _ (true-T _ (passes e f))
 
-  pub checked-yes : {b w : Bool} → b ≡ badTable (length t) used || badNames names → b ≡ false
+  pub checked-yes : {b w : Bool} → b ≡ tableFits (length t) used && namesFit names → not b ≡ false
       → w ≡ wellFormed sameValue knownValue names (rows t used) → w ≡ true → answer 0 [] ≡ checkAnswer t used names
   checked-yes e f g h = sym (checked-on e f ∙ ap (λ (b : Bool). cond b (answer 0 []) (answer 14 [])) (sym g ∙ h))
 
-  pub checked-no : {b w : Bool} → b ≡ badTable (length t) used || badNames names → b ≡ false
+  pub checked-no : {b w : Bool} → b ≡ tableFits (length t) used && namesFit names → not b ≡ false
       → w ≡ wellFormed sameValue knownValue names (rows t used) → w ≡ false → answer 14 [] ≡ checkAnswer t used names
   checked-no e f g h = sym (checked-on e f ∙ ap (λ (b : Bool). cond b (answer 0 []) (answer 14 [])) (sym g ∙ h))
 
@@ -180,43 +176,40 @@ module _ (t : List ℕ) (used names : ℕ) (n : Row ℕ) where
   abbrev i : Outcome (Row ℕ)
   i = insertOutcome t used names n
 
-  same-room : badRoom (length t / width) (length (rows t used)) ≡ badRoom (length t / width) used
-  same-room = ap (λ (c : ℕ). badRoom (length t / width) c) (length-rows t 0 used)
+  same-room : roomFits (length t / width) (length (rows t used)) ≡ roomFits (length t / width) used
+  same-room = ap (λ (c : ℕ). roomFits (length t / width) c) (length-rows t 0 used)
 
-  pub inserted-bad : {b : Bool} → b ≡ badTable (length t) used || badNames names → b ≡ true → Gives (insertOutcome t used names n) t used (answer 15 []) t
-  unfolding insertOutcome badTable inserted
-  inserted-bad e f = refusal i t used 15 (go (eqb (length t % width) 0) refl (sym e ∙ f))
+  pub inserted-unfit : {b : Bool} → b ≡ tableFits (length t) used && namesFit names → not b ≡ true → Gives (insertOutcome t used names n) t used (answer 15 []) t
+  unfolding insertOutcome tableFits inserted
+  inserted-unfit e f = refusal i t used 15 (go (eqb (length t % width) 0) refl (fails e f))
     where
-      go : (p : Bool) → eqb (length t % width) 0 ≡ p → badTable (length t) used || badNames names ≡ true → i ≡ refusedBy 15
+      go : (p : Bool) → eqb (length t % width) 0 ≡ p → tableFits (length t) used && namesFit names ≡ false → i ≡ refusedBy 15
       go true d c =
           ap (λ (q : Bool). cond q (inserted sameValue knownValue names (length t / width) n (rows t used)) (refusedBy 15)) d
-          ∙ cond-yes (badRoom (length t / width) (length (rows t used)) || badNames names) _ _
-          (rw (ap (λ (q : Bool). q || badNames names) same-room ∙ sym (ap (λ (q : Bool). (not q || badRoom (length t / width) used) || badNames names) d) ∙ c) tt)
+          ∙ cond-no (roomFits (length t / width) (length (rows t used)) && namesFit names) _ _
+          (false-T _ (ap (λ (q : Bool). q && namesFit names) same-room ∙ sym (ap (λ (q : Bool). (q && roomFits (length t / width) used) && namesFit names) d) ∙ c))
       go false d c = ap (λ (q : Bool). cond q (inserted sameValue knownValue names (length t / width) n (rows t used)) (refusedBy 15)) d
 
-  good : {b : Bool} → b ≡ badTable (length t) used || badNames names → b ≡ false
+  fit : {b : Bool} → b ≡ tableFits (length t) used && namesFit names → not b ≡ false
       → i ≡ cond (wellFormed sameValue knownValue names (rows t used)) (entered sameValue knownValue names (length t / width) n (rows t used)) (refusedBy 14)
   unfolding insertOutcome inserted
-  good e f =
-      let p : (badTable (length t) used ≡ false) × (badNames names ≡ false) = not-or (badTable (length t) used) (badNames names) (sym e ∙ f) in
+  fit e f =
+      let p : (tableFits (length t) used ≡ true) × (namesFit names ≡ true) = and-true (tableFits (length t) used) (namesFit names) (passes e f) in
       let l : Lent (length t) used = table-lent (length t) used (p .0) in
-      ap (λ (q : Bool). cond q (inserted sameValue knownValue names (length t / width) n (rows t used)) (refusedBy 15)) (even (length t % width) (l .even))
-      ∙ cond-no (badRoom (length t / width) (length (rows t used)) || badNames names) _ _
-      (rw (same-room, p .1) (no (badRoom (length t / width) used) (good-room (length t / width) used (record { limit = l .limit; in-use = l .in-use }))))
-    where
-      no : (b : Bool) → T (not b) → T (not (b || false))
-      no true t = t
-      no false t = tt
+      let g : T (roomFits (length t / width) used) = good-room (length t / width) used (record { limit = l .limit; in-use = l .in-use }) in
+      ap (λ (q : Bool). cond q (inserted sameValue knownValue names (length t / width) n (rows t used)) (refusedBy 15)) (eq-eqb (length t % width) 0 (l .even))
+      ∙ cond-yes (roomFits (length t / width) (length (rows t used)) && namesFit names) _ _
+      (rw (same-room, p .1) (T-and (roomFits (length t / width) used) true g tt))
 
-  pub inserted-ill : {b w : Bool} → b ≡ badTable (length t) used || badNames names → b ≡ false
+  pub inserted-ill : {b w : Bool} → b ≡ tableFits (length t) used && namesFit names → not b ≡ false
       → w ≡ wellFormed sameValue knownValue names (rows t used) → w ≡ false → Gives (insertOutcome t used names n) t used (answer 14 []) t
-  inserted-ill e f g h = refusal i t used 14 (good e f ∙ cond-no (wellFormed sameValue knownValue names (rows t used)) _ _ (rw (sym g ∙ h) tt))
+  inserted-ill e f g h = refusal i t used 14 (fit e f ∙ cond-no (wellFormed sameValue knownValue names (rows t used)) _ _ (rw (sym g ∙ h) tt))
 
-  pub inserted-enters : {b w : Bool} {a : Answer} {t′ : List ℕ} → b ≡ badTable (length t) used || badNames names → b ≡ false
+  pub inserted-enters : {b w : Bool} {a : Answer} {t′ : List ℕ} → b ≡ tableFits (length t) used && namesFit names → not b ≡ false
       → w ≡ wellFormed sameValue knownValue names (rows t used) → w ≡ true
       → Gives (entered sameValue knownValue names (length t / width) n (rows t used)) t used a t′
       → Gives (insertOutcome t used names n) t used a t′
-  inserted-enters e f g h k = rw (good e f ∙ cond-yes (wellFormed sameValue knownValue names (rows t used)) _ _ (rw (sym g ∙ h) tt)) k
+  inserted-enters e f g h k = rw (fit e f ∙ cond-yes (wellFormed sameValue knownValue names (rows t used)) _ _ (rw (sym g ∙ h) tt)) k
 
 -- ---- what a caller of an insert in place learns
 

@@ -2,11 +2,11 @@
 -- parameter: here it is a symbol number.
 use mathlib.Core.Path.{_≡_}
 use Prim.Native.Nat.{ℕ, _≤_, _<_}
-use mathlib.Core.Bool.{Bool, true, false, _&&_, _||_, cond}
+use mathlib.Core.Bool.{Bool, true, false, _&&_, cond}
 use mathlib.Core.Option.{Option}
 use mathlib.Core.List.{List, [], _∷_, _++_, map}
 use lib.ListN.{length}
-use lib.Dec.{ltb, eqb}
+use lib.Dec.{leb, ltb, eqb}
 use Rattle.theory.specs.Runs.{Interval, interval, answerAt, Ahead, overwrite, apart}
 
 -- an instrument's value from start to the moment before end
@@ -84,13 +84,13 @@ nowStored xs (stored ys) = ys
 unfoldable pub ifRoom : {X : Type 0} → ℕ → List X → Outcome X
 ifRoom room ys = cond (ltb room (length ys)) (refusedBy 2) (stored ys)
 
--- a table's room is 0 to 65,536; 15 also where the number in use is over the room (01, Numbers the desk lives by)
-unfoldable pub badRoom : ℕ → ℕ → Bool
-badRoom room used = ltb 65536 room || ltb room used
+-- a table's room is 0 to 65,536, and the number in use is within it; 15 where not (01, Numbers the desk lives by)
+unfoldable pub roomFits : ℕ → ℕ → Bool
+roomFits room used = leb room 65536 && leb used room
 
--- at most 4,096 names
-unfoldable pub badNames : ℕ → Bool
-badNames names = ltb 4096 names
+-- at most 4,096 names; 15 where there are more
+unfoldable pub namesFit : ℕ → Bool
+namesFit names = leb names 4096
 
 module _ {A : Type 0} (same : A → A → Bool) where
   -- the test for AheadRow
@@ -130,7 +130,8 @@ module _ {A : Type 0} (same : A → A → Bool) (known : ℕ → A → Bool) whe
 
   -- an insert: 15, 14, then as above
   unfoldable pub inserted : ℕ → ℕ → Row A → List (Row A) → Outcome (Row A)
-  unfolding badRoom badNames wellFormed entered
+  unfolding roomFits namesFit wellFormed entered
   inserted names room n xs =
-      cond (badRoom room (length xs) || badNames names) (refusedBy 15)
+      cond (roomFits room (length xs) && namesFit names)
       (cond (wellFormed names xs) (entered names room n xs) (refusedBy 14))
+      (refusedBy 15)

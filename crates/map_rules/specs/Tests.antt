@@ -4,15 +4,15 @@ use mathlib.Core.Path.{_≡_, refl, _∙_}
 use mathlib.Core.Logic.{_↔_, inl, inr}
 use Prim.Native.Nat.{ℕ, _≤_, _<_}
 use native.Mathlib.Omega.{arith}
-use mathlib.Core.Bool.{Bool, true, false, not, _&&_, _||_}
+use mathlib.Core.Bool.{Bool, true, false, not, _&&_}
 use mathlib.Core.List.{List, [], _∷_}
-use lib.Dec.{T, ltb, lt→ltb}
-use lib.Arith.{le→nltb}
-use mir.Facts.{ltb-yes, ltb-no}
+use lib.Dec.{T, leb, ltb, lt→ltb, le→leb}
+use lib.Arith.{lt→nleb}
+use mir.Facts.{leb-yes, ltb-yes}
 use Rattle.theory.specs.Runs.{Mem, Same, apart}
-use Rattle.theory.specs.RunsTools.{cond-lt, cond-ge, T-and, T-fst, T-snd, Order, less, equal, more, order}
+use Rattle.theory.specs.RunsTools.{cond-lt, cond-ge, T-and, T-fst, T-snd, T-nor-l, Order, less, equal, more, order}
 use Rattle.theory.specs.RunsOverwrite.{apart-iff}
-use Rattle.map_rules.specs.Table.{Row, intervalOf, AheadRow, Ordered, allKnown, apartRow, ordered, wellFormed, badRoom, badNames}
+use Rattle.map_rules.specs.Table.{Row, intervalOf, AheadRow, Ordered, allKnown, apartRow, ordered, wellFormed, roomFits, namesFit}
 
 module _ {A : Type 0} (same : A → A → Bool) (laws : Same same) where
   -- the test of two neighbours, by how their instruments stand
@@ -100,40 +100,28 @@ module _ {A : Type 0} (same : A → A → Bool) (laws : Same same) (known : ℕ 
 
 -- ---- room and names
 
-not-or : (a b : Bool) → T (not (a || b)) → T (not a) × T (not b)
-not-or true b t = absurd t
-not-or false b t = (tt, t)
-
-or-left : (a b : Bool) → T a → T (a || b)
-or-left true b t = tt
-or-left false b t = absurd t
-
--- the memory is as it should be, as numbers
+-- the room and the number in use, as numbers
 pub record Good (room used : ℕ) : Type 0 where
   pub limit : room ≤ 65536
   pub in-use : used ≤ room
 
-pub room-good : (room used : ℕ) → T (not (badRoom room used)) → Good room used
-unfolding badRoom
+pub room-good : (room used : ℕ) → T (roomFits room used) → Good room used
+unfolding roomFits
 room-good room used t =
-    let p : T (not (ltb 65536 room)) × T (not (ltb room used)) = not-or (ltb 65536 room) (ltb room used) t in
-    record { limit = ltb-no (p .0); in-use = ltb-no (p .1) }
+    record { limit = leb-yes (T-fst (leb room 65536) (leb used room) t); in-use = leb-yes (T-snd (leb room 65536) (leb used room) t) }
 
-pub good-room : (room used : ℕ) → Good room used → T (not (badRoom room used))
-unfolding badRoom
-good-room room used g = both (ltb 65536 room) (ltb room used) (le→nltb 65536 room (g .limit)) (le→nltb room used (g .in-use))
-  where
-    both : (a b : Bool) → T (not a) → T (not b) → T (not (a || b))
-    both true b s t = s
-    both false b s t = t
+pub good-room : (room used : ℕ) → Good room used → T (roomFits room used)
+unfolding roomFits
+good-room room used g = T-and (leb room 65536) (leb used room) (le→leb room 65536 (g .limit)) (le→leb used room (g .in-use))
 
-pub bad-limit : (room used : ℕ) → 65536 < room → T (badRoom room used)
-unfolding badRoom
-bad-limit room used h = or-left (ltb 65536 room) (ltb room used) (lt→ltb 65536 room h)
+pub room-over : (room used : ℕ) → 65536 < room → T (not (roomFits room used))
+unfolding roomFits
+room-over room used h = T-nor-l (leb room 65536) (leb used room) (lt→nleb room 65536 h)
 
 -- and the names too
-pub memory-good : (room used names : ℕ) → T (not (badRoom room used || badNames names)) → Good room used × names ≤ 4096
-unfolding badNames
-memory-good room used names t =
-    let p : T (not (badRoom room used)) × T (not (badNames names)) = not-or (badRoom room used) (badNames names) t in
-    (room-good room used (p .0), ltb-no (p .1))
+pub memory-good : (room used names : ℕ) → T (roomFits room used && namesFit names) → Good room used × names ≤ 4096
+unfolding namesFit
+memory-good room used names t = (
+  room-good room used (T-fst (roomFits room used) (namesFit names) t),
+  leb-yes (T-snd (roomFits room used) (namesFit names) t),
+)

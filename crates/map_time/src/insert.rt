@@ -117,25 +117,35 @@ pub fn place(table: &mut [u8], used: usize, n: Interval) -> Inserted
     if room < total {
         Inserted::Refused(Refusal::NoRoom)
     } else {
-        let l = Interval {
+        let left_piece = Interval {
             instrument: n.instrument,
             symbol: x.symbol,
             start: x.start,
             end: n.start,
         };
-        let c = Interval {
+        let core = Interval {
             instrument: n.instrument,
             symbol: n.symbol,
             start: joined_start(n, x),
             end: joined_end(n, z),
         };
-        let r = Interval {
+        let right_piece = Interval {
             instrument: n.instrument,
             symbol: z.symbol,
             start: n.end,
             end: z.end,
         };
-        crate::moves::replace(table, used, lo, hi, l, c, r, left, right);
+        crate::moves::replace(
+            table,
+            used,
+            lo,
+            hi,
+            left_piece,
+            core,
+            right_piece,
+            left,
+            right,
+        );
         crate::moves::clear(table, total, used);
         Inserted::Done(total)
     }
@@ -163,7 +173,7 @@ pub fn enter(table: &mut [u8], used: usize, names: usize, n: Interval) -> Insert
 pub fn insert(table: &mut [u8], used: usize, names: usize, n: Interval) -> Inserted
     ensures { λ r. ⌜ Gives (insertOutcome (now (table .entry)) used names (rowOf n)) (now (table .entry)) used (insertedOf r) (now (table .exit)) ⌝ }
 {
-    if crate::table::bad_memory(table.len(), used, names) {
+    if !crate::table::memory_fits(table.len(), used, names) {
         Inserted::Refused(Refusal::BadMemory)
     } else if crate::table::well_formed(table, used, names) {
         enter(table, used, names, n)

@@ -63,23 +63,23 @@ pub fn clear(table: &mut [u8], from: usize, to: usize)
     }
 }
 
-// Puts into the place of the intervals from lo up to hi: l if left is 1, c, and r if right is 1.
+// Puts into the place of the intervals from lo up to hi: the left piece if left is 1, the core, and the right piece if right is 1.
 pub fn replace(
     table: &mut [u8],
     used: usize,
     lo: usize,
     hi: usize,
-    l: Interval,
-    c: Interval,
-    r: Interval,
+    left_piece: Interval,
+    core: Interval,
+    right_piece: Interval,
     left: usize,
     right: usize,
 )
     requires { ⌜ (lo ≤ hi) × (hi ≤ used) × (left ≤ 1) × (right ≤ 1) × (used * width ≤ length (now table)) × ((lo + left + 1 + right + (used - hi)) * width ≤ length (now table)) ⌝ }
-    ensures { λ _. ⌜ Replaced (now (table .entry)) used lo hi (rowOf l) (rowOf c) (rowOf r) left right (now (table .exit)) ⌝ }
+    ensures { λ _. ⌜ Replaced (now (table .entry)) used lo hi (rowOf «left_piece») (rowOf core) (rowOf «right_piece») left right (now (table .exit)) ⌝ }
 {
     move_tail(table, hi, used, lo + left + 1 + right);
-    crate::interval::put_interval(table, lo + left + right, r);
-    crate::interval::put_interval(table, lo, l);
-    crate::interval::put_interval(table, lo + left, c);
+    crate::interval::put_interval(table, lo + left + right, right_piece);
+    crate::interval::put_interval(table, lo, left_piece);
+    crate::interval::put_interval(table, lo + left, core);
 }

@@ -3,12 +3,12 @@ use crate::interval::Interval;
 use crate::interval::WIDTH;
 use leaves::refusal::Refusal;
 ghost use mathlib.Core.Path.{_≡_};
-ghost use mathlib.Core.Bool.{_||_};
+ghost use mathlib.Core.Bool.{_&&_};
 ghost use mathlib.Core.List.{[], _∷_};
 ghost use Prim.Native.Nat.{_*_, _≤_, _<_};
 ghost use lib.ListN.{length};
-ghost use Rattle.map_rules.specs.Table.{badNames, apartRow, wellFormed};
-ghost use Rattle.map_rules.specs.Memory.{sameValue, knownValue, width, rows, badTable, checkAnswer};
+ghost use Rattle.map_rules.specs.Table.{namesFit, apartRow, wellFormed};
+ghost use Rattle.map_rules.specs.Memory.{sameValue, knownValue, width, rows, tableFits, checkAnswer};
 ghost use Rattle.map_rules.specs.Checks.{valid, soundAt};
 ghost use Rattle.map_time.specs.Interval.{rowOf};
 ghost use Rattle.map_time.specs.Table.{checkedOf};
@@ -24,29 +24,29 @@ pub enum Checked {
     Refused(Refusal),
 }
 
-// Whether memory of this length is no table with so many intervals in use: 15.
-pub fn bad_table(length: usize, used: usize) -> bool
-    ensures { λ r. ⌜ r ≡ badTable length used ⌝ }
+// Whether memory of this length may be a table with so many intervals in use; where not, 15.
+pub fn table_fits(length: usize, used: usize) -> bool
+    ensures { λ r. ⌜ r ≡ tableFits length used ⌝ }
 {
     if length % WIDTH == 0 {
         if length / WIDTH <= ROOM_LIMIT {
-            length / WIDTH < used
+            used <= length / WIDTH
         } else {
-            true
+            false
         }
     } else {
-        true
+        false
     }
 }
 
 // The same, with the name count.
-pub fn bad_memory(length: usize, used: usize, names: usize) -> bool
-    ensures { λ r. ⌜ r ≡ badTable length used || badNames names ⌝ }
+pub fn memory_fits(length: usize, used: usize, names: usize) -> bool
+    ensures { λ r. ⌜ r ≡ tableFits length used && namesFit names ⌝ }
 {
-    if bad_table(length, used) {
-        true
+    if table_fits(length, used) {
+        names <= NAME_LIMIT
     } else {
-        NAME_LIMIT < names
+        false
     }
 }
 
@@ -116,7 +116,7 @@ pub fn well_formed(table: &[u8], used: usize, names: usize) -> bool
 pub fn check(table: &[u8], used: usize, names: usize) -> Checked
     ensures { λ r. ⌜ checkedOf r ≡ checkAnswer (now (table .entry)) used names ⌝ }
 {
-    if bad_memory(table.len(), used, names) {
+    if !memory_fits(table.len(), used, names) {
         Checked::Refused(Refusal::BadMemory)
     } else if well_formed(table, used, names) {
         Checked::WellFormed

@@ -26,7 +26,7 @@ pub struct Said {
 // A name list: what is in use, the lengths of its memory, and the place behind it in the text.
 pub struct Names {
     pub names: usize,
-    pub size: usize,
+    pub name_bytes: usize,
     pub bytes: usize,
     pub ends: usize,
     pub next: usize,
@@ -50,7 +50,7 @@ fn zeros() -> [u8; 1024]
 }
 
 // Memory for name list and metadata: one byte, name, entry and mapping more than document 01 allows, and some intervals.
-fn name_bytes() -> [u8; 65537]
+fn list_bytes() -> [u8; 65537]
     ensures { λ r. ⌜ 65537 ≡ length r ⌝ }
 {
     [0; 65537]
@@ -104,7 +104,7 @@ fn point_says(built: build_point::build::Built) -> Said {
 pub fn says(
     call: Call,
     table: &mut [u8],
-    h: Header,
+    header: Header,
     symbols: &[u32],
     partial: &[u32],
     not_found: &[u32],
@@ -113,13 +113,13 @@ pub fn says(
     bytes: &[u8],
     ends: &[u32],
     names: usize,
-    size: usize,
+    name_bytes: usize,
 ) -> Said {
     match call {
         Call::OverTime => {
             let built = build_time::over_time::over_time(
                 table,
-                h,
+                header,
                 symbols,
                 partial,
                 not_found,
@@ -128,14 +128,14 @@ pub fn says(
                 bytes,
                 ends,
                 names,
-                size,
+                name_bytes,
             );
             over_time_says(built)
         }
         Call::PointInTime(date) => {
             let built = build_point::build::point_in_time(
                 table,
-                h,
+                header,
                 symbols,
                 partial,
                 not_found,
@@ -144,7 +144,7 @@ pub fn says(
                 bytes,
                 ends,
                 names,
-                size,
+                name_bytes,
                 date,
             );
             point_says(built)
@@ -157,13 +157,13 @@ fn names_at(text: &[u8], at: usize, bytes: &mut [u8], ends: &mut [u32]) -> Names
     ensures { λ r. ⌜ Listed r (length (now (bytes .exit))) (length (now (ends .exit))) ⌝ }
 {
     let names = vectors_text::number_at(text, at);
-    let size = vectors_text::number_at(text, names.next);
-    let lent = vectors_text::number_at(text, size.next);
+    let name_bytes = vectors_text::number_at(text, names.next);
+    let lent = vectors_text::number_at(text, name_bytes.next);
     let given = vectors_text::bytes_at(text, lent.next, bytes);
     let list = list_at(text, given.next, ends);
     Names {
         names: names.value as usize,
-        size: size.value as usize,
+        name_bytes: name_bytes.value as usize,
         bytes: at_most(lent.value, bytes.len()),
         ends: list.places,
         next: list.next,
@@ -174,31 +174,31 @@ fn names_at(text: &[u8], at: usize, bytes: &mut [u8], ends: &mut [u32]) -> Names
 fn builds(
     call: Call,
     table: &mut [u8],
-    n: Names,
+    list: Names,
     bytes: &[u8],
     ends: &[u32],
-    a: Side,
+    side: Side,
     symbols: &[u32],
     partial: &[u32],
     not_found: &[u32],
     mappings: &[u32],
     intervals: &[u32],
 ) -> Said
-    requires { ⌜ Listed n (length (now bytes)) (length (now ends)) ⌝ }
-    requires { ⌜ Within a (length (now symbols)) (length (now partial)) (length (now «not_found»)) (length (now mappings)) (length (now intervals)) ⌝ }
+    requires { ⌜ Listed list (length (now bytes)) (length (now ends)) ⌝ }
+    requires { ⌜ Within side (length (now symbols)) (length (now partial)) (length (now «not_found»)) (length (now mappings)) (length (now intervals)) ⌝ }
 {
-    let h = a.header;
-    let i = a.symbols;
-    let j = a.partial;
-    let k = a.not_found;
-    let m = a.mappings;
-    let v = a.intervals;
-    let b = n.bytes;
-    let e = n.ends;
+    let header = side.header;
+    let i = side.symbols;
+    let j = side.partial;
+    let k = side.not_found;
+    let m = side.mappings;
+    let v = side.intervals;
+    let b = list.bytes;
+    let e = list.ends;
     says(
         call,
         table,
-        h,
+        header,
         &symbols[..i],
         &partial[..j],
         &not_found[..k],
@@ -206,8 +206,8 @@ fn builds(
         &intervals[..v],
         &bytes[..b],
         &ends[..e],
-        n.names,
-        n.size,
+        list.names,
+        list.name_bytes,
     )
 }
 
@@ -235,39 +235,39 @@ fn is_so(
     text: &[u8],
     call: Call,
     table: &mut [u8],
-    n: Names,
+    list: Names,
     bytes: &[u8],
     ends: &[u32],
-    a: Side,
+    side: Side,
     symbols: &[u32],
     partial: &[u32],
     not_found: &[u32],
     mappings: &[u32],
     intervals: &[u32],
 ) -> bool
-    requires { ⌜ Listed n (length (now bytes)) (length (now ends)) ⌝ }
-    requires { ⌜ Within a (length (now symbols)) (length (now partial)) (length (now «not_found»)) (length (now mappings)) (length (now intervals)) ⌝ }
+    requires { ⌜ Listed list (length (now bytes)) (length (now ends)) ⌝ }
+    requires { ⌜ Within side (length (now symbols)) (length (now partial)) (length (now «not_found»)) (length (now mappings)) (length (now intervals)) ⌝ }
 {
     let said = builds(
         call,
         table,
-        n,
+        list,
         bytes,
         ends,
-        a,
+        side,
         symbols,
         partial,
         not_found,
         mappings,
         intervals,
     );
-    let behind = vectors_text::past_equals(text, a.next);
+    let behind = vectors_text::past_equals(text, side.next);
     is_expected(text, behind, said, table)
 }
 
 // Whether the build at a place of the text is answered as expected.
 fn is_built(text: &[u8], at: usize, call: Call) -> bool {
-    let mut b = name_bytes();
+    let mut b = list_bytes();
     let mut e = entries();
     let mut s = entries();
     let mut p = entries();

@@ -8,11 +8,11 @@ ghost use lib.ListN.{length};
 // An answer in numbers: document 01's number and the values that come with it, 0 where there are fewer than five.
 struct Numbers {
     number: u64,
-    a: u64,
-    b: u64,
-    c: u64,
-    d: u64,
-    e: u64,
+    first: u64,
+    second: u64,
+    third: u64,
+    fourth: u64,
+    fifth: u64,
 }
 
 // Room for the bytes of one case.
@@ -22,14 +22,21 @@ fn room() -> [u8; 2048]
     [0; 2048]
 }
 
-fn in_numbers(number: u64, a: u64, b: u64, c: u64, d: u64, e: u64) -> Numbers {
+fn in_numbers(
+    number: u64,
+    first: u64,
+    second: u64,
+    third: u64,
+    fourth: u64,
+    fifth: u64,
+) -> Numbers {
     Numbers {
         number,
-        a,
-        b,
-        c,
-        d,
-        e,
+        first,
+        second,
+        third,
+        fourth,
+        fifth,
     }
 }
 
@@ -86,15 +93,22 @@ struct Expected {
 
 fn expected_at(text: &[u8], at: usize) -> Expected {
     let number = vectors_text::number_at(text, at);
-    let a = vectors_text::number_at(text, number.next);
-    let b = vectors_text::number_at(text, a.next);
-    let c = vectors_text::number_at(text, b.next);
-    let d = vectors_text::number_at(text, c.next);
-    let e = vectors_text::number_at(text, d.next);
-    let answer = in_numbers(number.value, a.value, b.value, c.value, d.value, e.value);
+    let first = vectors_text::number_at(text, number.next);
+    let second = vectors_text::number_at(text, first.next);
+    let third = vectors_text::number_at(text, second.next);
+    let fourth = vectors_text::number_at(text, third.next);
+    let fifth = vectors_text::number_at(text, fourth.next);
+    let answer = in_numbers(
+        number.value,
+        first.value,
+        second.value,
+        third.value,
+        fourth.value,
+        fifth.value,
+    );
     Expected {
         answer,
-        next: e.next,
+        next: fifth.next,
     }
 }
 
@@ -102,7 +116,11 @@ fn are_same(x: Numbers, y: Numbers) -> bool {
     if x.number != y.number {
         return false;
     }
-    x.a == y.a && x.b == y.b && x.c == y.c && x.d == y.d && x.e == y.e
+    x.first == y.first
+        && x.second == y.second
+        && x.third == y.third
+        && x.fourth == y.fourth
+        && x.fifth == y.fifth
 }
 
 // A line `PLACE NUMBER VALUES BYTES`.

@@ -75,19 +75,19 @@ fn are_ends(text: &[u8], at: usize, ends: &[u32]) -> bool {
 struct InUse {
     used: usize,
     names: usize,
-    size: usize,
+    name_bytes: usize,
     next: usize,
 }
 
 fn in_use_at(text: &[u8], at: usize) -> InUse {
     let used = vectors_text::number_at(text, at);
     let names = vectors_text::number_at(text, used.next);
-    let size = vectors_text::number_at(text, names.next);
+    let name_bytes = vectors_text::number_at(text, names.next);
     InUse {
         used: used.value as usize,
         names: names.value as usize,
-        size: size.value as usize,
-        next: size.next,
+        name_bytes: name_bytes.value as usize,
+        next: name_bytes.next,
     }
 }
 
@@ -97,7 +97,7 @@ struct Said {
     reason: u64,
     used: usize,
     names: usize,
-    size: usize,
+    name_bytes: usize,
 }
 
 // The reason of damage, in stream 0 at place 0.
@@ -117,19 +117,23 @@ fn reason_of(refusal: Refusal) -> u64 {
 // What a call answers; a refusal leaves what is in use.
 fn answer_of(recorded: Recorded, before: InUse) -> Said {
     match recorded {
-        Recorded::Done { used, names, size } => Said {
+        Recorded::Done {
+            used,
+            names,
+            name_bytes,
+        } => Said {
             number: 0,
             reason: NO_REASON,
             used,
             names,
-            size,
+            name_bytes,
         },
         Recorded::Refused(r) => Said {
             number: leaves::refusal::number(r) as u64,
             reason: reason_of(r),
             used: before.used,
             names: before.names,
-            size: before.size,
+            name_bytes: before.name_bytes,
         },
     }
 }
@@ -159,12 +163,12 @@ fn is_list(text: &[u8], at: usize, said: Said, bytes: &[u8], ends: &[u32]) -> bo
     if names.value as usize != said.names {
         return false;
     }
-    let size = vectors_text::number_at(text, names.next);
-    if size.value as usize != said.size {
+    let name_bytes = vectors_text::number_at(text, names.next);
+    if name_bytes.value as usize != said.name_bytes {
         return false;
     }
     let mut expected = room();
-    let given = vectors_text::bytes_at(text, size.next, &mut expected);
+    let given = vectors_text::bytes_at(text, name_bytes.next, &mut expected);
     let n = given.count;
     if !check::same(bytes, &expected[..n]) {
         return false;
@@ -216,7 +220,7 @@ fn records(
             bytes,
             ends,
             given.names,
-            given.size,
+            given.name_bytes,
             rec,
         );
         let answer = answer_of(recorded, given);
@@ -228,7 +232,7 @@ fn records(
         bytes,
         ends,
         given.names,
-        given.size,
+        given.name_bytes,
         rec,
     );
     let answer = answer_of(recorded, given);
@@ -260,7 +264,7 @@ fn on_table(text: &[u8], at: usize, over_time: bool, table: &mut [u8]) -> bool {
     )
 }
 
-// A line `TABLE USED NAMES SIZE BYTES ENDS RECORD = NUMBER USED TABLE NAMES SIZE BYTES ENDS`.
+// A line `TABLE USED NAMES NAME_BYTES BYTES ENDS RECORD = NUMBER USED TABLE NAMES NAME_BYTES BYTES ENDS`.
 pub fn on_record(text: &[u8], at: usize, over_time: bool) -> bool {
     let mut table = room();
     let lent = vectors_text::bytes_at(text, at, &mut table);

@@ -13,7 +13,7 @@ fn is_refused(named: Named, number: u32) -> bool {
         Named::Number {
             number: _,
             names: _,
-            used: _,
+            name_bytes: _,
         } => false,
         Named::Refused(r) => leaves::refusal::number(r) == number,
     }
@@ -25,31 +25,31 @@ fn is_number(named: Named, expected: u32, in_use: usize, bytes: usize) -> bool {
         Named::Number {
             number,
             names,
-            used,
-        } => number == expected && names == in_use && used == bytes,
+            name_bytes,
+        } => number == expected && names == in_use && name_bytes == bytes,
         Named::Refused(_) => false,
     }
 }
 
 // The number that a check of a list answers.
-fn checked(bytes: &[u8], ends: &[u32], names: usize, used: usize) -> u32 {
-    match leaves_names::names::check_names(bytes, ends, names, used) {
+fn checked(bytes: &[u8], ends: &[u32], names: usize, name_bytes: usize) -> u32 {
+    match leaves_names::names::check_names(bytes, ends, names, name_bytes) {
         Checked::Done => 0,
         Checked::Refused(r) => leaves::refusal::number(r),
     }
 }
 
-// Whether name n lies from `first` to `end`; where `first` is past `end`, whether `first` is the refusal's number.
+// Whether a name lies from `first` to `end`; where `first` is past `end`, whether `first` is the refusal's number.
 fn lies(
     bytes: &[u8],
     ends: &[u32],
     names: usize,
-    used: usize,
-    n: u32,
+    name_bytes: usize,
+    number: u32,
     first: usize,
     end: usize,
 ) -> bool {
-    match leaves_names::names::place_of_name(bytes, ends, names, used, n) {
+    match leaves_names::names::place_of_name(bytes, ends, names, name_bytes, number) {
         NamePlace::At {
             first: from,
             end: to,

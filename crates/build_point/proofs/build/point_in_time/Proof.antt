@@ -11,8 +11,8 @@ use Rattle.build_point.proofs.build.point_in_time.Tie as tie
 clear-requires : tie.Need-clear-requires
 clear-requires c κs = search needs
 
-memory-fits-requires : tie.Need-memory-fits-requires
-memory-fits-requires c κs = search needs
+build-fits-requires : tie.Need-build-fits-requires
+build-fits-requires c κs = search needs
 
 same-length : tie.Need-same-length
 same-length c = search needs
@@ -20,12 +20,12 @@ same-length c = search needs
 returns : tie.Need-returns
 returns c =
     let a = c .before .before .before .before .before .before .before .before .before .before .before .before .before .before .args in
-    ends-15 (length (a .table .now)) (a .h) (lists (a .symbols .now) (a .partial .now) (a .not-found .now) (a .mappings .now) (a .intervals .now)) (a .bytes .now) (a .ends .now) (a .names) (a .name-bytes) (a .date) (c .before .memory-fits .ensures) (c .if1 .taken) (c .before .before .before .before .clear .ensures)
+    ends-15 (length (a .table .now)) (a .header) (lists (a .symbols .now) (a .partial .now) (a .not-found .now) (a .mappings .now) (a .intervals .now)) (a .bytes .now) (a .ends .now) (a .names) (a .name-bytes) (a .date) (c .before .build-fits .ensures) (c .if1 .taken) (c .before .before .before .before .clear .ensures)
 
 is-list-requires : tie.Need-is-list-requires
 is-list-requires c κs =
     let a = c .before .before .before .before .before .before .before .before .before .before .before .before .before .before .args in
-    ends-memory (length (a .table .now)) (a .h) (lists (a .symbols .now) (a .partial .now) (a .not-found .now) (a .mappings .now) (a .intervals .now)) (a .bytes .now) (a .ends .now) (a .names) (a .name-bytes) (a .date) (c .before .memory-fits .ensures) (c .if1 .left)
+    ends-memory (length (a .table .now)) (a .header) (lists (a .symbols .now) (a .partial .now) (a .not-found .now) (a .mappings .now) (a .intervals .now)) (a .bytes .now) (a .ends .now) (a .names) (a .name-bytes) (a .date) (c .before .build-fits .ensures) (c .if1 .left)
 
 same-length-2 : tie.Need-same-length-2
 same-length-2 c = search needs
@@ -33,7 +33,7 @@ same-length-2 c = search needs
 returns-2 : tie.Need-returns-2
 returns-2 c =
     let a = c .before .before .before .before .before .before .before .before .before .before .before .before .before .before .before .before .args in
-    ends-14 (length (a .table .now)) (a .h) (lists (a .symbols .now) (a .partial .now) (a .not-found .now) (a .mappings .now) (a .intervals .now)) (a .bytes .now) (a .ends .now) (a .names) (a .name-bytes) (a .date) (c .before .before .before .memory-fits .ensures) (c .before .before .if1 .left) (c .before .is-list .ensures) (c .if2 .taken) (c .before .before .before .before .before .before .clear .ensures)
+    ends-14 (length (a .table .now)) (a .header) (lists (a .symbols .now) (a .partial .now) (a .not-found .now) (a .mappings .now) (a .intervals .now)) (a .bytes .now) (a .ends .now) (a .names) (a .name-bytes) (a .date) (c .before .before .before .build-fits .ensures) (c .before .before .if1 .left) (c .before .is-list .ensures) (c .if2 .taken) (c .before .before .before .before .before .before .clear .ensures)
 
 begin-requires : tie.Need-begin-requires
 begin-requires c κs = search needs
@@ -49,8 +49,8 @@ lay-mappings-requires c κs =
     let a = c .before .before .before .before .before .before .before .before .before .before .before .before .before .before .before .before .before .before .before .before .before .args in (
       clean-zeros (length (a .table .now)) _ (c .before .before .before .before .before .before .before .before .before .before .before .clear .ensures),
       (
-        ends-lists (length (a .table .now)) (a .h) (lists (a .symbols .now) (a .partial .now) (a .not-found .now) (a .mappings .now) (a .intervals .now)) (a .bytes .now) (a .ends .now) (a .names) (a .name-bytes) (a .date) (c .before .before .before .before .before .before .before .before .memory-fits .ensures) (c .before .before .before .before .before .before .before .if1 .left) (c .before .before .before .before .before .before .is-list .ensures) (c .before .before .before .before .before .if2 .left),
-        ends-ordered (length (a .table .now)) (a .h) (lists (a .symbols .now) (a .partial .now) (a .not-found .now) (a .mappings .now) (a .intervals .now)) (a .bytes .now) (a .ends .now) (a .names) (a .name-bytes) (a .date) (c .before .before .before .before .before .before .before .before .memory-fits .ensures) (c .before .before .before .before .before .before .before .if1 .left) (c .before .before .before .before .before .before .is-list .ensures) (c .before .before .before .before .before .if2 .left),
+        ends-lists (length (a .table .now)) (a .header) (lists (a .symbols .now) (a .partial .now) (a .not-found .now) (a .mappings .now) (a .intervals .now)) (a .bytes .now) (a .ends .now) (a .names) (a .name-bytes) (a .date) (c .before .before .before .before .before .before .before .before .build-fits .ensures) (c .before .before .before .before .before .before .before .if1 .left) (c .before .before .before .before .before .before .is-list .ensures) (c .before .before .before .before .before .if2 .left),
+        ends-ordered (length (a .table .now)) (a .header) (lists (a .symbols .now) (a .partial .now) (a .not-found .now) (a .mappings .now) (a .intervals .now)) (a .bytes .now) (a .ends .now) (a .names) (a .name-bytes) (a .date) (c .before .before .before .before .before .before .before .before .build-fits .ensures) (c .before .before .before .before .before .before .before .if1 .left) (c .before .before .before .before .before .before .is-list .ensures) (c .before .before .before .before .before .if2 .left),
       ),
     )
 
@@ -69,7 +69,7 @@ same-length-3 c = search needs
 returns-3 : tie.Need-returns-3
 returns-3 c =
     let a = c .before .before .before .before .before .before .before .before .before .before .before .before .before .before .before .before .before .before .before .before .args in
-    ends-begun (length (a .table .now)) (a .h) (lists (a .symbols .now) (a .partial .now) (a .not-found .now) (a .mappings .now) (a .intervals .now)) (a .bytes .now) (a .ends .now) (a .names) (a .name-bytes) (a .date) (c .before .before .before .before .before .before .before .memory-fits .ensures) (c .before .before .before .before .before .before .if1 .left) (c .before .before .before .before .before .is-list .ensures) (c .before .before .before .before .if2 .left) (c .before .before .before .begin .result) (c .before .before .before .begin .ensures) (c .before .begun .given .1) (c .before .before .before .before .before .before .before .before .before .before .clear .ensures)
+    ends-begun (length (a .table .now)) (a .header) (lists (a .symbols .now) (a .partial .now) (a .not-found .now) (a .mappings .now) (a .intervals .now)) (a .bytes .now) (a .ends .now) (a .names) (a .name-bytes) (a .date) (c .before .before .before .before .before .before .before .build-fits .ensures) (c .before .before .before .before .before .before .if1 .left) (c .before .before .before .before .before .is-list .ensures) (c .before .before .before .before .if2 .left) (c .before .before .before .begin .result) (c .before .before .before .begin .ensures) (c .before .begun .given .1) (c .before .before .before .before .before .before .before .before .before .before .clear .ensures)
 
 same-length-4 : tie.Need-same-length-4
 same-length-4 c = search needs
@@ -77,7 +77,7 @@ same-length-4 c = search needs
 returns-4 : tie.Need-returns-4
 returns-4 c =
     let a = c .before .before .before .before .before .before .before .before .before .before .before .before .before .before .before .before .before .before .before .before .before .before .before .before .before .before .before .args in
-    ends-done (length (a .table .now)) (a .h) (lists (a .symbols .now) (a .partial .now) (a .not-found .now) (a .mappings .now) (a .intervals .now)) (a .bytes .now) (a .ends .now) (a .names) (a .name-bytes) (a .date) (c .before .before .before .before .before .before .before .before .before .before .before .before .before .before .memory-fits .ensures) (c .before .before .before .before .before .before .before .before .before .before .before .before .before .if1 .left) (c .before .before .before .before .before .before .before .before .before .before .before .before .is-list .ensures) (c .before .before .before .before .before .before .before .before .before .before .before .if2 .left) (c .before .before .before .before .before .before .before .before .before .before .begin .result) (c .before .before .before .before .before .before .before .before .before .before .begin .ensures) (c .before .before .before .before .before .before .before .before .begun2 .given .1) _ (c .before .before .before .before .before .before .before .before .before .before .before .before .before .before .before .before .before .clear .ensures) (c .before .before .before .before .before .lay-mappings .result) _ (c .before .before .before .before .before .lay-mappings .ensures) (c .before .laid .given .1)
+    ends-done (length (a .table .now)) (a .header) (lists (a .symbols .now) (a .partial .now) (a .not-found .now) (a .mappings .now) (a .intervals .now)) (a .bytes .now) (a .ends .now) (a .names) (a .name-bytes) (a .date) (c .before .before .before .before .before .before .before .before .before .before .before .before .before .before .build-fits .ensures) (c .before .before .before .before .before .before .before .before .before .before .before .before .before .if1 .left) (c .before .before .before .before .before .before .before .before .before .before .before .before .is-list .ensures) (c .before .before .before .before .before .before .before .before .before .before .before .if2 .left) (c .before .before .before .before .before .before .before .before .before .before .begin .result) (c .before .before .before .before .before .before .before .before .before .before .begin .ensures) (c .before .before .before .before .before .before .before .before .begun2 .given .1) _ (c .before .before .before .before .before .before .before .before .before .before .before .before .before .before .before .before .before .clear .ensures) (c .before .before .before .before .before .lay-mappings .result) _ (c .before .before .before .before .before .lay-mappings .ensures) (c .before .laid .given .1)
 
 same-length-5 : tie.Need-same-length-5
 same-length-5 c = search needs
@@ -85,14 +85,14 @@ same-length-5 c = search needs
 returns-5 : tie.Need-returns-5
 returns-5 c =
     let a = c .before .before .before .before .before .before .before .before .before .before .before .before .before .before .before .before .before .before .before .before .before .before .before .before .before .before .before .before .before .before .before .args in
-    ends-failed (length (a .table .now)) (a .h) (lists (a .symbols .now) (a .partial .now) (a .not-found .now) (a .mappings .now) (a .intervals .now)) (a .bytes .now) (a .ends .now) (a .names) (a .name-bytes) (a .date) (c .before .before .before .before .before .before .before .before .before .before .before .before .before .before .before .before .before .before .memory-fits .ensures) (c .before .before .before .before .before .before .before .before .before .before .before .before .before .before .before .before .before .if1 .left) (c .before .before .before .before .before .before .before .before .before .before .before .before .before .before .before .before .is-list .ensures) (c .before .before .before .before .before .before .before .before .before .before .before .before .before .before .before .if2 .left) (c .before .before .before .before .before .before .before .before .before .before .before .before .before .before .begin .result) (c .before .before .before .before .before .before .before .before .before .before .before .before .before .before .begin .ensures) (c .before .before .before .before .before .before .before .before .before .before .before .before .begun2 .given .1) _ (c .before .before .before .before .before .before .before .before .before .before .before .before .before .before .before .before .before .before .before .before .before .clear .ensures) (c .before .before .before .before .before .before .before .before .before .lay-mappings .result) _ (c .before .before .before .before .before .before .before .before .before .lay-mappings .ensures) (c .before .before .before .before .before .laid2 .given .1) (c .before .before .clear2 .ensures ∙ ap (λ (n : ℕ). replicate n 0) (c .before .before .before .before .before .before .before .before .table2 .given ∙ c .before .before .before .before .before .before .before .before .before .before .before .before .before .before .before .before .before .before .before .before .table .given))
+    ends-failed (length (a .table .now)) (a .header) (lists (a .symbols .now) (a .partial .now) (a .not-found .now) (a .mappings .now) (a .intervals .now)) (a .bytes .now) (a .ends .now) (a .names) (a .name-bytes) (a .date) (c .before .before .before .before .before .before .before .before .before .before .before .before .before .before .before .before .before .before .build-fits .ensures) (c .before .before .before .before .before .before .before .before .before .before .before .before .before .before .before .before .before .if1 .left) (c .before .before .before .before .before .before .before .before .before .before .before .before .before .before .before .before .is-list .ensures) (c .before .before .before .before .before .before .before .before .before .before .before .before .before .before .before .if2 .left) (c .before .before .before .before .before .before .before .before .before .before .before .before .before .before .begin .result) (c .before .before .before .before .before .before .before .before .before .before .before .before .before .before .begin .ensures) (c .before .before .before .before .before .before .before .before .before .before .before .before .begun2 .given .1) _ (c .before .before .before .before .before .before .before .before .before .before .before .before .before .before .before .before .before .before .before .before .before .clear .ensures) (c .before .before .before .before .before .before .before .before .before .lay-mappings .result) _ (c .before .before .before .before .before .before .before .before .before .lay-mappings .ensures) (c .before .before .before .before .before .laid2 .given .1) (c .before .before .clear2 .ensures ∙ ap (λ (n : ℕ). replicate n 0) (c .before .before .before .before .before .before .before .before .table2 .given ∙ c .before .before .before .before .before .before .before .before .before .before .before .before .before .before .before .before .before .before .before .before .table .given))
 
 pub point-in-time-spec : {M : Type 1} → statement M
 point-in-time-spec =
     tie.close
     (tie.spec
     clear-requires
-    memory-fits-requires
+    build-fits-requires
     same-length
     returns
     is-list-requires

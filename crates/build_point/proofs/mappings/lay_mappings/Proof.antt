@@ -9,11 +9,11 @@ use Rattle.build_point.proofs.mappings.lay_mappings.Statement.{statemen
 use Rattle.build_point.proofs.mappings.lay_mappings.Tie as tie
 
 abbrev Inv-loop : tie.InvT-loop
-Inv-loop table₀ mappings count intervals bytes ends names d day used₀ from₀ i₀ table used from i =
-    Going (length table₀) (namesOf bytes ends names) d day mappings intervals count table used from i
+Inv-loop table₀ mappings count intervals bytes ends names direction day used₀ from₀ i₀ table used from i =
+    Going (length table₀) (namesOf bytes ends names) direction day mappings intervals count table used from i
 
 abbrev μ-loop : tie.MeasureT-loop
-μ-loop table₀ mappings count intervals bytes ends names d day used₀ from₀ i₀ table used from i = count - i
+μ-loop table₀ mappings count intervals bytes ends names direction day used₀ from₀ i₀ table used from i = count - i
 
 loop-holds : tie.Need-loop-holds Inv-loop μ-loop
 loop-holds c = search (needs, going-start)

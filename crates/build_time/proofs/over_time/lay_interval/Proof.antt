@@ -31,12 +31,12 @@ enum-known-inserted-2 c = search needs
 returns : tie.Need-returns
 returns c =
     let a = c .before .before .before .before .before .before .before .args in
-    took-refuse (a .names) (namesOf (a .bytes .now) (a .ends .now) (a .names)) (a .way) (a .x) (a .table .now) (a .used) (a .table .now) (c .before .before .before .step .ensures) (c .before .asked .given .1)
+    took-refuse (a .names) (namesOf (a .bytes .now) (a .ends .now) (a .names)) (a .way) (a .interval) (a .table .now) (a .used) (a .table .now) (c .before .before .before .step .ensures) (c .before .asked .given .1)
 
 returns-2 : tie.Need-returns-2
 returns-2 c =
     let a = c .before .before .before .before .before .before .args in
-    took-skip (a .names) (namesOf (a .bytes .now) (a .ends .now) (a .names)) (a .way) (a .x) (a .table .now) (a .used) (c .before .before .before .before .before .before .pre .1) (c .before .before .step .ensures) (c .enum-told .given .1)
+    took-skip (a .names) (namesOf (a .bytes .now) (a .ends .now) (a .names)) (a .way) (a .interval) (a .table .now) (a .used) (c .before .before .before .before .before .before .pre .1) (c .before .before .step .ensures) (c .enum-told .given .1)
 
 same-length : tie.Need-same-length
 same-length c = search needs
@@ -44,7 +44,7 @@ same-length c = search needs
 returns-3 : tie.Need-returns-3
 returns-3 c =
     let a = c .before .before .before .before .before .before .before .before .before .before .before .before .before .before .args in
-    took-insert (a .names) (namesOf (a .bytes .now) (a .ends .now) (a .names)) (a .way) (a .x) (a .table .now) (a .used) (c .before .before .before .before .before .enter .last .0) (c .before .before .before .before .before .before .before .before .before .before .before .before .before .before .pre .1) (c .before .before .before .before .before .enter .kept .0) (c .before .before .before .before .before .before .before .before .before .before .step .ensures) (c .before .before .before .before .before .before .before .before .asked2 .given .1) (c .before .before .before .before .before .enter .ensures) (c .before .inserted .given .1)
+    took-insert (a .names) (namesOf (a .bytes .now) (a .ends .now) (a .names)) (a .way) (a .interval) (a .table .now) (a .used) (c .before .before .before .before .before .enter .last .0) (c .before .before .before .before .before .before .before .before .before .before .before .before .before .before .pre .1) (c .before .before .before .before .before .enter .kept .0) (c .before .before .before .before .before .before .before .before .before .before .step .ensures) (c .before .before .before .before .before .before .before .before .asked2 .given .1) (c .before .before .before .before .before .enter .ensures) (c .before .inserted .given .1)
 
 same-length-2 : tie.Need-same-length-2
 same-length-2 c = search needs
@@ -52,7 +52,7 @@ same-length-2 c = search needs
 returns-4 : tie.Need-returns-4
 returns-4 c =
     let a = c .before .before .before .before .before .before .before .before .before .before .before .before .before .before .args in
-    took-full (a .names) (namesOf (a .bytes .now) (a .ends .now) (a .names)) (a .way) (a .x) (a .table .now) (a .used) (c .before .before .before .before .before .enter .last .0) (c .before .before .before .before .before .before .before .before .before .before .step .ensures) (c .before .before .before .before .before .before .before .before .asked2 .given .1) (c .before .before .before .before .before .enter .ensures) (c .before .inserted2 .given .1)
+    took-full (a .names) (namesOf (a .bytes .now) (a .ends .now) (a .names)) (a .way) (a .interval) (a .table .now) (a .used) (c .before .before .before .before .before .enter .last .0) (c .before .before .before .before .before .before .before .before .before .before .step .ensures) (c .before .before .before .before .before .before .before .before .asked2 .given .1) (c .before .before .before .before .before .enter .ensures) (c .before .inserted2 .given .1)
 
 pub lay-interval-spec : {M : Type 1} → statement M
 lay-interval-spec =

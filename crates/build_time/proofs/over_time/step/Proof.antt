@@ -43,10 +43,10 @@ dated-insert-requires-2 : tie.Need-dated-insert-requires-2
 dated-insert-requires-2 c κs = search needs
 
 returns : tie.Need-returns
-returns c = step-unknown _ (c .before .before .before .before .before .args .x) (c .before .before .before .before .before .args .way) (c .before .before .look .ensures) (c .enum-told .given .1)
+returns c = step-unknown _ (c .before .before .before .before .before .args .interval) (c .before .before .before .before .before .args .way) (c .before .before .look .ensures) (c .enum-told .given .1)
 
 returns-2 : tie.Need-returns-2
-returns-2 c = ap askedOf (c .skip .ensures) ∙ step-empty _ (c .before .before .before .before .before .before .args .x) (c .before .before .before .before .before .before .args .way) (c .before .before .before .look .ensures) (c .before .enum-told2 .given .1)
+returns-2 c = ap askedOf (c .skip .ensures) ∙ step-empty _ (c .before .before .before .before .before .before .args .interval) (c .before .before .before .before .before .before .args .way) (c .before .before .before .look .ensures) (c .before .enum-told2 .given .1)
 
 returns-3 : tie.Need-returns-3
 returns-3 c = step-no-number _ _ _ (c .before .before .before .before .before .before .before .before .before .look .ensures) (c .before .before .before .before .before .before .before .enum-told3 .given .1) (c .before .before .before .before .before .way .given .1) (c .before .before .before .number-named .ensures) (c .before .read .given .1)

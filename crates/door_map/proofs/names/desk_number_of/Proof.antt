@@ -31,7 +31,7 @@ returns c =
         done-value (c .before .before .before .before .before .before .before .before .before .before .before .before .before .before .before .args .symbol .now) 0 e,
         (
           done-value (c .before .before .before .before .before .before .before .before .before .before .before .before .before .before .before .args .names .now) 1 e,
-          (done-value (c .before .before .before .before .before .before .before .before .before .before .before .before .before .before .before .args .size .now) 2 e, c .before .before .before .before .before .before .before .number-of .ensures .1),
+          (done-value (c .before .before .before .before .before .before .before .before .before .before .before .before .before .before .before .args .name-bytes .now) 2 e, c .before .before .before .before .before .before .before .number-of .ensures .1),
         ),
       ),
     )
@@ -51,7 +51,7 @@ returns-2 c =
         not-value r (c .before .before .before .before .before .before .before .before .before .before .before .before .before .before .before .before .args .symbol .now) 0 e,
         (
           not-value r (c .before .before .before .before .before .before .before .before .before .before .before .before .before .before .before .before .args .names .now) 1 e,
-          (not-value r (c .before .before .before .before .before .before .before .before .before .before .before .before .before .before .before .before .args .size .now) 2 e, c .before .before .before .before .before .before .before .before .number-of .ensures .1),
+          (not-value r (c .before .before .before .before .before .before .before .before .before .before .before .before .before .before .before .before .args .name-bytes .now) 2 e, c .before .before .before .before .before .before .before .before .number-of .ensures .1),
         ),
       ),
     )

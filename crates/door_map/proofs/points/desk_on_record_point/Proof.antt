@@ -40,7 +40,7 @@ returns c =
         (
           done-value (a .names .now) 1 e,
           (
-            done-value (a .size .now) 2 e,
+            done-value (a .name-bytes .now) 2 e,
             (done-damage (a .reason .now) 2 e, (x .1 .0, (x .1 .1 .0, x .1 .1 .1 .0))),
           ),
         ),
@@ -68,7 +68,7 @@ returns-2 c =
         (
           not-value r (a .names .now) 1 e,
           (
-            not-value r (a .size .now) 2 e,
+            not-value r (a .name-bytes .now) 2 e,
             (not-damage r (a .reason .now) 2 (c .before .reason-in .ensures) e, (x .1 .0, (x .1 .1 .0, x .1 .1 .1 .0))),
           ),
         ),

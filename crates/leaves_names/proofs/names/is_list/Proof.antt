@@ -9,10 +9,10 @@ use Rattle.leaves_names.proofs.names.is_list.Statement.{statement}
 use Rattle.leaves_names.proofs.names.is_list.Tie as tie
 
 abbrev Inv-loop : tie.InvT-loop
-Inv-loop bytes ends names used start₀ n₀ start n = Walked bytes ends names used start n
+Inv-loop bytes ends names name-bytes start₀ n₀ start n = Walked bytes ends names name-bytes start n
 
 abbrev μ-loop : tie.MeasureT-loop
-μ-loop bytes ends names used start₀ n₀ start n = names - n
+μ-loop bytes ends names name-bytes start₀ n₀ start n = names - n
 
 loop-holds : tie.Need-loop-holds Inv-loop μ-loop
 loop-holds c = walk-none _ _ _ _

@@ -6,14 +6,14 @@ use Rattle.leaves_names.specs.NamesLaws.{memory, formed, ordered, holds,
 use Rattle.leaves_names.proofs.names.judge_name.Statement.{statement}
 use Rattle.leaves_names.proofs.names.judge_name.Tie as tie
 
-is-memory-requires : tie.Need-is-memory-requires
-is-memory-requires c κs = search needs
+list-fits-requires : tie.Need-list-fits-requires
+list-fits-requires c κs = search needs
 
 returns : tie.Need-returns
 returns c = search (needs, judged-15)
 
 is-list-requires : tie.Need-is-list-requires
-is-list-requires c κs = let m = memory _ _ _ _ (holds (c .before .is-memory .ensures) (c .if1 .left)) in (m .held, m .room)
+is-list-requires c κs = let m = memory _ _ _ _ (holds (c .before .list-fits .ensures) (c .if1 .left)) in (m .held, m .room)
 
 returns-2 : tie.Need-returns-2
 returns-2 c = search (needs, judged-14)
@@ -26,40 +26,40 @@ returns-3 c = search (needs, judged-4)
 
 find-name-requires : tie.Need-find-name-requires
 find-name-requires c κs =
-    (ordered (memory _ _ _ _ (holds (c .before .before .before .before .before .is-memory .ensures) (c .before .before .before .before .if1 .left))) (formed _ _ _ _ (holds (c .before .before .before .is-list .ensures) (c .before .before .if2 .left))), c .before .before .before .before .before .before .before .before .before .pre)
+    (ordered (memory _ _ _ _ (holds (c .before .before .before .before .before .list-fits .ensures) (c .before .before .before .before .if1 .left))) (formed _ _ _ _ (holds (c .before .before .before .is-list .ensures) (c .before .before .if2 .left))), c .before .before .before .before .before .before .before .before .before .pre)
 
 cast-t16 : tie.Need-cast-t16
-cast-t16 c = let m = memory _ _ _ _ (holds (c .before .before .before .before .before .before .before .is-memory .ensures) (c .before .before .before .before .before .before .if1 .left)) in omega (arith, m .held, m .few)
+cast-t16 c = let m = memory _ _ _ _ (holds (c .before .before .before .before .before .before .before .list-fits .ensures) (c .before .before .before .before .before .before .if1 .left)) in omega (arith, m .held, m .few)
 
 returns-4 : tie.Need-returns-4
 returns-4 c =
-    judged-old _ _ _ _ _ (c .before .before .before .before .before .before .before .is-memory .ensures) (c .before .before .before .before .before .before .if1 .left) (c .before .before .before .before .before .is-list .ensures) (c .before .before .before .before .if2 .left) (c .before .before .before .is-name .ensures) (c .before .before .if3 .left)
+    judged-old _ _ _ _ _ (c .before .before .before .before .before .before .before .list-fits .ensures) (c .before .before .before .before .before .before .if1 .left) (c .before .before .before .before .before .is-list .ensures) (c .before .before .before .before .if2 .left) (c .before .before .before .is-name .ensures) (c .before .before .if3 .left)
     (c .before .find-name .ensures) (c .if4 .taken)
 
 sub-has-room : tie.Need-sub-has-room
 sub-has-room c = search needs
 
 has-room-requires : tie.Need-has-room-requires
-has-room-requires c κs = holds (c .before .before .before .before .before .before .before .is-memory .ensures) (c .before .before .before .before .before .before .if1 .left)
+has-room-requires c κs = holds (c .before .before .before .before .before .before .before .list-fits .ensures) (c .before .before .before .before .before .before .if1 .left)
 
 cast-t20 : tie.Need-cast-t20
-cast-t20 c = let m = memory _ _ _ _ (holds (c .before .before .before .before .before .before .before .before .before .is-memory .ensures) (c .before .before .before .before .before .before .before .before .if1 .left)) in omega (arith, m .held, m .few)
+cast-t20 c = let m = memory _ _ _ _ (holds (c .before .before .before .before .before .before .before .before .before .list-fits .ensures) (c .before .before .before .before .before .before .before .before .if1 .left)) in omega (arith, m .held, m .few)
 
 returns-5 : tie.Need-returns-5
 returns-5 c =
-    judged-new _ _ _ _ _ _ _ (c .before .before .before .before .before .before .before .before .before .is-memory .ensures) (c .before .before .before .before .before .before .before .before .if1 .left) (c .before .before .before .before .before .before .before .is-list .ensures) (c .before .before .before .before .before .before .if2 .left) (c .before .before .before .before .before .is-name .ensures) (c .before .before .before .before .if3 .left)
+    judged-new _ _ _ _ _ _ _ (c .before .before .before .before .before .before .before .before .before .list-fits .ensures) (c .before .before .before .before .before .before .before .before .if1 .left) (c .before .before .before .before .before .before .before .is-list .ensures) (c .before .before .before .before .before .before .if2 .left) (c .before .before .before .before .before .is-name .ensures) (c .before .before .before .before .if3 .left)
     (c .before .before .before .find-name .ensures) (c .before .before .if4 .left) (c .before .before .before .before .before .before .before .before .before .before .before .before .before .pre .1) (c .before .has-room .ensures) (c .if5 .taken)
 
 returns-6 : tie.Need-returns-6
 returns-6 c =
-    judged-5 _ _ _ _ _ _ _ (c .before .before .before .before .before .before .before .before .before .is-memory .ensures) (c .before .before .before .before .before .before .before .before .if1 .left) (c .before .before .before .before .before .before .before .is-list .ensures) (c .before .before .before .before .before .before .if2 .left) (c .before .before .before .before .before .is-name .ensures) (c .before .before .before .before .if3 .left)
+    judged-5 _ _ _ _ _ _ _ (c .before .before .before .before .before .before .before .before .before .list-fits .ensures) (c .before .before .before .before .before .before .before .before .if1 .left) (c .before .before .before .before .before .before .before .is-list .ensures) (c .before .before .before .before .before .before .if2 .left) (c .before .before .before .before .before .is-name .ensures) (c .before .before .before .before .if3 .left)
     (c .before .before .before .find-name .ensures) (c .before .before .if4 .left) (c .before .before .before .before .before .before .before .before .before .before .before .before .before .pre .1) (c .before .has-room .ensures) (c .if5 .left)
 
 pub judge-name-spec : {M : Type 1} → statement M
 judge-name-spec =
     tie.close
     (tie.spec
-    is-memory-requires
+    list-fits-requires
     returns
     is-list-requires
     returns-2

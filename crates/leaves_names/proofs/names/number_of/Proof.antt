@@ -19,15 +19,15 @@ enum-known-judged-2 c = search needs
 add-name-requires : tie.Need-add-name-requires
 add-name-requires c κs =
     let a = c .before .before .before .before .before .before .before .before .before .before .before .args in
-    let e = of-whole (a .bytes .now) (a .ends .now) (a .names) (a .used) (a .text .now) (c .before .before .before .before .before .judge-name .ensures) (c .before .before .before .judged2 .given .1) in
-    let f = case-new (a .bytes .now) (a .ends .now) (a .names) (a .used) (a .text .now) e in
+    let e = of-whole (a .bytes .now) (a .ends .now) (a .names) (a .name-bytes) (a .text .now) (c .before .before .before .before .before .judge-name .ensures) (c .before .before .before .judged2 .given .1) in
+    let f = case-new (a .bytes .now) (a .ends .now) (a .names) (a .name-bytes) (a .text .now) e in
     omega (arith, f .3 .place, f .3 .small, f .3 .held)
 
 add-t21 : tie.Need-add-t21
 add-t21 c =
     let a = c .before .before .before .before .before .before .before .before .before .before .before .before .before .before .before .before .args in
-    let e = of-whole (a .bytes .now) (a .ends .now) (a .names) (a .used) (a .text .now) (c .before .before .before .before .before .before .before .before .before .before .judge-name .ensures) (c .before .before .before .before .before .before .before .before .judged2 .given .1) in
-    let f = case-new (a .bytes .now) (a .ends .now) (a .names) (a .used) (a .text .now) e in
+    let e = of-whole (a .bytes .now) (a .ends .now) (a .names) (a .name-bytes) (a .text .now) (c .before .before .before .before .before .before .before .before .before .before .judge-name .ensures) (c .before .before .before .before .before .before .before .before .judged2 .given .1) in
+    let f = case-new (a .bytes .now) (a .ends .now) (a .names) (a .name-bytes) (a .text .now) e in
     omega (arith, f .3 .few)
 
 enum-known-judged-3 : tie.Need-enum-known-judged-3
@@ -42,8 +42,8 @@ same-length-2 c = search needs
 returns : tie.Need-returns
 returns c =
     let a = c .before .before .before .before .before .before .before .before .before .args in
-    let e = of-whole (a .bytes .now) (a .ends .now) (a .names) (a .used) (a .text .now) (c .before .before .before .judge-name .ensures) (c .before .judged .given .1) in
-    promised-old (a .bytes .now) (a .ends .now) (a .names) (a .used) (a .text .now) _ e
+    let e = of-whole (a .bytes .now) (a .ends .now) (a .names) (a .name-bytes) (a .text .now) (c .before .before .before .judge-name .ensures) (c .before .judged .given .1) in
+    promised-old (a .bytes .now) (a .ends .now) (a .names) (a .name-bytes) (a .text .now) _ e
 
 same-length-3 : tie.Need-same-length-3
 same-length-3 c = search needs
@@ -54,9 +54,9 @@ same-length-4 c = search needs
 returns-2 : tie.Need-returns-2
 returns-2 c =
     let a = c .before .before .before .before .before .before .before .before .before .before .before .before .before .before .before .before .args in
-    let e = of-whole (a .bytes .now) (a .ends .now) (a .names) (a .used) (a .text .now) (c .before .before .before .before .before .before .before .before .before .before .judge-name .ensures) (c .before .before .before .before .before .before .before .before .judged2 .given .1) in
+    let e = of-whole (a .bytes .now) (a .ends .now) (a .names) (a .name-bytes) (a .text .now) (c .before .before .before .before .before .before .before .before .before .before .judge-name .ensures) (c .before .before .before .before .before .before .before .before .judged2 .given .1) in
     let d = c .before .before .before .before .add-name .ensures in
-    promised-new (a .bytes .now) (a .ends .now) (a .names) (a .used) (a .text .now) _ e (whole (a .text .now)) (omega arith) (d .0) (d .1 .0) (d .1 .1)
+    promised-new (a .bytes .now) (a .ends .now) (a .names) (a .name-bytes) (a .text .now) _ e (whole (a .text .now)) (omega arith) (d .0) (d .1 .0) (d .1 .1)
 
 same-length-5 : tie.Need-same-length-5
 same-length-5 c = search needs
@@ -67,8 +67,8 @@ same-length-6 c = search needs
 returns-3 : tie.Need-returns-3
 returns-3 c =
     let a = c .before .before .before .before .before .before .before .before .before .args in
-    let e = of-whole (a .bytes .now) (a .ends .now) (a .names) (a .used) (a .text .now) (c .before .before .before .judge-name .ensures) (c .before .judged3 .given .1) in
-    promised-refused (a .bytes .now) (a .ends .now) (a .names) (a .used) (a .text .now) _ e
+    let e = of-whole (a .bytes .now) (a .ends .now) (a .names) (a .name-bytes) (a .text .now) (c .before .before .before .judge-name .ensures) (c .before .judged3 .given .1) in
+    promised-refused (a .bytes .now) (a .ends .now) (a .names) (a .name-bytes) (a .text .now) _ e
 
 pub number-of-spec : {M : Type 1} → statement M
 number-of-spec =

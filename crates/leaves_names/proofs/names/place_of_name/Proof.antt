@@ -12,20 +12,20 @@ use Rattle.leaves_names.specs.NamesLaws.{memory, holds, fails}
 use Rattle.leaves_names.proofs.names.place_of_name.Statement.{statement}
 use Rattle.leaves_names.proofs.names.place_of_name.Tie as tie
 
-is-memory-requires : tie.Need-is-memory-requires
-is-memory-requires c κs = search needs
+list-fits-requires : tie.Need-list-fits-requires
+list-fits-requires c κs = search needs
 
 returns : tie.Need-returns
 unfolding placeOfName
-returns c = rw (fails (c .before .is-memory .ensures) (c .if1 .taken))
+returns c = rw (fails (c .before .list-fits .ensures) (c .if1 .taken))
 
 is-list-requires : tie.Need-is-list-requires
-is-list-requires c κs = let m = memory _ _ _ _ (holds (c .before .is-memory .ensures) (c .if1 .left)) in (m .held, m .room)
+is-list-requires c κs = let m = memory _ _ _ _ (holds (c .before .list-fits .ensures) (c .if1 .left)) in (m .held, m .room)
 
 returns-2 : tie.Need-returns-2
 unfolding placeOfName
 returns-2 c =
-    rw (holds (c .before .before .before .is-memory .ensures) (c .before .before .if1 .left), fails (c .before .is-list .ensures) (c .if2 .taken))
+    rw (holds (c .before .before .before .list-fits .ensures) (c .before .before .if1 .left), fails (c .before .is-list .ensures) (c .if2 .taken))
 
 place-requires : tie.Need-place-requires
 place-requires c κs = search needs
@@ -36,16 +36,16 @@ returns-3 c =
     let a = c .before .before .before .before .before .before .before .before .args in
     let l : a .names ≤ a .number = omega (arith, c .before .place .ensures .0) in
     rw (
-      holds (c .before .before .before .before .before .is-memory .ensures) (c .before .before .before .before .if1 .left),
+      holds (c .before .before .before .before .before .list-fits .ensures) (c .before .before .before .before .if1 .left),
       holds (c .before .before .before .is-list .ensures) (c .before .before .if2 .left),
       le-ltb (a .number) (a .names) l,
     )
 
 name-start-requires : tie.Need-name-start-requires
-name-start-requires c κs = let m = memory _ _ _ _ (holds (c .before .before .before .before .before .is-memory .ensures) (c .before .before .before .before .if1 .left)) in omega (arith, m .held)
+name-start-requires c κs = let m = memory _ _ _ _ (holds (c .before .before .before .before .before .list-fits .ensures) (c .before .before .before .before .if1 .left)) in omega (arith, m .held)
 
 name-end-requires : tie.Need-name-end-requires
-name-end-requires c κs = let m = memory _ _ _ _ (holds (c .before .before .before .before .before .before .is-memory .ensures) (c .before .before .before .before .before .if1 .left)) in omega (arith, m .held)
+name-end-requires c κs = let m = memory _ _ _ _ (holds (c .before .before .before .before .before .before .list-fits .ensures) (c .before .before .before .before .before .if1 .left)) in omega (arith, m .held)
 
 returns-4 : tie.Need-returns-4
 unfolding placeOfName
@@ -56,7 +56,7 @@ returns-4 c =
     let first = c .before .name-start .ensures ∙ ap (nameStart (a .ends .now)) e in
     let end = c .name-end .ensures ∙ ap (nameEnd (a .ends .now)) e in
     rw (
-      holds (c .before .before .before .before .before .before .before .is-memory .ensures) (c .before .before .before .before .before .before .if1 .left),
+      holds (c .before .before .before .before .before .before .before .list-fits .ensures) (c .before .before .before .before .before .before .if1 .left),
       holds (c .before .before .before .before .before .is-list .ensures) (c .before .before .before .before .if2 .left),
       lt-ltb (a .number) (a .names) l,
     )
@@ -66,7 +66,7 @@ pub place-of-name-spec : {M : Type 1} → statement M
 place-of-name-spec =
     tie.close
     (tie.spec
-    is-memory-requires
+    list-fits-requires
     returns
     is-list-requires
     returns-2

@@ -5,10 +5,10 @@ use Rattle.map_look.proofs.begin.narrow.Statement.{statement}
 use Rattle.map_look.proofs.begin.narrow.Tie as tie
 
 abbrev Inv-loop : tie.InvT-loop
-Inv-loop table used lo n instrument at₀ left₀ at left = Narrowed table used instrument lo n at left
+Inv-loop table used lo count instrument at₀ left₀ at left = Narrowed table used instrument lo count at left
 
 abbrev μ-loop : tie.MeasureT-loop
-μ-loop table used lo n instrument at₀ left₀ at left = left
+μ-loop table used lo count instrument at₀ left₀ at left = left
 
 loop-holds : tie.Need-loop-holds Inv-loop μ-loop
 loop-holds c = search (needs, narrowed-all)

@@ -42,10 +42,10 @@ use denote.Triple.Spec.{Meets, tripleOf}
 use denote.Triple.Table.{entered, cited}
 use denote.Triple.Walked.{says, Stays, stay-ref, stay-none, stay-none-slice, walkOf, AllGo, goes-none, goes-none-slice, goes-ref, Walks, ends-at, walked, walk-meets}
 use denote.Exit.{yes}
-use mathlib.Core.Bool.{false, _||_}
+use mathlib.Core.Bool.{true, not, _||_}
 use lib.Dec.{T}
 use Rattle.map_rules.specs.Table.{ordered}
-use Rattle.map_rules.specs.Memory.{sameValue, rows, badTable}
+use Rattle.map_rules.specs.Memory.{sameValue, rows, tableFits}
 use Rattle.map_rules.specs.Looks.{numberIn, lookupAnswer, lookupHint}
 use Rattle.map_look.specs.Lookup.{foundOf, lookedOf}
 use Rattle.map_look.specs.declared.cursor.Cursor.{Cursor}
@@ -85,12 +85,12 @@ module _ {M : Type 1} (𝓤 : URA M) (H : Heap 𝓤) (A : Atoms 𝓤) (W : Given
 
   -- what `get_for_ts` says of a table that gets no 15
   abbrev Number : Looked → Type 0
-  Number r = badTable (length (now s)) n ≡ false → numberIn (lookedOf r) ≡ 0
+  Number r = tableFits (length (now s)) n ≡ true → numberIn (lookedOf r) ≡ 0
 
   -- what it says of what it found and of the new hint
   abbrev Says : Looked → Type 0
   Says r =
-      T (badTable (length (now s)) n || ordered sameValue (rows (now s) n))
+      T (not (tableFits (length (now s)) n) || ordered sameValue (rows (now s) n))
       → (foundOf (r .found) (r .hint) ≡ lookupAnswer (now s) n i m (h .hint)) × (r .hint ≡ lookupHint (now s) n i m (h .hint))
 
   abbrev h′ : Looked → Cursor

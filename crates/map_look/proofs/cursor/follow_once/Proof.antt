@@ -41,10 +41,10 @@ use denote.Triple.Spec.{Meets, tripleOf}
 use denote.Triple.Table.{entered, cited}
 use denote.Triple.Walked.{says, Stays, stay-none, stay-none-slice, walkOf, AllGo, goes-none, goes-none-slice, Walks, ends-at, walked, walk-meets}
 use denote.Exit.{yes}
-use mathlib.Core.Bool.{false, _||_}
+use mathlib.Core.Bool.{true, not, _||_}
 use lib.Dec.{T}
 use Rattle.map_rules.specs.Table.{ordered}
-use Rattle.map_rules.specs.Memory.{sameValue, rows, badTable}
+use Rattle.map_rules.specs.Memory.{sameValue, rows, tableFits}
 use Rattle.map_rules.specs.Looks.{numberIn, lookupAnswer, lookupHint}
 use Rattle.map_look.specs.Lookup.{foundOf}
 use Rattle.map_look.specs.declared.cursor.Cursor.{Cursor}
@@ -87,9 +87,9 @@ module _ {M : Type 1} (𝓤 : URA M) (H : Heap 𝓤) (A : Atoms 𝓤) (W : Given
   -- what `follow` says of what it found and of the cursor's last hint
   abbrev Says : Found → ℕ → Type 0
   Says r z =
-      (T (badTable (length (now s)) n || ordered sameValue (rows (now s) n))
+      (T (not (tableFits (length (now s)) n) || ordered sameValue (rows (now s) n))
       → (foundOf r z ≡ lookupAnswer (now s) n i m k) × (z ≡ lookupHint (now s) n i m k))
-      × (badTable (length (now s)) n ≡ false → numberIn (foundOf r z) ≡ 0)
+      × (tableFits (length (now s)) n ≡ true → numberIn (foundOf r z) ≡ 0)
 
   -- the cursor as it is made
   abbrev c : Cursor

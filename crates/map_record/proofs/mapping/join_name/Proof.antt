@@ -24,7 +24,7 @@ returns : tie.Need-returns
 returns c =
     let a = c .before .before .before .before .before .before .before .before .before .before .before .args in
     let j = c .before .before .before .before .add-name .ensures in
-    joined-new (a .bytes .now) (a .ends .now) (a .names) (a .size) (a .rec .now) (a .from) (a .to) (c .before .before .before .before .before .before .before .before .before .before .before .pre) (c .before .before .before .before .before .before .before .if1 .taken) (j .0) (j .1 .0) (j .1 .1)
+    joined-new (a .bytes .now) (a .ends .now) (a .names) (a .name-bytes) (a .rec .now) (a .from) (a .to) (c .before .before .before .before .before .before .before .before .before .before .before .pre) (c .before .before .before .before .before .before .before .if1 .taken) (j .0) (j .1 .0) (j .1 .1)
 
 returns-2 : tie.Need-returns-2
 returns-2 c = joined-old _ _ _ _ _ (c .if1 .left)

@@ -22,7 +22,7 @@ enum-known-plan-2 c = search needs
 place-requires : tie.Need-place-requires
 place-requires c κs =
     let a = c .before .before .before .before .before .before .before .before .before .before .before .before .args in
-    interval-store (a .table .now) (a .used) (a .bytes .now) (a .ends .now) (a .names) (a .size) (a .rec .now) (c .before .before .before .before .judge-interval .ensures .1) (c .before .before .plan2 .given .1) .1
+    interval-store (a .table .now) (a .used) (a .bytes .now) (a .ends .now) (a .names) (a .name-bytes) (a .rec .now) (c .before .before .before .before .judge-interval .ensures .1) (c .before .before .plan2 .given .1) .1
 
 enum-known-inserted : tie.Need-enum-known-inserted
 enum-known-inserted c = search needs
@@ -33,7 +33,7 @@ enum-known-inserted-2 c = search needs
 join-name-requires : tie.Need-join-name-requires
 join-name-requires c κs =
     let a = c .before .before .before .before .before .before .before .before .before .before .before .before .before .before .before .before .before .before .before .before .args in
-    interval-store (a .table .now) (a .used) (a .bytes .now) (a .ends .now) (a .names) (a .size) (a .rec .now) (c .before .before .before .before .before .before .before .before .before .before .before .before .judge-interval .ensures .1) (c .before .before .before .before .before .before .before .before .before .before .plan2 .given .1) .0
+    interval-store (a .table .now) (a .used) (a .bytes .now) (a .ends .now) (a .names) (a .name-bytes) (a .rec .now) (c .before .before .before .before .before .before .before .before .before .before .before .before .judge-interval .ensures .1) (c .before .before .before .before .before .before .before .before .before .before .plan2 .given .1) .0
 
 same-length : tie.Need-same-length
 same-length c = search needs

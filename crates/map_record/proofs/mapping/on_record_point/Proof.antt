@@ -22,7 +22,7 @@ enum-known-plan-2 c = search needs
 set-entry-requires : tie.Need-set-entry-requires
 set-entry-requires c κs =
     let a = c .before .before .before .before .before .before .before .before .before .before .before .before .args in
-    let r = ready-store (a .table .now) (a .used) (a .bytes .now) (a .ends .now) (a .names) (a .size) (a .rec .now) (c .before .before .before .before .judge-point .ensures .1) (c .before .before .plan2 .given .1) in
+    let r = ready-store (a .table .now) (a .used) (a .bytes .now) (a .ends .now) (a .names) (a .name-bytes) (a .rec .now) (c .before .before .before .before .judge-point .ensures .1) (c .before .before .plan2 .given .1) in
     (r .1, r .2)
 
 enum-known-stored : tie.Need-enum-known-stored
@@ -34,7 +34,7 @@ enum-known-stored-2 c = search needs
 join-name-requires : tie.Need-join-name-requires
 join-name-requires c κs =
     let a = c .before .before .before .before .before .before .before .before .before .before .before .before .before .before .before .before .before .before .before .before .args in
-    ready-store (a .table .now) (a .used) (a .bytes .now) (a .ends .now) (a .names) (a .size) (a .rec .now) (c .before .before .before .before .before .before .before .before .before .before .before .before .judge-point .ensures .1) (c .before .before .before .before .before .before .before .before .before .before .plan2 .given .1) .0
+    ready-store (a .table .now) (a .used) (a .bytes .now) (a .ends .now) (a .names) (a .name-bytes) (a .rec .now) (c .before .before .before .before .before .before .before .before .before .before .before .before .judge-point .ensures .1) (c .before .before .before .before .before .before .before .before .before .before .plan2 .given .1) .0
 
 same-length : tie.Need-same-length
 same-length c = search needs

@@ -54,7 +54,7 @@ returns-5 c =
     let a = c .before .before .before .before .before .before .before .before .before .before .before .before .args in
     let p = c .plan-name .ensures in (
       time-symbol _ _ _ _ _ e s n (c .before .before .before .if1 .left) (c .before .if3 .taken) (p .0),
-      (p .1, time-forward (a .bytes .now) (a .ends .now) (a .rec .now) (a .names) (a .size) e s n (c .plan-name .result) (c .before .if3 .taken) (p .0)),
+      (p .1, time-forward (a .bytes .now) (a .ends .now) (a .rec .now) (a .names) (a .name-bytes) e s n (c .plan-name .result) (c .before .if3 .taken) (p .0)),
     )
 
 returns-6 : tie.Need-returns-6

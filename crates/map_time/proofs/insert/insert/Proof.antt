@@ -1,20 +1,20 @@
 -- Each way through the tests is one law. Assumes nothing.
-use Rattle.map_rules.specs.Outcomes.{memory-fits, memory-whole, memory-use, checked-ordered, inserted-bad, inserted-ill, inserted-enters}
+use Rattle.map_rules.specs.Outcomes.{memory-holds, memory-whole, memory-use, checked-ordered, inserted-unfit, inserted-ill, inserted-enters}
 use borrow.Author.Needs.{needs}
 use Rattle.map_time.proofs.insert.insert.Statement.{statement}
 use Rattle.map_time.proofs.insert.insert.Tie as tie
 
-bad-memory-requires : tie.Need-bad-memory-requires
-bad-memory-requires c κs = search needs
+memory-fits-requires : tie.Need-memory-fits-requires
+memory-fits-requires c κs = search needs
 
 well-formed-requires : tie.Need-well-formed-requires
-well-formed-requires c κs = search (needs, memory-fits)
+well-formed-requires c κs = search (needs, memory-holds)
 
 enter-requires : tie.Need-enter-requires
 enter-requires c κs = search (needs, memory-whole, memory-use, checked-ordered)
 
 returns : tie.Need-returns
-returns c = search (needs, inserted-bad)
+returns c = search (needs, inserted-unfit)
 
 same-length : tie.Need-same-length
 same-length c = search needs
@@ -32,7 +32,7 @@ pub insert-spec : {M : Type 1} → statement M
 insert-spec =
     tie.close
     (tie.spec
-    bad-memory-requires
+    memory-fits-requires
     well-formed-requires
     enter-requires
     returns

@@ -6,8 +6,8 @@ use borrow.Author.Needs.{needs}
 use Rattle.vectors_builds.proofs.calls.is_built.Statement.{statement}
 use Rattle.vectors_builds.proofs.calls.is_built.Tie as tie
 
-name-bytes-requires : tie.Need-name-bytes-requires
-name-bytes-requires c κs = search needs
+list-bytes-requires : tie.Need-list-bytes-requires
+list-bytes-requires c κs = search needs
 
 entries-requires : tie.Need-entries-requires
 entries-requires c κs = search needs
@@ -100,7 +100,7 @@ pub is-built-spec : {M : Type 1} → statement M
 is-built-spec =
     tie.close
     (tie.spec
-    name-bytes-requires
+    list-bytes-requires
     entries-requires
     entries-requires-2
     entries-requires-3
