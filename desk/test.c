@@ -998,9 +998,9 @@ static void after_get_for_ts(void) {
 /* A name has joined the list. */
 static void joins(const char *text) {
     size_t len = strlen(text);
-    memcpy(was.bytes + was.size, text, len);
-    was.size += len;
-    was.ends[was.names++] = (uint32_t)was.size;
+    memcpy(was.bytes + was.name_bytes, text, len);
+    was.name_bytes += len;
+    was.ends[was.names++] = (uint32_t)was.name_bytes;
 }
 
 #define AFTER_RECORD(number, made, ...)                   \
