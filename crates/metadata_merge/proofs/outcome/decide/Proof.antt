@@ -14,17 +14,17 @@ refusal-of-requires c κs = search needs
 enum-known-planned-2 : tie.Need-enum-known-planned-2
 enum-known-planned-2 c = search needs
 
-fits-requires : tie.Need-fits-requires
-fits-requires c κs = search needs
+outcome-fits-requires : tie.Need-outcome-fits-requires
+outcome-fits-requires c κs = search needs
 
 returns : tie.Need-returns
 returns c = decide-fault _ _ _ _ _ _ _ (c .before .before .planned .given .1) (c .refusal-of .ensures)
 
 returns-2 : tie.Need-returns-2
-returns-2 c = decide-fits _ _ _ _ _ _ _ _ (c .before .before .before .planned2 .given .1) (c .before .fits2 .ensures) (c .if1 .taken)
+returns-2 c = decide-fits _ _ _ _ _ _ _ _ (c .before .before .before .planned2 .given .1) (c .before .outcome-fits .ensures) (c .if1 .taken)
 
 returns-3 : tie.Need-returns-3
-returns-3 c = decide-short _ _ _ _ _ _ _ _ (c .before .before .before .planned2 .given .1) (c .before .fits2 .ensures) (c .if1 .left)
+returns-3 c = decide-short _ _ _ _ _ _ _ _ (c .before .before .before .planned2 .given .1) (c .before .outcome-fits .ensures) (c .if1 .left)
 
 pub decide-spec : {M : Type 1} → statement M
 decide-spec =
@@ -33,7 +33,7 @@ decide-spec =
     enum-known-planned
     refusal-of-requires
     enum-known-planned-2
-    fits-requires
+    outcome-fits-requires
     returns
     returns-2
     returns-3)
