@@ -58,23 +58,35 @@ fn lies(
     }
 }
 
-// Two places, both in use, and two bytes left: no new name fits, and an old one is found.
+// Two places, both in use, and two bytes left: an old name is found.
+fn old_name(tally: Tally) -> Tally {
+    let mut bytes = [b'A', b'B', 9, 9];
+    let mut ends = [1u32, 2];
+    let old = leaves_names::names::number_of(&mut bytes, &mut ends, 2, 2, b"B");
+    tried(tally, b"old name in a full list", is_number(old, 1, 2, 2))
+}
+
+// The same, and no new name fits; one that is too long is refused for that.
 fn places_full(tally: Tally) -> Tally {
     let mut bytes = [b'A', b'B', 9, 9];
     let mut ends = [1u32, 2];
     let long = [b'A'; 256];
-    let old = leaves_names::names::number_of(&mut bytes, &mut ends, 2, 2, b"B");
-    let mut t = tried(tally, b"old name in a full list", is_number(old, 1, 2, 2));
     let none = leaves_names::names::number_of(&mut bytes, &mut ends, 2, 2, b"");
-    t = tried(t, b"empty new name, places full", is_refused(none, 5));
+    let mut t = tried(tally, b"empty new name, places full", is_refused(none, 5));
     let over = leaves_names::names::number_of(&mut bytes, &mut ends, 2, 2, &long);
     t = tried(t, b"256 bytes, places full", is_refused(over, 4));
-    t = tried(
+    tried(
         t,
         b"a refusal writes nothing",
         bytes[2] == 9 && bytes[3] == 9,
-    );
-    t = tried(t, b"name 1", lies(&bytes, &ends, 2, 2, 1, 1, 2));
+    )
+}
+
+// Where names of that list lie.
+fn lying(tally: Tally) -> Tally {
+    let bytes = [b'A', b'B', 9, 9];
+    let ends = [1u32, 2];
+    let t = tried(tally, b"name 1", lies(&bytes, &ends, 2, 2, 1, 1, 2));
     tried(t, b"name 2 of two", lies(&bytes, &ends, 2, 2, 2, 3, 0))
 }
 
@@ -93,7 +105,7 @@ fn bytes_full(tally: Tally) -> Tally {
     tried(t, b"its end", ends[1] == 1 && bytes[0] == b'A')
 }
 
-// What a new name writes, and the least of two equal ones.
+// What a new name writes.
 fn new_names(tally: Tally) -> Tally {
     let mut bytes = [9u8; 5];
     let mut ends = [9u32; 3];
@@ -106,18 +118,20 @@ fn new_names(tally: Tally) -> Tally {
         b"bytes behind the second",
         bytes[2] == b'A' && bytes[3] == 9 && bytes[4] == 9,
     );
-    t = tried(
+    tried(
         t,
         b"ends behind the second",
         ends[0] == 2 && ends[1] == 3 && ends[2] == 9,
-    );
-    let twice = [b'A', b'A'];
-    let ones = [1u32, 2];
-    let mut twice_bytes = twice;
-    let mut twice_ends = ones;
-    let least = leaves_names::names::number_of(&mut twice_bytes, &mut twice_ends, 2, 2, b"A");
+    )
+}
+
+// Of two names with equal bytes the least number counts.
+fn equal_names(tally: Tally) -> Tally {
+    let mut bytes = [b'A', b'A'];
+    let mut ends = [1u32, 2];
+    let least = leaves_names::names::number_of(&mut bytes, &mut ends, 2, 2, b"A");
     tried(
-        t,
+        tally,
         b"the least of two equal names",
         is_number(least, 0, 2, 2),
     )
@@ -153,34 +167,47 @@ fn bad_names(tally: Tally) -> Tally {
     tried(t, b"EF BF BF", joins(&[0xEF, 0xBF, 0xBF], 3))
 }
 
-fn bad_lists(tally: Tally) -> Tally {
+// Each name alone must be UTF-8, and what lies past the bytes in use is no matter.
+fn names_alone(tally: Tally) -> Tally {
     let split = [0xC3, 0xA9];
     let mut t = tried(tally, b"C3 | A9", checked(&split, &[1, 2], 2, 2) == 14);
     t = tried(t, b"C3 A9", checked(&split, &[2, 9], 1, 2) == 0);
-    t = tried(
+    tried(
         t,
         b"anything past the bytes in use",
         checked(&[b'A', 0xFF], &[1, 0], 1, 1) == 0,
-    );
-    t = tried(t, b"ends fall", checked(b"AB", &[2, 1], 2, 1) == 14);
+    )
+}
+
+// Ends that fall, stop short, or pass the bytes.
+fn bad_ends(tally: Tally) -> Tally {
+    let mut t = tried(tally, b"ends fall", checked(b"AB", &[2, 1], 2, 1) == 14);
     t = tried(
         t,
         b"the last end is not the bytes in use",
         checked(b"AB", &[1], 1, 2) == 14,
     );
-    t = tried(
+    tried(
         t,
         b"an end past the bytes",
         checked(b"AB", &[9], 1, 2) == 14,
-    );
-    t = tried(
-        t,
+    )
+}
+
+// No names, with a byte in use and with none.
+fn no_names(tally: Tally) -> Tally {
+    let t = tried(
+        tally,
         b"no names and a byte in use",
         checked(b"AB", &[1], 0, 1) == 14,
     );
-    t = tried(t, b"no names", checked(b"", &[], 0, 0) == 0);
-    t = tried(
-        t,
+    tried(t, b"no names", checked(b"", &[], 0, 0) == 0)
+}
+
+// Numbers in use over what is lent.
+fn numbers_over(tally: Tally) -> Tally {
+    let mut t = tried(
+        tally,
         b"names in use over the places",
         checked(b"AB", &[1], 2, 2) == 15,
     );
@@ -189,7 +216,11 @@ fn bad_lists(tally: Tally) -> Tally {
         b"bytes in use over the bytes",
         checked(b"AB", &[3], 1, 3) == 15,
     );
-    tried(t, b"15 before 14", checked(&split, &[1, 2], 3, 2) == 15)
+    tried(
+        t,
+        b"15 before 14",
+        checked(&[0xC3, 0xA9], &[1, 2], 3, 2) == 15,
+    )
 }
 
 fn places() -> [u32; 4097]
@@ -225,6 +256,8 @@ fn limits(tally: Tally) -> Tally {
 // Runs the cases of names and prints the group's line.
 pub fn run() {
     let start = Tally { cases: 0, wrong: 0 };
-    let t = limits(bad_lists(bad_names(new_names(bytes_full(places_full(start))))));
+    let named = equal_names(new_names(bytes_full(lying(places_full(old_name(start))))));
+    let lists = numbers_over(no_names(bad_ends(names_alone(bad_names(named)))));
+    let t = limits(lists);
     vectors_text::print_group(b"names", t.cases, t.wrong);
 }
