@@ -3,4 +3,3 @@ pub mod Picks
 pub mod Sides
 pub mod Judge
 pub mod Sets
-pub mod Plan

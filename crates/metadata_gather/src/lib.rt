@@ -3,6 +3,5 @@
 pub mod arrivals;
 pub mod judge;
 pub mod picks;
-pub mod plan;
 pub mod sets;
 pub mod sides;

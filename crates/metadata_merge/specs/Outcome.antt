@@ -20,9 +20,9 @@ use Rattle.metadata_rules.specs.Words.{mappingsFrom, mappingWords, intervalWord
 use Rattle.metadata_lists.specs.Names.{Final, placed, layAll}
 use Rattle.metadata_lists.specs.NamesWords.{Stands, stands}
 use Rattle.metadata_gather.specs.Judge.{knownDate, below}
-use Rattle.metadata_gather.specs.Plan.{Planable, both-count, both-size, Shown, fault, shown, endPlan, shownMerged, planOn, planOf, faultOf, bothSides}
-use Rattle.metadata_gather.specs.declared.plan.Planned.{Planned}
-use Rattle.metadata_gather.specs.declared.plan.Planned.the-variants.{Fault, Laid}
+use Rattle.metadata_plan.specs.Plan.{Planable, both-count, both-size, Shown, fault, shown, endPlan, shownMerged, planOn, planOf, faultOf, bothSides}
+use Rattle.metadata_plan.specs.declared.plan.Planned.{Planned}
+use Rattle.metadata_plan.specs.declared.plan.Planned.the-variants.{Fault, Laid}
 use Rattle.metadata_form.specs.declared.header.Header.{Header}
 use Rattle.metadata_form.specs.declared.header.Lengths.{Lengths}
 use Rattle.metadata_form.specs.declared.header.Counts.{Counts}

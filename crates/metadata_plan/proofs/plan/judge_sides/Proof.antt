@@ -1,10 +1,10 @@
 -- `judge_sides` meets its contract: one test after the other. Assumes nothing.
 use mathlib.Core.Path.{_≡_, refl, sym, ap, _∙_, subst}
 use borrow.Author.Tests.{not-true, not-false}
-use Rattle.metadata_gather.specs.Plan.{faultFlat}
+use Rattle.metadata_plan.specs.Plan.{faultFlat}
 use borrow.Author.Needs.{needs}
-use Rattle.metadata_gather.proofs.plan.judge_sides.Statement.{statement}
-use Rattle.metadata_gather.proofs.plan.judge_sides.Tie as tie
+use Rattle.metadata_plan.proofs.plan.judge_sides.Statement.{statement}
+use Rattle.metadata_plan.proofs.plan.judge_sides.Tie as tie
 
 dates-known-requires : tie.Need-dates-known-requires
 dates-known-requires c κs = search needs

@@ -1,11 +1,11 @@
 -- `gather_sides` meets its contract: what is laid behind what is laid are the words of both. Assumes nothing.
 use mathlib.Core.Path.{_≡_, refl, sym, ap, _∙_, subst}
 use denote.Ref.{now}
-use Rattle.metadata_gather.specs.Plan.{left-sound, right-sound, q-small, both-stand}
+use Rattle.metadata_plan.specs.Plan.{left-sound, right-sound, q-small, both-stand}
 use borrow.Author.Needs.{needs}
 use native.Mathlib.Omega.{arith}
-use Rattle.metadata_gather.proofs.plan.gather_sides.Statement.{statement}
-use Rattle.metadata_gather.proofs.plan.gather_sides.Tie as tie
+use Rattle.metadata_plan.proofs.plan.gather_sides.Statement.{statement}
+use Rattle.metadata_plan.proofs.plan.gather_sides.Tie as tie
 
 lose-repeats-requires : tie.Need-lose-repeats-requires
 lose-repeats-requires c κs = left-sound _ _ _ _ _ _ (now (c .before .before .before .before .before .before .before .before .args .both-mappings)) (now (c .before .before .before .before .before .before .before .before .args .both-intervals)) (c .before .before .before .before .before .before .before .before .pre)

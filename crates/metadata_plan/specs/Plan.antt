@@ -23,10 +23,10 @@ use Rattle.metadata_lists.specs.NamesWhole.{HeadOk, collect-by-name, sums-bound
 use Rattle.metadata_lists.specs.NamesWords.{Stands, stands}
 use Rattle.metadata_lists.specs.declared.names.NamesLaid.{NamesLaid}
 use Rattle.metadata_lists.specs.declared.names.NamesLaid.the-variants as names-laid
 use Rattle.metadata_gather.specs.Sides.{Sound, Offs, count-all, lay-append, lost-count, within-of, placed-flat}
 use Rattle.metadata_gather.specs.Judge.{knownDate, dated, below, known, forward, namesTo, rest-all, names-all}
-use Rattle.metadata_gather.specs.declared.plan.Planned.{Planned}
-use Rattle.metadata_gather.specs.declared.plan.Planned.the-variants.{Fault, Laid}
+use Rattle.metadata_plan.specs.declared.plan.Planned.{Planned}
+use Rattle.metadata_plan.specs.declared.plan.Planned.the-variants.{Fault, Laid}
 
 -- the mappings of both sides: the left one's without its repeats, then the right one's
 unfoldable pub bothSides : List ℕ → ℕ → List ℕ → List ℕ → ℕ → List ℕ → List Mapping

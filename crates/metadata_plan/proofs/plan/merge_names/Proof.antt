@@ -4,11 +4,11 @@ use denote.Ref.{now}
 use lib.ListN.{replicate}
 use Rattle.metadata_rules.specs.Metadata.{Merged}
 use Rattle.metadata_lists.specs.Names.{finishNames}
-use Rattle.metadata_gather.specs.Plan.{all-ready, all-by-name, full}
+use Rattle.metadata_plan.specs.Plan.{all-ready, all-by-name, full}
 use borrow.Author.Needs.{needs}
 use native.Mathlib.Omega.{arith}
-use Rattle.metadata_gather.proofs.plan.merge_names.Statement.{statement}
-use Rattle.metadata_gather.proofs.plan.merge_names.Tie as tie
+use Rattle.metadata_plan.proofs.plan.merge_names.Statement.{statement}
+use Rattle.metadata_plan.proofs.plan.merge_names.Tie as tie
 
 slice-aggregate-offsets : tie.Need-slice-aggregate-offsets
 slice-aggregate-offsets c = search needs

@@ -1,12 +1,12 @@
 // The mappings of a merge: both sides gathered, tested whole in document 01's order (11, 3, 1), then merged by name (7), all in
 // scratch. Helpers: the memory was tested before.
-use crate::judge::dates_known;
-use crate::judge::forwards;
-use crate::judge::names_known;
-use crate::judge::symbols_known;
-use crate::sides::Laid;
-use crate::sides::follow;
-use crate::sides::lose_repeats;
+use metadata_gather::judge::dates_known;
+use metadata_gather::judge::forwards;
+use metadata_gather::judge::names_known;
+use metadata_gather::judge::symbols_known;
+use metadata_gather::sides::Laid;
+use metadata_gather::sides::follow;
+use metadata_gather::sides::lose_repeats;
 use metadata_lists::link::link;
 use metadata_lists::link::offsets;
 use metadata_lists::names::NamesLaid;
@@ -19,8 +19,8 @@ ghost use Rattle.metadata_rules.specs.Metadata.{Mapping, enterAll, byName, coun
 ghost use Rattle.metadata_rules.specs.Words.{mappingsFrom};
 ghost use Rattle.metadata_lists.specs.Names.{endNames, finishNames};
 ghost use Rattle.metadata_lists.specs.NamesWords.{Stands};
 ghost use Rattle.metadata_gather.specs.Sides.{Sound};
-ghost use Rattle.metadata_gather.specs.Plan.{faultFlat, Gathered, Linkable, Planable, endPlan, planOf, bothSides};
+ghost use Rattle.metadata_plan.specs.Plan.{faultFlat, Gathered, Linkable, Planable, endPlan, planOf, bothSides};
 
 // The refusals that a plan can give.
 const NO_DATE: u32 = 11;

@@ -3,10 +3,10 @@ use mathlib.Core.Path.{_≡_, refl, sym, ap, _∙_, subst}
 use Prim.Native.Nat.{ℕ}
 use lib.ListN.{length-replicate}
 use denote.Ref.{now}
-use Rattle.metadata_gather.specs.Plan.{endPlan, shownNames, stands-words, stands-spans, plan-gathered, plan-linkable, plan-fault, plan-laid}
+use Rattle.metadata_plan.specs.Plan.{endPlan, shownNames, stands-words, stands-spans, plan-gathered, plan-linkable, plan-fault, plan-laid}
 use borrow.Author.Needs.{needs}
-use Rattle.metadata_gather.proofs.plan.plan.Statement.{statement}
-use Rattle.metadata_gather.proofs.plan.plan.Tie as tie
+use Rattle.metadata_plan.proofs.plan.plan.Statement.{statement}
+use Rattle.metadata_plan.proofs.plan.plan.Tie as tie
 
 slice-aggregate-gather-sides : tie.Need-slice-aggregate-gather-sides
 slice-aggregate-gather-sides c = search needs
