@@ -47,7 +47,7 @@ found-one (Refused r) (Refused q) h k e = ap Refused (refused-one r q e)
 pub looked-one : (x y : Looked) → lookedOf x ≡ lookedOf y → x .hint ≡ y .hint → x ≡ y
 looked-one x y e h = λ i. record { found = found-one (x .found) (y .found) (x .hint) (y .hint) e i; hint = h i }
 
-pub point-one : (x y : Found) → points.foundOf x ≡ points.foundOf y → x ≡ y
+pub point-one : (x y : Found) → points.pointFoundOf x ≡ points.pointFoundOf y → x ≡ y
 point-one (Symbol s) (Symbol t) e = cc
 point-one (Symbol s) Nothing e = let z : _≡_ {A = ℕ} 0 1 = cc in absurd (omega arith)
 point-one (Symbol s) (Refused q) e = absurd (done-or-refused q e)
