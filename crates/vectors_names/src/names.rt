@@ -105,14 +105,20 @@ fn bytes_full(tally: Tally) -> Tally {
     tried(t, b"its end", ends[1] == 1 && bytes[0] == b'A')
 }
 
-// What a new name writes.
-fn new_names(tally: Tally) -> Tally {
+// A name joins an empty list.
+fn first_name(tally: Tally) -> Tally {
     let mut bytes = [9u8; 5];
     let mut ends = [9u32; 3];
     let first = leaves_names::names::number_of(&mut bytes, &mut ends, 0, 0, b"AB");
-    let mut t = tried(tally, b"first name", is_number(first, 0, 1, 2));
+    tried(tally, b"first name", is_number(first, 0, 1, 2))
+}
+
+// What the next new name writes: its bytes and its end behind those in use, and nothing else.
+fn second_name(tally: Tally) -> Tally {
+    let mut bytes = [b'A', b'B', 9, 9, 9];
+    let mut ends = [2u32, 9, 9];
     let second = leaves_names::names::number_of(&mut bytes, &mut ends, 1, 2, b"A");
-    t = tried(t, b"second name", is_number(second, 1, 2, 3));
+    let mut t = tried(tally, b"second name", is_number(second, 1, 2, 3));
     t = tried(
         t,
         b"bytes behind the second",
@@ -256,7 +262,8 @@ fn limits(tally: Tally) -> Tally {
 // Runs the cases of names and prints the group's line.
 pub fn run() {
     let start = Tally { cases: 0, wrong: 0 };
-    let named = equal_names(new_names(bytes_full(lying(places_full(old_name(start))))));
+    let full = bytes_full(lying(places_full(old_name(start))));
+    let named = equal_names(second_name(first_name(full)));
     let lists = numbers_over(no_names(bad_ends(names_alone(bad_names(named)))));
     let t = limits(lists);
     vectors_text::print_group(b"names", t.cases, t.wrong);
