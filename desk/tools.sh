@@ -10,7 +10,8 @@ kit=$(dirname "$(dirname "$(rt doc)")")
 machine=$(uname -m)
 toolchain=$kit/on/$machine/toolchain
 libraries=$kit/toolchain/lib
-archive=target/staticlib/libdoor_map.a
+archive=target/staticlib/libdesk.a
+doors=(door_map door_metadata door_builds door_records)
 strict=(-O2 -Wall -Wextra -pedantic -Werror -Iinclude)
 if [ "$machine" = x86_64 ]; then compiler=(cc) emulator=(); else
     compiler=(x86_64-linux-gnu-gcc -static) emulator=("$toolchain/bin/qemu-x86_64" -cpu qemu64)
@@ -27,7 +28,8 @@ make_archive() {
         rt staticlib "$door" >target/desk/staticlib.log 2>&1 || { cat target/desk/staticlib.log; echo "desk: the archive of $door failed"; return 1; }
     done
     rm -f "$archive"
-    { echo "create $archive"; printf 'addlib target/staticlib/lib%s.a\n' "${doors[@]}"; echo save; echo end; } | "$toolchain/bin/llvm-ar" -M
+    { echo "create $archive"; printf 'addlib target/staticlib/lib%s.a\n' "${doors[@]}"; echo save; echo end; } | "$toolchain/bin/llvm-ar" -M ||
+        { echo 'desk: the archives were not joined'; return 1; }
 }
 
 # desk/NAME.c to target/desk/NAME
