@@ -18,18 +18,19 @@ static void is(int holds, const char *what, int line) {
 
 /* ---- What is lent, all in one piece, so that one comparison finds any change. */
 
-enum { ROOM = 4, POINTS = 3, NAMES = 4, NAME_ROOM = 300, BUFFER = 96 };
+enum { ROOM = 4, POINTS = 3, NAMES = 4, NAME_ROOM = 300, BUFFER = 96, STRETCHES = 6 };
 enum { SYMBOLS, PARTIAL, NOT_FOUND, MAPPINGS, INTERVALS, LISTS }; /* of a metadata */
 enum { LIST_ROOM = 24 };                                          /* words of each */
 
 static struct desk {
     uint64_t hint, moment, reason, stream, place, time;
     uint64_t times[DESK_STREAMS + 1], places[DESK_STREAMS + 1], heads[DESK_STREAMS + 1];
-    size_t used, points_used, names, name_bytes, first, end, streams, held;
+    size_t used, points_used, names, name_bytes, first, end, streams, held, count;
     uint32_t found, symbol, day, date, value, instrument;
     uint32_t ends[NAMES + 1];
     uint16_t length, kind;
     uint8_t table[(ROOM + 1) * DESK_INTERVAL_BYTES], points[(POINTS + 1) * DESK_POINT_BYTES], bytes[NAME_ROOM + 1];
+    uint8_t other[(ROOM + 1) * DESK_INTERVAL_BYTES], stretches[STRETCHES * DESK_STRETCH_BYTES];
     uint8_t marks[DESK_STREAMS + 1], heap[DESK_STREAMS + 1];
     uint64_t header[DESK_HEADER_WORDS + 1];
     uint32_t list[LISTS][LIST_ROOM], field;
@@ -152,6 +153,61 @@ static void test_insert(void) {
     REFUSES(DESK_BAD_MEMORY, insert(1, 5, 6, 0));
     d.used = SIZE_MAX;
     REFUSES(DESK_BAD_MEMORY, insert(1, 5, 6, 0));
+}
+
+/* ---- Two tables side by side: d.table and d.other, 3 names. */
+
+static uint32_t compare(size_t left_used, size_t right_used, size_t room) {
+    return desk_compare(d.table, whole, left_used, d.other, whole, right_used, 3, d.stretches, room * DESK_STRETCH_BYTES, &d.count);
+}
+
+static int stretch_is(size_t i, uint32_t instrument, uint32_t left, uint32_t right, uint64_t start, uint64_t end) {
+    uint8_t row[DESK_STRETCH_BYTES];
+    put(row, 4, instrument);
+    put(row + 4, 4, left);
+    put(row + 8, 4, right);
+    put(row + 12, 8, start);
+    put(row + 20, 8, end);
+    return memcmp(d.stretches + i * DESK_STRETCH_BYTES, row, sizeof row) == 0;
+}
+
+static void test_compare(void) {
+    const uint32_t nothing = DESK_NOTHING;
+    begin();
+    DONE(compare(0, 0, 0));
+    IS(d.count == 0);
+    put_interval(d.table, 0, 7, 0, 10, 30);
+    put_interval(d.other, 0, 7, 1, 15, 18);
+    REFUSES(DESK_NO_ROOM, compare(1, 1, 0));
+    REFUSES(DESK_NO_ROOM, compare(1, 1, 2));
+    DONE(compare(1, 1, 3));
+    IS(d.count == 3 && stretch_is(0, 7, 0, nothing, 10, 15) && stretch_is(1, 7, 0, 1, 15, 18) && stretch_is(2, 7, 0, nothing, 18, 30));
+    IS(all(d.stretches + 3 * DESK_STRETCH_BYTES, sizeof d.stretches - 3 * DESK_STRETCH_BYTES, 0xA5));
+    DONE(compare(1, 0, 6)); /* what is past the number in use is not seen; places past the list keep what they held */
+    IS(d.count == 1 && stretch_is(0, 7, 0, nothing, 10, 30) && stretch_is(1, 7, 0, 1, 15, 18));
+    DONE(compare(0, 1, 1));
+    IS(d.count == 1 && stretch_is(0, 7, nothing, 1, 15, 18));
+    DONE(desk_compare(d.table, whole, 1, d.table, whole, 1, 3, d.stretches, 0, &d.count));
+    IS(d.count == 0);
+    put_interval(d.table, 0, 7, 0, 0, 3);
+    put_interval(d.table, 1, 7, 0, 4, 7);
+    put_interval(d.other, 0, 7, 1, 2, 5);
+    DONE(compare(2, 1, DESK_STRETCHES(2, 1)));
+    IS(d.count == 5 && stretch_is(0, 7, 0, nothing, 0, 2) && stretch_is(1, 7, 0, 1, 2, 3) && stretch_is(2, 7, nothing, 1, 3, 4));
+    IS(stretch_is(3, 7, 0, 1, 4, 5) && stretch_is(4, 7, 0, nothing, 5, 7));
+    put_interval(d.other, 0, 4294967295u, 2, 0, UINT64_MAX);
+    DONE(compare(2, 1, 3));
+    IS(d.count == 3 && stretch_is(0, 7, 0, nothing, 0, 3) && stretch_is(2, 4294967295u, nothing, 2, 0, UINT64_MAX));
+    REFUSES(DESK_BAD_MEMORY, desk_compare(d.table, whole, 2, d.other, whole, 1, 3, d.stretches, 83, &d.count));
+    REFUSES(DESK_BAD_MEMORY, desk_compare(d.table, whole, 2, d.other, whole, 1, 3, d.stretches, 85, &d.count));
+    REFUSES(DESK_BAD_MEMORY, desk_compare(d.table, whole - 1, 2, d.other, whole, 1, 3, d.stretches, 84, &d.count));
+    REFUSES(DESK_BAD_MEMORY, desk_compare(d.table, whole, 2, d.other, whole + 1, 1, 3, d.stretches, 84, &d.count));
+    REFUSES(DESK_BAD_MEMORY, desk_compare(d.table, whole, ROOM + 1, d.other, whole, 1, 3, d.stretches, 84, &d.count));
+    REFUSES(DESK_BAD_MEMORY, desk_compare(d.table, whole, 2, d.other, whole, SIZE_MAX, 3, d.stretches, 84, &d.count));
+    REFUSES(DESK_BAD_MEMORY, desk_compare(d.table, whole, 2, d.other, whole, 1, DESK_NAMES + 1, d.stretches, 84, &d.count));
+    REFUSES(DESK_ILL_FORMED, desk_compare(d.table, whole, 2, d.other, whole, 1, 2, d.stretches, 0, &d.count));
+    REFUSES(DESK_ILL_FORMED, compare(3, 1, 3));
+    REFUSES(DESK_ILL_FORMED, compare(2, 2, 0));
 }
 
 static int finds(uint32_t instrument, uint64_t moment, uint64_t hint, uint32_t found, uint32_t symbol, uint64_t new_hint) {
@@ -1462,6 +1518,7 @@ int main(void) {
     test_check();
     test_limits();
     test_insert();
+    test_compare();
     test_get_for_ts();
     test_names();
     test_mapping_calls();

@@ -31,6 +31,9 @@ extern "C" {
 
 /* The numbers the desk lives by. */
 #define DESK_INTERVAL_BYTES 24    /* of a table over time: instrument 4, symbol 4, start 8, end 8, little-endian */
+#define DESK_STRETCH_BYTES 28     /* of a stretch in which two tables disagree: instrument 4, left symbol 4, right symbol 4, start 8, end 8 */
+#define DESK_NOTHING 4294967295u  /* in a stretch: no symbol on this side */
+#define DESK_STRETCHES(l, r) (2 * ((size_t)(l) + (size_t)(r))) /* the stretches of two tables with so many in use fit this room */
 #define DESK_POINT_BYTES 8        /* of a point-in-time table: instrument 4, symbol 4, little-endian */
 #define DESK_ROOM 65536           /* the most intervals, or entries, that a table's memory may hold */
 #define DESK_NAMES 4096           /* the most names of a list */
@@ -111,6 +114,15 @@ uint32_t desk_get_for_ts(const uint8_t *table, size_t table_len, size_t used, ui
 uint32_t desk_on_record(uint8_t *table, size_t table_len, size_t *used, uint8_t *bytes, size_t bytes_len, uint32_t *ends,
                         size_t ends_len, size_t *names, size_t *name_bytes, const uint8_t *record, size_t record_len,
                         uint64_t *reason);
+
+/* Two tables of one name list side by side: every stretch of time in which they disagree, as long as can be, sorted by instrument
+ * and start, each once, 28 bytes each: instrument, the left table's symbol or DESK_NOTHING, the right one's, start and end. At
+ * every moment outside them both tables give the same answer. The tables are only read, and may be the same memory. When done
+ * *count is the number of stretches, which stand from the front of `stretches`; places past them keep what they held. After a
+ * refusal *count and every byte of `stretches` are as they were. 15, also where stretches_len is no multiple of 28; 14 for either
+ * table; 2, judged on the whole list: room for DESK_STRETCHES(left_used, right_used) always suffices. */
+uint32_t desk_compare(const uint8_t *left, size_t left_len, size_t left_used, const uint8_t *right, size_t right_len,
+                      size_t right_used, size_t names, uint8_t *stretches, size_t stretches_len, size_t *count);
 
 /* ---- The point-in-time table: bytes, 8 an entry, of which `used` entries from the front are in use. */
 

@@ -2,3 +2,4 @@ pub mod Sections
 pub mod SectionsLaws
 pub mod Lines
 pub mod LinesLaws
+pub mod Parts

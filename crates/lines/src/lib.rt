@@ -1,4 +1,5 @@
 // Lines of text and sections of input, which the programs share.
 pub mod copy;
 pub mod lines;
+pub mod parts;
 pub mod sections;

@@ -7,6 +7,7 @@ pub mod Cuts
 pub mod Lookup
 pub mod Places
 pub mod Rules
+pub mod Fronts
 pub mod History
 pub mod Memory
 pub mod MemoryLaws

@@ -1,10 +1,11 @@
--- The answers of `map_time` and of the mapping call: two that say the same number and the same values are one answer. Assumes nothing.
+-- The answers of `map_time`, of the comparison and of the mapping call: two that say the same number and the same values are one answer. Assumes nothing.
 use mathlib.Core.Path.{_≡_, refl, sym, ap, ap₂, _∙_}
 use Prim.Native.Nat.{ℕ}
 use native.Mathlib.Omega.{arith}
 use Rattle.leaves.specs.FrameLaws.{refused-one}
 use Rattle.map_time.specs.Table.{checkedOf}
 use Rattle.map_time.specs.Insert.{insertedOf}
+use Rattle.map_compare.specs.Compare.{comparedOf}
 use Rattle.map_look.specs.Lookup.{foundOf, lookedOf}
 use Rattle.map_point.specs.Points as points
 use Rattle.map_record.specs.Mapping.{recordedOf}
@@ -12,6 +13,8 @@ use Rattle.map_time.specs.declared.table.Checked.{Checked}
 use Rattle.map_time.specs.declared.table.Checked.the-variants as checked
 use Rattle.map_time.specs.declared.insert.Inserted.{Inserted}
 use Rattle.map_time.specs.declared.insert.Inserted.the-variants as inserted
+use Rattle.map_compare.specs.declared.compare.Compared.{Compared}
+use Rattle.map_compare.specs.declared.compare.Compared.the-variants as compared
 use Rattle.map_look.specs.declared.lookup.Found.{Found}
 use Rattle.map_look.specs.declared.lookup.Found.the-variants.{Symbol, Nothing, Refused}
 use Rattle.map_look.specs.declared.lookup.Looked.{Looked}
@@ -30,6 +33,12 @@ inserted-one (inserted.Done m) (inserted.Done n) e = cc
 inserted-one (inserted.Done m) (inserted.Refused q) e = absurd (done-or-refused q e)
 inserted-one (inserted.Refused r) (inserted.Done n) e = absurd (done-or-refused r (sym e))
 inserted-one (inserted.Refused r) (inserted.Refused q) e = ap inserted.Refused (refused-one r q e)
+
+pub compared-one : (x y : Compared) → comparedOf x ≡ comparedOf y → x ≡ y
+compared-one (compared.Done m) (compared.Done n) e = cc
+compared-one (compared.Done m) (compared.Refused q) e = absurd (done-or-refused q e)
+compared-one (compared.Refused r) (compared.Done n) e = absurd (done-or-refused r (sym e))
+compared-one (compared.Refused r) (compared.Refused q) e = ap compared.Refused (refused-one r q e)
 
 -- what is found, where the hints are the same: a cursor's answer
 pub found-one : (x y : Found) (h k : ℕ) → foundOf x h ≡ foundOf y k → x ≡ y

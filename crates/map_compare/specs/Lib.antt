@@ -1,0 +1,5 @@
+pub mod Walk
+pub mod WalkLaws
+pub mod TurnLaws
+pub mod Compare
+pub mod CompareLaws
