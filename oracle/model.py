@@ -1,4 +1,4 @@
-"""A plain model of document 01 and of the requests of document 02 that have landed, written from their text alone.
+"""A plain model of document 01, written from its text and from nothing else.
 
 It is slow and short. A call that is refused raises Refused and so leaves lent memory alone; a build, which empties its
 table on a refusal, hands it back. Tables are bytes, 24 an interval over time and 8 an entry at a point in time;
@@ -245,7 +245,8 @@ def get_for_ts(table, used, instrument, moment, hint):
     return looked_up(rows_of(table, used), instrument, moment, hint)
 
 
-# Two tables side by side (02, No. 1). A stretch is (instrument, start, end, left symbol or None, right symbol or None).
+# Two tables side by side (RULES, Requests, No. 1). A stretch is (instrument, start, end, left symbol, right symbol), of
+# which one symbol may be None.
 
 STRETCH = Struct("<IIIQQ")
 NOTHING = 2**32 - 1

@@ -1,5 +1,5 @@
 #!/usr/bin/env python3
-"""M1 to M12 of document 01, the traps B1 to B45 of its reading and T1 to T20 of 02, No. 1, as cases with their answers.
+"""The printed examples M1 to M12 of document 01 and the traps B1 to B45 of its reading, as cases with their answers.
 
 traps.py checks the model on them. traps.py cases, traps.py answers print them for another program.
 """
@@ -349,6 +349,8 @@ def merge_traps():
 
 
 def compare_traps():
+    """Two tables side by side (RULES, Requests, No. 1)."""
+
     def on(*rows, instrument=7):
         return [(instrument, *row) for row in rows]
 
@@ -394,8 +396,11 @@ def compare_traps():
     yield "T19", comparing([(least, 0, 1, A), (greatest, 0, 1, A)], [(greatest, 0, 1, B)], *far)
     for rows in ([], a, left, often):
         yield "T20", (words("compare_self", table(4, *rows), len(rows), 3, b"", 77), words(0, 0, b""))
-    count, empty = section(2, b"\3\0\0\0"), section(3, b"")
-    one = section(3, table(1, *a))
+
+
+def compare_program_traps():
+    """The same by the program: a name count and two tables, a section each."""
+    count, empty, one = section(2, b"\3\0\0\0"), section(3, b""), section(3, table(1, (7, 10, 20, A)))
     bad = [b"", count + empty * 3, empty * 2 + count, count + empty * 2 + b"\0", section(2, b"\3\0\0") + empty * 2]
     for bundle in (*bad, count + empty, count * 2 + empty, count + empty + section(1, b"")):
         yield "T program", (words("compare_program", bundle), words(b"bad bundle\n"))
@@ -407,8 +412,8 @@ def compare_traps():
 
 
 def traps():
-    parts = [examples, map_traps, name_traps, record_traps, build_traps, metadata_traps, merge_traps, compare_traps]
-    for part in parts:
+    base = [examples, map_traps, name_traps, record_traps, build_traps, metadata_traps, merge_traps]
+    for part in (*base, compare_traps, compare_program_traps):
         yield from part()
 
 
@@ -425,4 +430,3 @@ if __name__ == "__main__":
                 print(f"{name}: {case}\n  asked {said}\n  model {answers.answer(case)}")
         print(f"traps: {len(list(traps()))} cases, {wrong} wrong")
         sys.exit(1 if wrong else 0)
-
