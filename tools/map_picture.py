@@ -13,7 +13,7 @@ WIDTH, LEFT, RIGHT = 1280, 180, 1212  # the picture; its time axis, behind which
 BAND, GAP, PAD = 18, 3, 9  # a band's height, what is between two, what is above and below those of an instrument
 BLOCK = 3 * BAND + 2 * GAP + 2 * PAD
 AXIS, GROUP = 32, 12  # the height of the time axis with its labels, and the instruments after which it stands again
-TEXT, WORD = 668, 720  # a character's width in names and times, and elsewhere at most, in hundredths of a pixel
+TEXT = 668  # a character's width in names and times, in hundredths of a pixel
 LEGEND_ROWS, LEGEND_NAME = 3, 24  # the most rows of symbols, and the most characters of a name in them
 BANDS = ["left", "right", "differs"]
 DIFFERENCE = "d"
@@ -68,8 +68,9 @@ def header(said):
 # Shapes.
 
 
-def text(x, y, kind, said, anchor="start"):
-    return f'<text x="{x}" y="{y}" class="{kind}" text-anchor="{anchor}">{escape(said)}</text>'
+def text(x, y, kind, said, anchor=None):
+    anchored = f' text-anchor="{anchor}"' if anchor else ""
+    return f'<text x="{x}" y="{y}" class="{kind}"{anchored}>{escape(said)}</text>'
 
 
 def line(x1, y1, x2, y2, kind):

@@ -1,5 +1,5 @@
-"""What the scripts at the root share that are written in Python: a proved program run on sections, and text maps read,
-with an error told in full on standard error and nothing half printed."""
+"""What the scripts at the root that are written in Python share: text maps read, a proved program run on sections, and
+output that is whole or not there, with a status of 2 and the reason on standard error."""
 
 import os
 import signal
@@ -29,15 +29,23 @@ def run(name, main, words):
     except Exception as error:  # a traceback would end with 1, which is an answer
         why = f"broke off: {error!r}"
     if why:
-        write(2, f"{name}: {why}\n")
+        tell(f"{name}: {why}\n")
     return FAILED
 
 
 def write(to, text):
     """Writes a whole text to an open file."""
-    left = text.encode("utf-8", "surrogateescape")
+    left = memoryview(text.encode("utf-8", "surrogateescape"))
     while left:
         left = left[os.write(to, left) :]
+
+
+def tell(text):
+    """Writes a text to standard error; where that can't be, the status alone tells."""
+    try:
+        write(2, text)
+    except OSError:
+        pass
 
 
 def put(text):
@@ -61,7 +69,7 @@ def read_maps(paths):
         bad += [f"{path}:{number}: {reason}\n" for number, reason in lines]
     if bad:
         more = len(bad) - BAD_LINES
-        write(2, "".join(bad[:BAD_LINES]) + (f"and {more} bad lines more\n" if more > 0 else ""))
+        tell("".join(bad[:BAD_LINES]) + (f"and {more} bad lines more\n" if more > 0 else ""))
         raise Stop
     return maps, names.all()
 

@@ -111,8 +111,8 @@ class TextMap:
 
 
 def quoted(word):
-    """A word of a map, to be shown in a message."""
-    shown = written_name(word)
+    """A word of a map as it stands there, to be shown in a message."""
+    shown = "".join(char if char.isprintable() else escaped(char) for char in word.decode("utf-8", "surrogateescape"))
     return shown if len(shown) <= 60 else shown[:57] + "..."
 
 
