@@ -430,3 +430,4 @@ if __name__ == "__main__":
                 print(f"{name}: {case}\n  asked {said}\n  model {answers.answer(case)}")
         print(f"traps: {len(list(traps()))} cases, {wrong} wrong")
         sys.exit(1 if wrong else 0)
+
