@@ -219,6 +219,24 @@ static void get_for_ts(void) {
     put_number(hint);
 }
 
+/* Two tables side by side, or one that is lent as both. */
+static void compare(int itself) {
+    size_t left_len, right_len, list_len;
+    const uint8_t *left = bytes(&left_len), *right = left;
+    size_t left_used = number(), right_used = left_used;
+    right_len = left_len;
+    if (!itself) {
+        right = bytes(&right_len);
+        right_used = number();
+    }
+    size_t names = number();
+    uint8_t *stretches = bytes(&list_len);
+    size_t count = number();
+    put_number(desk_compare(left, left_len, left_used, right, right_len, right_used, names, stretches, list_len, &count));
+    put_number(count);
+    put_bytes(stretches, list_len);
+}
+
 static void get_point(void) {
     size_t len;
     const uint8_t *table = bytes(&len);
@@ -719,6 +737,8 @@ static void answer_case(void) {
     else if (is(kind, len, "check")) check(desk_check);
     else if (is(kind, len, "insert")) insert();
     else if (is(kind, len, "get_for_ts")) get_for_ts();
+    else if (is(kind, len, "compare")) compare(0);
+    else if (is(kind, len, "compare_self")) compare(1);
     else if (is(kind, len, "check_point")) check(desk_check_points);
     else if (is(kind, len, "get_point")) get_point();
     else if (is(kind, len, "naming")) naming();

@@ -230,6 +230,23 @@ def get_for_ts(case):
     return words(answer, int(symbol is not None), symbol or 0, hint)
 
 
+def compare(case):
+    left, left_used, right, right_used = case.bytes(), case.number(), case.bytes(), case.number()
+    return comparison(case, left, left_used, right, right_used)
+
+
+def compare_self(case):
+    table, used = case.bytes(), case.number()
+    return comparison(case, table, used, table, used)
+
+
+def comparison(case, *tables):
+    names, stretches, count = case.number(), case.bytes(), case.number()
+    answer, new = answer_of(lambda: model.compare(*tables, names, stretches))
+    stretches, count = new or (stretches, count)
+    return words(answer, count, stretches)
+
+
 def check_point(case):
     return words(answer_of(lambda: model.check_point(case.bytes(), case.number(), case.number()))[0])
 
@@ -293,6 +310,10 @@ def replay(case):
     return words(model.replay(case.bytes()).encode())
 
 
+def compare_program(case):
+    return words(model.compare_program(case.bytes()).encode())
+
+
 KINDS = {
     "map": map_,
     "mappings": mappings,
@@ -308,6 +329,8 @@ KINDS = {
     "check": check,
     "insert": insert,
     "get_for_ts": get_for_ts,
+    "compare": compare,
+    "compare_self": compare_self,
     "check_point": check_point,
     "get_point": get_point,
     "naming": naming,
@@ -320,6 +343,7 @@ KINDS = {
     "merge_metadata": merge_metadata,
     "streams": streams,
     "replay": replay,
+    "compare_program": compare_program,
 }
 
 

@@ -1,5 +1,6 @@
 """Cases about lent memory: good ones with a little room to spare, and damaged copies of them."""
 
+from itertools import product
 from struct import pack
 
 import model
@@ -21,8 +22,9 @@ def damaged(rng, text):
     return text[:at] + bytes([rng.choice([0, 1, 255, text[at] ^ 1 << rng.randrange(8)])]) + text[at + 1 :]
 
 
-def any_rows(rng, names):
-    rows = []
+def any_rows(rng, names, rows=()):
+    """These rows with a few more inserted."""
+    rows = list(rows)
     for _ in range(rng.randrange(6)):
         start, end = sorted(rng.choice([rng.randrange(10), TOP - rng.randrange(3)]) for _ in range(2))
         if names:
@@ -33,7 +35,10 @@ def any_rows(rng, names):
 
 def any_table(rng, names, faults):
     """A table with some places to spare that hold anything, and its number in use."""
-    rows = any_rows(rng, names)
+    return table_of(rng, any_rows(rng, names), faults)
+
+
+def table_of(rng, rows, faults):
     table = model.laid(b"", 0, rows) + rng.randbytes(24 * rng.choice([0, 0, 1, 2, 3]))
     return with_faults(rng, table, len(rows), faults)
 
@@ -131,6 +136,20 @@ def table_case(rng, faults):
     return words("insert", table, used, names, instrument, start, end, rng.randrange(4))
 
 
+def compare_case(rng, faults):
+    """Two tables that often have much in common, and a list whose room is about what they need."""
+    names = rng.choice([0, *[3] * 12, 4096, 4097])
+    left = any_rows(rng, min(names, 3))
+    right = any_rows(rng, min(names, 3), left if rng.random() < 0.5 else ())
+    need = len(model.disagreements(left, right))
+    room = rng.choice([need, need, max(0, need - 1), need + 2, 0])
+    known = rng.randrange(3) if rng.random() < faults / 2 else names
+    given = known, rng.randbytes(28 * room + (rng.random() < faults / 4)), rng.randrange(9)
+    if rng.random() < 0.1:
+        return words("compare_self", *table_of(rng, left, faults), *given)
+    return words("compare", *table_of(rng, left, faults / 2), *table_of(rng, right, faults / 2), *given)
+
+
 def point_case(rng, faults):
     names = rng.choice([0, *[3] * 12, 4097])
     table, used = any_points(rng, min(names, 3), faults)
@@ -197,10 +216,21 @@ def stream_case(rng, faults):
     return words("streams", b"".join(streams), cuts, hints)
 
 
+def short_comparisons(moments):
+    """All pairs of tables of one instrument over so many moments and two symbols."""
+    symbols = product((None, 0, 1), repeat=moments)
+    maps = [model.runs([(m, m + 1, s) for m, s in enumerate(given) if s is not None]) for given in symbols]
+    tables = [(model.laid(b"", 0, [(1, *run) for run in runs]), len(runs)) for runs in maps]
+    for left, right in product(tables, repeat=2):
+        yield words("compare", *left, *right, 2, bytes(28 * 2 * (left[1] + right[1])), 0)
+
+
 def over_limits():
     """Memory at a limit and one over it."""
     for places in (model.ROOM, model.ROOM + 1):
         yield words("check", bytes(24 * places), 0, 0)
+        yield words("compare", bytes(24 * places), 0, b"", 0, 0, b"", 0)
+        yield words("compare", b"", 0, bytes(24 * places), 0, 0, b"", 0)
         yield words("check_point", bytes(8 * places), 0, 0)
         yield words("naming", NameList(bytes(places), [0], 0, 0), b"A")
     for places in (model.NAMES, model.NAMES + 1):
@@ -213,7 +243,8 @@ def over_limits():
 
 def cases(rng, long):
     yield from over_limits()
-    parts = [name_case, table_case, point_case, record_case, build_case, metadata_case, stream_case]
+    yield from short_comparisons(5 if long else 3)
+    parts = [name_case, table_case, point_case, record_case, build_case, metadata_case, stream_case, compare_case]
     for faults in (0, 0.3):
         for part in parts:
             for _ in range(20_000 if long else 2_000):

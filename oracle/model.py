@@ -245,6 +245,56 @@ def get_for_ts(table, used, instrument, moment, hint):
     return looked_up(rows_of(table, used), instrument, moment, hint)
 
 
+# Two tables side by side (RULES, Requests, No. 1). A stretch is (instrument, start, end, left symbol, right symbol), of
+# which one symbol may be None.
+
+STRETCH = Struct("<IIIQQ")
+NOTHING = 2**32 - 1
+
+
+def symbol_at(rows, instrument, moment):
+    return next((s for i, start, end, s in rows if i == instrument and start <= moment < end), None)
+
+
+def disagreements(left, right):
+    """The longest stretches over which both tables have one answer each and the two differ, by instrument and start."""
+    found = []
+    for instrument in sorted({row[0] for row in left + right}):
+        sides = [[row for row in rows if row[0] == instrument] for rows in (left, right)]
+        points = sorted({point for rows in sides for row in rows for point in row[1:3]})
+        for a, b in zip(points, points[1:]):
+            pair = tuple(symbol_at(rows, instrument, a) for rows in sides)
+            if pair[0] == pair[1]:
+                continue
+            if found and (found[-1][0], *found[-1][2:]) == (instrument, a, *pair):
+                found[-1] = (instrument, found[-1][1], b, *pair)
+            else:
+                found.append((instrument, a, b, *pair))
+    return found
+
+
+def compared(left, left_used, right, right_used, names):
+    """The stretches of two tables with one name list, both of which are checked."""
+    test_table(left, left_used)
+    test_table(right, right_used)
+    refuse_if(names > NAMES, 15)
+    left, right = rows_of(left, left_used), rows_of(right, right_used)
+    test_rows(left, names)
+    test_rows(right, names)
+    return disagreements(left, right)
+
+
+def compare(left, left_used, right, right_used, names, stretches):
+    """The list's bytes and the number of its stretches; places past them keep what they held."""
+    refuse_if(len(stretches) % STRETCH.size, 15)
+    found = compared(left, left_used, right, right_used, names)
+    refuse_if(len(found) > len(stretches) // STRETCH.size, 2)
+    written = b""
+    for instrument, start, end, *pair in found:
+        written += STRETCH.pack(instrument, *(NOTHING if symbol is None else symbol for symbol in pair), start, end)
+    return written + stretches[len(written) :], len(found)
+
+
 # The point-in-time table. An entry is (instrument, symbol).
 
 ENTRY = Struct("<II")
@@ -618,26 +668,27 @@ class RecordMerge:
         return None
 
 
-# The replay program.
+# Programs. A section is (kind, content).
 
 
 def sections(bundle):
-    """The streams of a bundle; None where it can't be taken apart."""
-    streams, at = [], 0
+    """The sections of a bundle; None where it can't be taken apart."""
+    found, at = [], 0
     while at < len(bundle):
         length, kind = int.from_bytes(bundle[at : at + 4], "little"), int.from_bytes(bundle[at + 4 : at + 6], "little")
-        if len(bundle) - at < 6 or length < 6 or kind != 1 or length > len(bundle) - at:
+        if len(bundle) - at < 6 or length < 6 or length > len(bundle) - at:
             return None
-        streams.append(bundle[at + 6 : at + length])
+        found.append((kind, bundle[at + 6 : at + length]))
         at += length
-    return streams if 1 <= len(streams) <= STREAMS and len(bundle) <= 60_000 else None
+    return found
 
 
 def replay(bundle):
     """All that the replay program prints."""
-    streams = sections(bundle)
-    if streams is None:
+    found = sections(bundle)
+    if not found or len(found) > STREAMS or any(kind != 1 for kind, _ in found) or len(bundle) > 60_000:
         return "bad bundle\n"
+    streams = [stream for _, stream in found]
     cuts = [sum(map(len, streams[:n])) for n in range(len(streams) + 1)]
     merge, lines = RecordMerge(b"".join(streams), cuts, []), []
     while True:
@@ -651,3 +702,17 @@ def replay(bundle):
             return "".join(lines) + "end\n"
         stream, _, _, _, instrument, time = record
         lines.append(f"{stream} {time} {instrument}\n")
+
+
+def compare_program(bundle):
+    """All that the compare program prints: a name count of 4 bytes, kind 2, then both tables, kind 3."""
+    found = sections(bundle)
+    if found is None or [kind for kind, _ in found] != [2, 3, 3] or len(found[0][1]) != 4 or len(bundle) > 3_145_750:
+        return "bad bundle\n"
+    names, left, right = (content for _, content in found)
+    try:
+        stretches = compared(left, len(left) // 24, right, len(right) // 24, int.from_bytes(names, "little"))
+    except Refused as refused:
+        return f"refused {refused.answer[0]}\n"
+    lines = (["-" if word is None else str(word) for word in stretch] for stretch in stretches)
+    return "".join(" ".join(line) + "\n" for line in lines) + "end\n"

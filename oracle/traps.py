@@ -12,7 +12,7 @@ import model
 from answer import words
 from model import DAY, NO_SCHEMA, TOP, Lent, NameList
 
-A, B, UNKNOWN = 0, 1, 9
+A, B, C, UNKNOWN = 0, 1, 2, 9
 
 
 def table(room, *rows, rest=0):
@@ -41,6 +41,30 @@ def finding(rows, instrument, moment, hint, symbol, new_hint, number=0, used=Non
 
 def checking(rows, number, names=2):
     return words("check", table(len(rows), *rows), len(rows), names), str(number)
+
+
+def stretches(room, *rows):
+    """A list's memory with these stretches, and the rest of its room filled with 9s."""
+    sides = [[model.NOTHING if symbol is None else symbol for symbol in row[3:]] for row in rows]
+    written = b"".join(model.STRETCH.pack(row[0], *pair, *row[1:3]) for row, pair in zip(rows, sides))
+    return written + bytes([9]) * (28 * room - len(written))
+
+
+def comparing(left, right, *after, room=8):
+    """A comparison of tables with these rows: its stretches."""
+    tables = table(len(left), *left), len(left), table(len(right), *right), len(right)
+    return words("compare", *tables, 3, stretches(room), 77), words(0, len(after), stretches(room, *after))
+
+
+def not_comparing(left, right, number, room=8, names=3, more=b""):
+    """A refused comparison of tables with these rows, with some bytes more in the list: list and count stay."""
+    tables = table(len(left), *left), len(left), table(len(right), *right), len(right)
+    lent = stretches(room) + more
+    return words("compare", *tables, names, lent, 77), words(number, 77, lent)
+
+
+def section(kind, content):
+    return (6 + len(content)).to_bytes(4, "little") + kind.to_bytes(2, "little") + content
 
 
 def listing(*names, places=None, room=None):
@@ -325,8 +349,72 @@ def merge_traps():
         yield "B43", (words("replay", bundle), words(text.encode()))
 
 
+def compare_traps():
+    """Two tables side by side (RULES, Requests, No. 1)."""
+
+    def on(*rows, instrument=7):
+        return [(instrument, *row) for row in rows]
+
+    a = on((10, 20, A))
+    yield "T1", comparing(a, a, room=0)
+    yield "T2", comparing(a, [], *on((10, 20, A, None)))
+    yield "T2", not_comparing(a, [], 2, room=0)
+    three = on((10, 15, A, None), (15, 18, A, B), (18, 30, A, None))
+    yield "T3", comparing(on((10, 30, A)), on((15, 18, B)), *three, room=3)
+    yield "T3", not_comparing(on((10, 30, A)), on((15, 18, B)), 2, room=2)
+    yield "T4", comparing(on((0, 10, A)), on((0, 5, B), (5, 10, C)), *on((0, 5, A, B), (5, 10, A, C)))
+    both = on((0, 10, A), (10, 20, B))
+    yield "T5", comparing(both, on((0, 20, A)), *on((10, 20, B, A)))
+    yield "T6", comparing(both, on((0, 10, B), (10, 20, A)), *on((0, 10, A, B), (10, 20, B, A)))
+    yield "T7", comparing(on((0, 5, A), (6, 10, A)), on((0, 10, A)), *on((5, 6, None, A)))
+    apart = [(1, 0, 5, A, None), (2, 0, 5, None, A)]
+    yield "T8", comparing([(1, 0, 5, A)], [(2, 0, 5, A)], *apart)
+    two = [(1, 10, 20, A), (2, 20, 30, A)]
+    yield "T9", comparing(two, [], *((*row, None) for row in two))
+    yield "T10", comparing(on((0, TOP, A)), on((0, TOP, B)), *on((0, TOP, A, B)))
+    yield "T11", comparing(on((0, 5, 0)), on((0, 5, 1)), *on((0, 5, 0, 1)))  # whatever the bytes of the two names
+    bad = on((7, 6, A))
+    yield "T12", not_comparing(bad, [], 15, room=0, more=bytes(27))
+    yield "T12", not_comparing(bad, [], 14, room=1)
+    yield "T12", not_comparing(bad, bad, 14, room=0)
+    yield "T12", not_comparing(bad, [], 15, names=4097)
+    yield "T12", (words("compare", table(1, *bad), 1, b"\0", 0, 3, b"", 77), words(15, 77, b""))
+    left, right = on((0, 3, A), (4, 7, A)), on((2, 5, B))
+    five = on((0, 2, A, None), (2, 3, A, B), (3, 4, None, B), (4, 5, A, B), (5, 7, A, None))
+    yield "T13", comparing(left, right, *five)
+    unseen = table(2, *on((0, 5, A), (6, 9, B))), 1, table(1, *a), 0
+    yield "T14", (words("compare", *unseen, 3, stretches(2), 77), words(0, 1, stretches(2, *on((0, 5, A, None)))))
+    yield "T15", not_comparing([], bad, 14, room=0)
+    often = on((0, 10, A), (20, 30, B), (40, 50, A))
+    cut = on((10, 20, A, None), (20, 30, A, B), (30, 40, A, None), (50, 100, A, None))
+    yield "T16", comparing(on((0, 100, A)), often, *cut)
+    onward = on((5, 10, A), (10, 15, B), (20, 25, A)) + [(9, 0, 1, A)]
+    alone = on((0, 5, A, None), (10, 15, None, B), (20, 25, None, A)) + [(9, 0, 1, None, A)]
+    yield "T17", comparing(on((0, 10, A)), onward, *alone)
+    yield "T18", not_comparing(on((0, 5, 2)), [], 14, names=2)
+    least, greatest = 0, 2**32 - 1
+    far = [(least, 0, 1, A, None), (greatest, 0, 1, A, B)]
+    yield "T19", comparing([(least, 0, 1, A), (greatest, 0, 1, A)], [(greatest, 0, 1, B)], *far)
+    for rows in ([], a, left, often):
+        yield "T20", (words("compare_self", table(4, *rows), len(rows), 3, b"", 77), words(0, 0, b""))
+
+
+def compare_program_traps():
+    """The same by the program: a name count and two tables, a section each."""
+    count, empty, one = section(2, b"\3\0\0\0"), section(3, b""), section(3, table(1, (7, 10, 20, A)))
+    bad = [b"", count + empty * 3, empty * 2 + count, count + empty * 2 + b"\0", section(2, b"\3\0\0") + empty * 2]
+    for bundle in (*bad, count + empty, count * 2 + empty, count + empty + section(1, b"")):
+        yield "T program", (words("compare_program", bundle), words(b"bad bundle\n"))
+    printed = [(count + empty * 2, "end"), (count + one + empty, "7 10 20 0 -\nend")]
+    printed += [(count + empty + one, "7 10 20 - 0\nend"), (count + section(3, bytes(25)) + empty, "refused 15")]
+    printed += [(section(2, b"\1\x10\0\0") + empty * 2, "refused 15"), (section(2, bytes(4)) + one * 2, "refused 14")]
+    for bundle, text in printed:
+        yield "T program", (words("compare_program", bundle), words(text.encode() + b"\n"))
+
+
 def traps():
-    for part in (examples, map_traps, name_traps, record_traps, build_traps, metadata_traps, merge_traps):
+    base = [examples, map_traps, name_traps, record_traps, build_traps, metadata_traps, merge_traps]
+    for part in (*base, compare_traps, compare_program_traps):
         yield from part()
 
 
