@@ -1,15 +1,15 @@
 -- Calls of the code, one after the other: their answers are the machine's from the same statuses on, however the heap is arranged.
 -- Assumes nothing.
 use mathlib.Core.Path.{_≡_, refl, sym, ap, ap₂, _∙_}
-use Prim.Native.Nat.{ℕ, zero, suc, _<_}
+use Prim.Native.Nat.{ℕ, zero, suc, _≤_, _<_}
 use native.Mathlib.Omega.{arith}
 use mathlib.Core.List.{List, [], _∷_, _++_, map}
-use lib.ListN.{length, getD, replicate}
+use lib.ListN.{length, getD, take, replicate}
 use Rattle.theory.specs.Answer.{Answer}
 use Rattle.records_rules.specs.Machine.{Stream, record-at, damage-at, own, Status, says, end, Turn, turn, answersF, upTo, runF, start, mine}
 use Rattle.records_rules.specs.Machine as machine
 use Rattle.records_rules.specs.Kept.{size, total, TurnOk, next-ok}
-use Rattle.records_rules.specs.Whole.{bytes, run, run-same, stays, total-start, counted, total-counted}
+use Rattle.records_rules.specs.Whole.{bytes, run, run-ends, run-calls, Ends, stays, total-start, counted}
 use Rattle.records_rules.specs.Literal.{literalRun, told-run, told-keeps}
 use Rattle.records_rules.specs.View.{statusesOf, length-tab}
 use Rattle.records_rules.specs.State.{answerOf, padded, Says, StreamsOpened}
@@ -61,44 +61,51 @@ unfolding answersF machine.answer machine.rest
 ended zero b ss e = refl
 ended (suc f) b ss e = rw e (ap (λ (xs : List machine.Answer). end ∷ xs) (ended f b ss e))
 
--- f calls, more than there are answers to come: the run, and the end as often as calls are left
-answers-run : (f : ℕ) (b : ℕ → Stream) (ss : List Status) → total b ss < f → (k : ℕ) × (answersF f b ss ≡ runF f b ss ++ replicate k end)
+take-same : (f m : ℕ) (x : machine.Answer) → f ≤ m → take f (replicate m x) ≡ replicate f x
+take-same zero m x h = refl
+take-same (suc f) zero x h = absurd (omega arith)
+take-same (suc f) (suc m) x h = ap (λ (xs : List machine.Answer). x ∷ xs) (take-same f m x (omega arith))
+
+-- f calls: the first f of the run and then of the end again and again
+answers-first : (f g m : ℕ) (b : ℕ → Stream) (ss : List Status) → total b ss < g → f ≤ m → answersF f b ss ≡ take f (runF g b ss ++ replicate m end)
 unfolding answersF runF upTo machine.answer machine.rest size
-answers-run zero b ss h = absurd (omega arith)
-answers-run (suc f) b ss h = go (machine.next b ss) refl (next-ok b ss) (λ ss' k. answers-run f b ss' k)
+answers-first zero g m b ss h l = refl
+answers-first (suc f) zero m b ss h l = absurd (omega arith)
+answers-first (suc f) (suc g) m b ss h l = go (machine.next b ss) refl (next-ok b ss) (λ ss' k. answers-first f g m b ss' k (omega arith))
   where
     go : (r : Turn) → machine.next b ss ≡ r → TurnOk b ss r
-        → ((ss' : List Status) → total b ss' < f → (k : ℕ) × (answersF f b ss' ≡ runF f b ss' ++ replicate k end))
-        → (k : ℕ) × (machine.answer r ∷ answersF f b (machine.rest r) ≡ upTo (machine.answer r) (runF f b (machine.rest r)) ++ replicate k end)
-    go (turn (says q y) ss') e (z, c) ih =
-        let w = ih ss' (omega (arith, z .less)) in
-        (w .0, ap (λ (xs : List machine.Answer). says q y ∷ xs) (w .1))
-    go (turn end ss') e (z, c) ih = (f, ap (λ (xs : List machine.Answer). end ∷ xs) (ended f b ss' (stays b ss ss' e)))
+        → ((ss' : List Status) → total b ss' < g → answersF f b ss' ≡ take f (runF g b ss' ++ replicate m end))
+        → machine.answer r ∷ answersF f b (machine.rest r) ≡ take (suc f) (upTo (machine.answer r) (runF g b (machine.rest r)) ++ replicate m end)
+    go (turn (says q y) ss') e (z, c) ih = ap (λ (xs : List machine.Answer). says q y ∷ xs) (ih ss' (omega (arith, z .less)))
+    go (turn end ss') e (z, c) ih =
+        ap (λ (xs : List machine.Answer). end ∷ xs) (ended f b ss' (stays b ss ss' e) ∙ sym (take-same f m end (omega arith)))
 
--- what calls of `next` after an opening of n streams answered, where they were more than the records and damage reports of the streams:
--- what the document's machine tells up to its end, and then the end as often as calls were left; of the stream p it tells the records
--- from place 0 on, in order, each once, and then its one damage report
+-- what so many calls of `next` after an opening of n streams answered: what the document's machine tells up to its end, and then the end
+-- again and again, as far as calls went; of the stream p it tells the records from place 0 on, in order, each once, and then its one
+-- damage report
 pub record ToldWhole (b : ℕ → Stream) (n : ℕ) (hints : List ℕ) (xs : List Answer) : Type 0 where
-  pub more : ℕ
-  pub answers : xs ≡ map answerOf (literalRun b (padded n hints) ++ replicate more end)
+  pub answers : xs ≡ map answerOf (take (length xs) (literalRun b (padded n hints) ++ replicate (length xs) end))
   pub keeps : (p : ℕ) → p < n → mine p (literalRun b (padded n hints)) ≡ own (b p) 0
+  -- it ends, and after as many answers as there are records and damage reports
+  pub ends : Ends (literalRun b (padded n hints))
+  pub calls : length (literalRun b (padded n hints)) ≡ suc (counted b n)
 
--- THE THEOREM: an opening and then more calls than it has answers
+-- THE THEOREM: an opening and then any number of calls
 pub opened-told : {b : ℕ → Stream} {n : ℕ} {hints : List ℕ} {s : Lent} {xs : List Answer}
-    → StreamsOpened n hints (s .marks) (s .times) (s .places) (s .heads) (s .heap) → Calls b n s xs → counted b n < length xs → ToldWhole b n hints xs
+    → StreamsOpened n hints (s .marks) (s .times) (s .places) (s .heads) (s .heap) → Calls b n s xs → ToldWhole b n hints xs
 unfolding run padded
-opened-told {b} {n} {hints} {s} {xs} o x h =
+opened-told {b} {n} {hints} {s} {xs} o x =
     let hs = padded n hints in
-    let ss = start hs in
     let l : length hs ≡ n = length-tab n (λ q. getD hints q 0) in
-    let t : total b ss < length xs = rw (total-counted b hs, l) h in
-    let w = answers-run (length xs) b ss t in
-    let same : runF (length xs) b ss ≡ literalRun b hs =
-    run-same (length xs) (suc (bytes b (length hs))) b ss t (omega (arith, total-start b hs)) ∙ sym (told-run b hs) in
+    let f = length xs in
+    let same : answersF f b (start hs) ≡ take f (literalRun b hs ++ replicate f end) =
+    answers-first f (suc (bytes b (length hs))) f b (start hs) (omega (arith, total-start b hs)) (omega arith)
+    ∙ ap (λ (ys : List machine.Answer). take f (ys ++ replicate f end)) (sym (told-run b hs)) in
     record {
-      more = w .0;
-      answers = opened-calls o x ∙ ap (map answerOf) (w .1 ∙ ap (λ (ys : List machine.Answer). ys ++ replicate (w .0) end) same);
+      answers = opened-calls o x ∙ ap (map answerOf) same;
       keeps = λ p k. told-keeps b hs p (omega arith);
+      ends = rw (told-run b hs) (run-ends b hs);
+      calls = ap length (told-run b hs) ∙ run-calls b hs ∙ ap (λ (k : ℕ). suc (counted b k)) l;
     }
 
 -- different answers of the machine have different numbers and values, so the answers tell which they are

@@ -162,7 +162,7 @@ unfoldable pub counted : (ℕ → Stream) → ℕ → ℕ
 counted b zero = 0
 counted b (suc n) = length (own (b 0) 0) + counted (λ p. b (suc p)) n
 
-pub total-counted : (b : ℕ → Stream) (hs : List ℕ) → total b (start hs) ≡ counted b (length hs)
+total-counted : (b : ℕ → Stream) (hs : List ℕ) → total b (start hs) ≡ counted b (length hs)
 unfolding total sumBy start counted leftOf
 total-counted b [] = refl
 total-counted b (h ∷ hs) = ap (λ (n : ℕ). length (own (b 0) 0) + n) (total-counted (λ p. b (suc p)) hs)
