@@ -291,7 +291,7 @@ number-8 [] = reads-stuck 0
 number-8 (b ∷ s) = reads-cond 8 (eqb b 43) (someDigits 1 s) (someDigits 0 (b ∷ s)) (some-8 1 s) (some-8 0 (b ∷ s))
 
 -- a number that was read has 32 bits
-abbrev Narrow : Read ℕ → Type 0
+abbrev pub Narrow : Read ℕ → Type 0
 Narrow (fault c) = Unit {0}
 Narrow (value v) = v < 4294967296
 
@@ -308,7 +308,7 @@ unfolding someDigits readOf
 some-narrow place [] = tt
 some-narrow place (b ∷ s) = digits-narrow place 0 (b ∷ s) (omega arith)
 
-number-narrow : (text : List ℕ) → Narrow (numberIn text)
+pub number-narrow : (text : List ℕ) → Narrow (numberIn text)
 unfolding numberIn numberText readOf
 number-narrow [] = tt
 number-narrow (b ∷ s) = cond-case (λ (a : Answer). Narrow (readOf a)) (eqb b 43) _ _ (λ t. some-narrow 1 s) (λ t. some-narrow 0 (b ∷ s))
