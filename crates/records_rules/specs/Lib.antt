@@ -18,3 +18,4 @@ pub mod Opening
 pub mod Calls
 pub mod Others
 pub mod OthersLaws
+pub mod Complaint

@@ -11,7 +11,8 @@ use lib.Dec.{eqb}
 use Rattle.theory.specs.Answer as theory
 use Rattle.records_rules.specs.Machine.{record-at, damage-at, Answer, says, end}
 use Rattle.records_rules.specs.Bytes.{streamsOf}
-use Rattle.records_rules.specs.State.{StreamsOpened}
+use Rattle.records_rules.specs.Literal.{literalRun}
+use Rattle.records_rules.specs.State.{padded, StreamsOpened}
 use Rattle.records_rules.specs.Calls.{Lent, Calls}
 
 -- ---- the machine's answers
@@ -50,6 +51,10 @@ unfoldable pub handedOut : (ℕ → List ℕ) → Answer → List ℕ
 handedOut part (says q (record-at a r)) = slice a (a + r .size) (part q)
 handedOut part (says q (damage-at a reason)) = []
 handedOut part end = []
+
+-- the answers over a buffer, its cuts and hints, call after call up to and including the first end
+unfoldable pub bufferRun : List ℕ → List ℕ → List ℕ → List Answer
+bufferRun buffer cuts hints = literalRun (streamsOf buffer cuts) (padded (length cuts - 1) hints)
 
 -- as many streams, each but p with the same bytes and the same hint, 0 where no hints are given. Nothing is said of p's bytes and
 -- hint, nor of the cuts: where p's length differs, every cut behind it does
