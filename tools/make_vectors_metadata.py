@@ -1,10 +1,12 @@
 #!/usr/bin/env python3
 """Writes the cases of vectors_metadata: oracle/build && python3 tools/make_vectors_metadata.py > crates/vectors_metadata/stdin
 
-Four sources, in this order: the traps of the rules' reading (oracle/traps.py); one merge for each way to earn a refusal and,
+Five sources, in this order: the traps of the rules' reading (oracle/traps.py); one merge for each way to earn a refusal and,
 drawn from all pairs, one for two ways at once, the answer written here by document 01's order and held against the plain
-model; lent memory drawn by oracle/lent.py and answered by the model (oracle/model.py); and merges answered by dbn's own code
-(oracle/driver.rs). The order of dbn's sets and mappings is a hash's: they are written in the order of first arrival.
+model; lent memory drawn by oracle/lent.py and answered by the model (oracle/model.py); merges answered by dbn's own code
+(oracle/driver.rs); and document 01's limits, the number and the counts written here by its words and held against the model.
+The order of dbn's sets and mappings is a hash's: they are written in the order of first arrival. A list at a limit is written
+as the rule that makes it.
 """
 import random
 import subprocess
@@ -22,8 +24,8 @@ import model  # noqa: E402
 import traps  # noqa: E402
 from answer import Case, answer_of  # noqa: E402
 from answer import words as spelled  # noqa: E402
-from model import Metadata  # noqa: E402
-from sides import WIDTHS, laid, side  # noqa: E402
+from model import Lent, Metadata  # noqa: E402
+from sides import WIDTHS, laid, listed, side  # noqa: E402
 
 NAMES = 9
 A, B, C, NONE = 1, 2, 3, 99
@@ -268,11 +270,184 @@ def in_order_of_arrival(outcome, seen):
     return outcome
 
 
+# Document 01's limits. A list there is made by a rule of crates/sides/src/rule.rt, and written as that rule.
+
+MAPPINGS, INTERVALS, EVERY = 3, 4, 5
+MOST, HALF = 4096, 2048
+MOST_INTERVALS, HALF_INTERVALS = 65536, 32768
+NOTHING = [[], [], [], [], []]
+
+
+def date(n):
+    return 19700101 + n // 324 * 10000 + n // 27 % 12 * 100 + n % 27
+
+
+def made(letter, first, again, each, count):
+    """The first words of a rule."""
+    if letter == "n":
+        return [first + (i if i < again else i - again) for i in range(count)]
+    if letter == "m":
+        return [word for name in made("n", first, again, 0, count) for word in (name, each)][:count]
+    step = {"d": 1, "e": 2}[letter]
+    days = range(first, first + step * (count // 3 + 1), step)
+    return [word for n in days for word in (date(n), date(n) + 1, n % MOST)][:count]
+
+
+def rule_of(which, words):
+    """The rule that makes a list."""
+    if which == INTERVALS:
+        first = next(n for n in range(2 * MOST_INTERVALS) if date(n) == words[0])
+        return "e" if words[3] == date(first + 2) else "d", first, 0, 0
+    names = words[:: WIDTHS[which]]
+    again = names.index(names[0], 1) if names[0] in names[1:] else len(names)
+    return ("m", names[0], again, words[1]) if which == MAPPINGS else ("n", names[0], again, 0)
+
+
+def ruled(given):
+    """A lent metadata as `side` writes it, a long list as its rule."""
+    out = [*given.head, *given.counts]
+    for which, words in enumerate(given.lists):
+        lent, count, *words = listed(words)
+        if count > 9:
+            rule = rule_of(which, words)
+            assert made(*rule, count) == words
+            words = rule
+        out += [lent, count, *words]
+    return " ".join(map(str, out))
+
+
+def limited(lists, room=None, limit=7):
+    """A metadata of these lists of words, in memory as long as that of others."""
+    head = [3, MOST - 1, 4, 5, 6, limit, 1, 0, 1, 71]
+    counts = [len(words) // width for words, width in zip(lists[:4], WIDTHS)]
+    return Lent(head, counts, [words + [0] * (len(more) - len(words)) for words, more in zip(lists, room or lists)])
+
+
+def with_names(which, count, first=0, again=MOST + 1):
+    """So many names in one list; mappings have no intervals."""
+    lists = deepcopy(NOTHING)
+    lists[which] = made("m" if which == MAPPINGS else "n", first, again, 0, WIDTHS[which] * count)
+    return lists
+
+
+def with_intervals(count, first=0, letter="d", names=(0,)):
+    """So many intervals, as many of each name."""
+    mappings = [word for name in names for word in (name, count // len(names))]
+    return [[], [], [], mappings, made(letter, first, 0, 0, 3 * count)]
+
+
+def full(first=0, again=MOST + 1, count=MOST):
+    """Every list at its limit, or with so many names: 16 intervals to a mapping."""
+    names = made("n", 0, again, 0, count)
+    return [names, names, names, made("m", 0, again, 16, 2 * count), made("d", first, 0, 0, 3 * 16 * count)]
+
+
+def at_limit(which, over=0):
+    """One list at its limit, or over it; or every list at its limit."""
+    if which == EVERY:
+        return full()
+    return with_intervals(MOST_INTERVALS + over) if which == INTERVALS else with_names(which, MOST + over)
+
+
+def limit(kind, number, given, added=None, after=None):
+    """A call of which document 01 says this number and, where it is done, that these lists stand in memory after it."""
+    if kind == "limit_merge":
+        handed = f"{MOST} {ruled(given)} {ruled(added)}"
+        answer, held = answer_of(lambda: model.merge_metadata(given, added, MOST))
+    elif kind == "limit_open":
+        handed = ruled(given)
+        answer, held = answer_of(lambda: model.open_metadata(given))
+    else:
+        handed = ruled(given)
+        answer, _ = answer_of(given.taken)
+        held = given
+    assert answer == (number,), (kind, handed, answer)
+    if number != 0:
+        show(kind, handed, [number])
+        return
+    expected = limited(after, given.lists, limit=0 if kind == "limit_merge" else 7)
+    assert held == expected, (kind, handed)
+    show(kind, handed, [number, ruled(expected)])
+
+
+def limits_of_sides():
+    """A list at its limit, one over it, and with one place over it lent and none in use; and every list at its limit."""
+    for which in (*range(5), EVERY):
+        at = at_limit(which)
+        tried = [(0, at, at)]
+        if which != EVERY:
+            over = at_limit(which, over=1)
+            tried += [(15, over, over), (15, NOTHING, over)]
+        for number, lists, room in tried:
+            given = limited(lists, room)
+            limit("limit_open", number, given, after=lists)
+            limit("limit_finish", number, given, after=lists)
+            limit("limit_merge", number, given, limited(NOTHING), after=lists)
+            limit("limit_merge", number, limited(NOTHING, at), given, after=lists)
+
+
+def limits_with_repeats():
+    """Each name twice in a first metadata: of two mappings with one name the last counts."""
+
+    def opened(given, after):
+        limit("limit_open", 0, limited(given), after=after)
+
+    for which in range(4):
+        opened(with_names(which, MOST, again=HALF), with_names(which, HALF))
+    opened(with_intervals(MOST_INTERVALS, names=(0, 0)), with_intervals(HALF_INTERVALS, HALF_INTERVALS))
+    opened(full(again=HALF), full(16 * HALF, count=HALF))
+
+
+def limits_of_names(which):
+    """4,096 entries or mappings of an outcome. Of 4,097 one was never handed out, so that 3 comes before 2."""
+
+    def merged_in(number, given, added, after=None, room=MOST):
+        limit("limit_merge", number, limited(given, with_names(which, room)), limited(added), after)
+
+    some, others, all_ = with_names(which, HALF), with_names(which, HALF, HALF), with_names(which, MOST)
+    twice = with_names(which, MOST, again=HALF)
+    merged_in(0, some, others, all_)
+    merged_in(3, some, with_names(which, HALF + 1, HALF))
+    merged_in(2, some, others, room=MOST - 1)
+    merged_in(0, all_, all_, all_)
+    merged_in(0, twice, others, all_)
+    merged_in(0, NOTHING, twice, some)
+
+
+def limits_of_intervals():
+    """65,536 intervals of an outcome, and more, in room for every list."""
+
+    def merged_in(number, given, added, after=None):
+        limit("limit_merge", number, limited(given, full()), limited(added), after)
+
+    most, half = MOST_INTERVALS, HALF_INTERVALS
+    some, all_, twice = with_intervals(half), with_intervals(most), with_intervals(most, names=(0, 0))
+    # Of two names; of one name, behind each other and in turns.
+    merged_in(0, some, with_intervals(half, half, names=(1,)), with_intervals(most, names=(0, 1)))
+    merged_in(2, some, with_intervals(half + 1, half, names=(1,)))
+    merged_in(0, some, with_intervals(half, half), all_)
+    merged_in(2, some, with_intervals(half + 1, half))
+    merged_in(0, with_intervals(half, letter="e"), with_intervals(half, 1, letter="e"), all_)
+    merged_in(2, with_intervals(half, letter="e"), with_intervals(half + 1, 1, letter="e"))
+    # A name twice in the added one is merged twice; of the gathered one the last counts.
+    merged_in(0, NOTHING, twice, all_)
+    merged_in(2, with_intervals(1), with_intervals(most, 1, names=(0, 0)))
+    merged_in(0, twice, with_intervals(half, most, names=(1,)), with_intervals(most, half, names=(0, 1)))
+    merged_in(2, twice, with_intervals(half + 1, most, names=(1,)))
+    # Both sides at their limits: the same intervals, others of the same name, others of another name.
+    merged_in(0, all_, all_, all_)
+    merged_in(2, all_, with_intervals(most, most))
+    merged_in(2, all_, with_intervals(most, most, names=(1,)))
+    merged_in(0, full(), full(), full())
+    merged_in(2, full(), full(most))
+
+
 print("# The cases of vectors_metadata, made by tools/make_vectors_metadata.py, which says where the answers are from. A call, what")
 print("# it is handed, and behind the = what it answers: 0 and the side as it then is, 6 and the field, or the number alone.")
 print("# A side is version, dataset, schema, start, end, limit, stype_in, stype_out, ts_out, symbol_cstr_len; symbols, partial,")
 print("# not_found, mappings in use; and five lists (symbols, partial, not_found, mappings, intervals), each as the places lent,")
-print("# how many of them are given, and those: the others hold 0. `dbn_` marks answers of dbn's own code.")
+print("# how many of them are given, and those, or the rule that makes them (crates/sides/src/rule.rt): the others hold 0. `dbn_`")
+print("# marks answers of dbn's own code, `limit_` lists at document 01's limits.")
 for _, (case, said) in traps.traps():
     kind, _, rest = case.partition(" ")
     words = Case(rest)
@@ -302,3 +477,8 @@ for line in rng.sample(list(cases.short_walks(3)), 60):
     by_dbn(line)
 for _ in range(40):
     by_dbn(cases.any_merge(rng))
+limits_of_sides()
+limits_with_repeats()
+for which in range(4):
+    limits_of_names(which)
+limits_of_intervals()

@@ -6,3 +6,4 @@ pub mod OverTimeLaws
 pub mod OverTimeHistory
 pub mod Examples
 pub mod PointInTimeLaws
+pub mod Fitting

@@ -1,20 +1,19 @@
--- A table built over time is the table after a history of accepted inserts (tables, History): those that the build's steps ask for, so
--- demand 3's theorems hold of it. Assumes nothing.
+-- A table built over time is the table after a history of accepted inserts, those that the build's steps ask for: so a build begins a
+-- trace of calls (map_rules, Trace), and demand 3 holds of it and of what calls make of it. Assumes nothing.
 use mathlib.Core.Path.{_≡_, refl, sym, ap, _∙_, subst}
-use mathlib.Core.Logic.{_↔_}
 use Prim.Native.Nat.{ℕ, _+_, _≤_}
 use native.Mathlib.Omega.{arith}
 use mathlib.Core.Bool.{Bool, true, false, _&&_}
 use mathlib.Core.List.{List, [], _∷_}
 use lib.ListN.{length}
 use lib.Dec.{T, leb, le→leb}
-use Rattle.theory.specs.Runs.{Mem, IsRun}
 use Rattle.theory.specs.RunsTools.{cond-yes, T-and}
-use Rattle.map_rules.specs.Table.{Row, intervalOf, answerFor, ordered, allKnown, Outcome, refusedBy, stored, nowStored, roomFits, namesFit, wellFormed, entered, inserted}
+use Rattle.map_rules.specs.Table.{Row, ordered, allKnown, Outcome, refusedBy, stored, nowStored, roomFits, namesFit, wellFormed, entered, inserted}
 use Rattle.map_rules.specs.Tests.{good-room}
 use Rattle.map_rules.specs.Memory.{sameValue, knownValue}
 use Rattle.map_rules.specs.Pieces.{symbols}
-use Rattle.map_rules.specs.History.{Event, insertion, after, accepted, noted, Accepted, entered-ok, Told, history-told, stored-runs}
+use Rattle.map_rules.specs.History.{after, accepted, noted, Accepted, entered-ok}
+use Rattle.map_rules.specs.Trace.{events, Comes}
 use Rattle.metadata_rules.specs.declared.Interval.{Interval}
 use Rattle.metadata_rules.specs.Metadata.{Mapping, Metadata}
 use Rattle.build_rules.specs.Reading.{Read, fault, value, andThen, textOf, numberIn, directionOf}
@@ -64,25 +63,7 @@ unfoldable pub insertsAsked : List (List ℕ) → Metadata → List (Row ℕ)
 unfolding directedAsks directionOf
 insertsAsked texts m = directedAsks texts (m .mappings) (directionOf (m .fields))
 
--- as events, where so many names are known and the table has this room
-unfoldable pub events : ℕ → ℕ → List (Row ℕ) → List (Event ℕ)
-events names room [] = []
-events names room (n ∷ ns) = insertion names room n ∷ events names room ns
-
 -- ---- the theorem
-
--- the rows are those after these inserts, each accepted, and the table is well-formed and fits
-pub record Comes (names room : ℕ) (ns ys : List (Row ℕ)) : Type 0 where
-  pub history : ys ≡ after sameValue knownValue (events names room ns)
-  pub each : accepted sameValue knownValue (events names room ns) ≡ ns
-  pub formed : T (wellFormed sameValue knownValue names ys)
-  pub fits : length ys ≤ room
-
--- demand 3 of a table after these inserts: it is well-formed, the latest that covers a moment decides, the rows are the longest runs
-pub record Demanded (names : ℕ) (ns ys : List (Row ℕ)) : Type 0 where
-  pub well-formed : T (wellFormed sameValue knownValue names ys)
-  pub latest : (i m : ℕ) → answerFor ys i m ≡ answerFor ns i m
-  pub runs : (x : Row ℕ) → Mem x ys ↔ IsRun (answerFor ns (x .instrument)) (intervalOf x)
 
 module _ (names room : ℕ) (few : names ≤ 4096) (small : room ≤ 65536) where
   -- an insert into a well-formed table within the limits is judged by its own order alone
@@ -160,18 +141,3 @@ module _ (room : ℕ) (texts : List (List ℕ)) (few : length texts ≤ 4096) (s
       go : (r : Read Direction) → directed room texts (m .mappings) r ≡ built ys → Comes (length texts) room (directedAsks texts (m .mappings) r) ys
       go (fault q) e = absurd (let z : _≡_ {A = ℕ} 0 1 = cc in omega arith)
       go (value d) e = comes-mappings d 0 (m .mappings) [] [] ys (record { history = refl; each = refl; formed = tt; fits = omega arith }) e
-
-  -- so demand 3 holds of it
-  pub built-demanded : (m : Metadata) (ys : List (Row ℕ)) → overTime room texts m ≡ built ys → Demanded (length texts) (insertsAsked texts m) ys
-  built-demanded m ys e =
-      let c : Comes (length texts) room (insertsAsked texts m) ys = built-history m ys e in
-      let es : List (Event ℕ) = events (length texts) room (insertsAsked texts m) in
-      let w : Told sameValue symbols knownValue (after sameValue knownValue es) (accepted sameValue knownValue es) = history-told sameValue symbols knownValue es in
-      record {
-        well-formed = c .formed;
-        latest = λ i q. ap (λ (xs : List (Row ℕ)). answerFor xs i q) (c .history) ∙ w .latest i q ∙ ap (λ (xs : List (Row ℕ)). answerFor xs i q) (c .each);
-        runs = λ x.
-            subst (λ (ns : List (Row ℕ)). Mem x ys ↔ IsRun (answerFor ns (x .instrument)) (intervalOf x)) (c .each)
-            (subst (λ (xs : List (Row ℕ)). Mem x xs ↔ IsRun (answerFor (accepted sameValue knownValue es) (x .instrument)) (intervalOf x)) (sym (c .history))
-            (stored-runs sameValue symbols knownValue es x));
-      }

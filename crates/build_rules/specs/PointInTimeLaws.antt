@@ -8,11 +8,11 @@ use mathlib.Core.Bool.{Bool, true, false, _&&_, _||_, cond}
 use mathlib.Core.List.{List, [], _∷_}
 use lib.ListN.{length, getD, set, length-set, List·getD-eq-default}
 use lib.Seq.{getD-set-same, getD-set-other, ext-getD}
-use lib.Dec.{T, leb, ltb, eqb}
+use lib.Dec.{T, leb, ltb, eqb, leb→le}
 use borrow.Author.Tests.{lt-ltb, le-ltb, le-leb, lt-leb}
 use Rattle.theory.specs.Answer.{Answer, answer}
 use Rattle.theory.specs.Fields.{putField, length-put, put-byte}
-use Rattle.theory.specs.RunsTools.{cond-case, ltb-case}
+use Rattle.theory.specs.RunsTools.{cond-case, ltb-case, T-snd}
 use Rattle.leaves.specs.NumberText.{numberText, someDigits, digits, isDigit}
 use Rattle.leaves_days.specs.Calendar.{isDate, dayNumber}
 use Rattle.leaves_days.specs.Days.{dayOf, inRange}
@@ -222,9 +222,15 @@ module _ (room : ℕ) (es : List Entry) where
 unfoldable pub pointRefusal : ℕ → Bool
 pointRefusal c = eqb c 2 || (eqb c 3 || (eqb c 8 || (eqb c 9 || (eqb c 10 || eqb c 11))))
 
+-- each is of an instrument of 32 bits, so that it can be read back from its bytes
+abbrev pub AllNarrow : List Entry → Type 0
+AllNarrow [] = Unit {0}
+AllNarrow (e ∷ es) = (e .instrument < 4294967296) × AllNarrow es
+
 pub record Sorted (room names : ℕ) (es : List Entry) : Type 0 where
   pub sorted : T (rising es)
   pub known : T (allKnown names es)
+  pub narrow : AllNarrow es
   pub fits : length es ≤ room
 
 abbrev pub Sound : ℕ → ℕ → Build Entry → Type 0
@@ -238,7 +244,7 @@ OutcomeSound room names (stored es) = Sorted room names es
 abbrev StepSound : ℕ → Step Entry → Type 0
 StepSound names (stop c) = T (pointRefusal c)
 StepSound names skip = Unit {0}
-StepSound names (give e) = e .symbol < names
+StepSound names (give e) = (e .symbol < names) × (e .instrument < 4294967296)
 
 -- a reading that meets no other refusal
 abbrev Only : {X : Type 0} → ℕ → Read X → Type 0
@@ -284,6 +290,29 @@ unfolding numberIn numberText
 number-8 [] = reads-stuck 0
 number-8 (b ∷ s) = reads-cond 8 (eqb b 43) (someDigits 1 s) (someDigits 0 (b ∷ s)) (some-8 1 s) (some-8 0 (b ∷ s))
 
+-- a number that was read has 32 bits
+abbrev pub Narrow : Read ℕ → Type 0
+Narrow (fault c) = Unit {0}
+Narrow (value v) = v < 4294967296
+
+digits-narrow : (place v : ℕ) (s : List ℕ) → v < 4294967296 → Narrow (readOf (digits place v s))
+unfolding digits readOf
+digits-narrow place v [] h = h
+digits-narrow place v (b ∷ s) h =
+    let w = v * 10 + (b - 48) in
+    cond-case (λ (a : Answer). Narrow (readOf a)) (isDigit b && leb w 4294967295) _ _
+    (λ t. let l : w ≤ 4294967295 = leb→le w 4294967295 (T-snd (isDigit b) (leb w 4294967295) t) in digits-narrow (place + 1) w s (omega arith)) (λ t. tt)
+
+some-narrow : (place : ℕ) (s : List ℕ) → Narrow (readOf (someDigits place s))
+unfolding someDigits readOf
+some-narrow place [] = tt
+some-narrow place (b ∷ s) = digits-narrow place 0 (b ∷ s) (omega arith)
+
+pub number-narrow : (text : List ℕ) → Narrow (numberIn text)
+unfolding numberIn numberText readOf
+number-narrow [] = tt
+number-narrow (b ∷ s) = cond-case (λ (a : Answer). Narrow (readOf a)) (eqb b 43) _ _ (λ t. some-narrow 1 s) (λ t. some-narrow 0 (b ∷ s))
+
 day-11 : (date : ℕ) → Only 11 (dayIn date)
 unfolding dayIn dayOf readOf
 day-11 date = reads-cond 11 (isDate date && inRange date) (answer 0 (dayNumber date ∷ [])) (refused NoDate) (reads-done 11 (dayNumber date)) (only-fault 11)
@@ -292,14 +321,14 @@ direction-9 : (f : Fields) → Only 9 (directionOf f)
 unfolding directionOf directionBy
 direction-9 f = only-cond 9 (eqb (f .stype-out) 0) (only-value 9 Forward) (only-cond 9 (eqb (f .stype-in) 0) (only-value 9 Inverse) (only-fault 9))
 
-numbered-sound : (names v : ℕ) (r : Read ℕ) → v < names → Only 8 r → StepSound names (numbered v r)
+numbered-sound : (names v : ℕ) (r : Read ℕ) → v < names → Only 8 r → Narrow r → StepSound names (numbered v r)
 unfolding numbered reading pointRefusal
-numbered-sound names v (fault c) h f = rw (f c refl) tt
-numbered-sound names v (value i) h f = h
+numbered-sound names v (fault c) h f g = rw (f c refl) tt
+numbered-sound names v (value i) h f g = (h, g)
 
 number-sound : (names : ℕ) (d : Direction) (name n : ℕ) (symbol mapped : List ℕ) → name < names → n < names → StepSound names (numberStep d name n symbol mapped)
-number-sound names Forward name n symbol mapped h l = rw (forward-step name n symbol mapped) (numbered-sound names name (numberIn symbol) h (number-8 symbol))
-number-sound names Inverse name n symbol mapped h l = rw (inverse-step name n symbol mapped) (numbered-sound names n (numberIn mapped) l (number-8 mapped))
+number-sound names Forward name n symbol mapped h l = rw (forward-step name n symbol mapped) (numbered-sound names name (numberIn symbol) h (number-8 symbol) (number-narrow symbol))
+number-sound names Inverse name n symbol mapped h l = rw (inverse-step name n symbol mapped) (numbered-sound names n (numberIn mapped) l (number-8 mapped) (number-narrow mapped))
 
 module _ (texts : List (List ℕ)) (d : Direction) (name : ℕ) where
   name-sound : (n : ℕ) (symbol : List ℕ) → n < length texts → StepSound (length texts) (nameStep texts d name n symbol)
@@ -324,6 +353,13 @@ module _ (texts : List (List ℕ)) (d : Direction) (name : ℕ) where
           text-case texts (x .symbol) (λ r. StepSound (length texts) (reading r (λ symbol. unlessEmpty symbol (nameStep texts d name (x .symbol) symbol))))
           (λ h. unless-sound (getD texts (x .symbol) []) _ (name-sound (x .symbol) (getD texts (x .symbol) []) h)) (λ h. tt)
 
+set-narrow : (x : Entry) (xs : List Entry) → x .instrument < 4294967296 → AllNarrow xs → AllNarrow (setEntry x xs)
+unfolding setEntry
+set-narrow x [] h k = (h, tt)
+set-narrow x (y ∷ ys) h k =
+    ltb-case AllNarrow (y .instrument) (x .instrument) _ _ (λ l. (k .0, set-narrow x ys h (k .1)))
+    (λ l. ltb-case AllNarrow (x .instrument) (y .instrument) _ _ (λ m. (h, k)) (λ m. (h, k .1)))
+
 module _ (room names : ℕ) (es : List Entry) (w : Sorted room names es) where
   taken-sound : (s : Step Entry) → StepSound names s → OutcomeSound room names (pointTaken room s es)
   unfolding pointTaken ifRoom pointRefusal
@@ -331,7 +367,12 @@ module _ (room names : ℕ) (es : List Entry) (w : Sorted room names es) where
   taken-sound skip h = w
   taken-sound (give e) h =
       ltb-case (OutcomeSound room names) room (length (setEntry e es)) _ _ (λ l. tt)
-      (λ l. record { sorted = set-rising e es (w .sorted); known = set-known names e es h (w .known); fits = l })
+      (λ l. record {
+        sorted = set-rising e es (w .sorted);
+        known = set-known names e es (h .0) (w .known);
+        narrow = set-narrow e es (h .1) (w .narrow);
+        fits = l;
+      })
 
 module _ (room : ℕ) (texts : List (List ℕ)) (d : Direction) (day : ℕ) where
   pick-sound : (ms : List Mapping) (t : ℕ) (es : List Entry) → Sorted room (length texts) es → Sound room (length texts) (pickMappings room texts d day t ms es)
@@ -356,7 +397,7 @@ point-sound room texts m date = go (dayIn date) (day-11 date)
     on day (fault c) f = rw (f c refl) tt
     on day (value d) f =
         cond-case (Sound room (length texts)) (outsideQuery (m .fields) day) _ _ (λ h. tt)
-        (λ h. pick-sound room texts d day (m .mappings) 0 [] (record { sorted = tt; known = tt; fits = omega arith }))
+        (λ h. pick-sound room texts d day (m .mappings) 0 [] (record { sorted = tt; known = tt; narrow = tt; fits = omega arith }))
 
     go : (r : Read ℕ) → Only 11 r → Sound room (length texts) (asked room texts m r)
     go (fault c) f = rw (f c refl) tt

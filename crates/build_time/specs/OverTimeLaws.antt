@@ -18,7 +18,7 @@ use Rattle.map_time.specs.declared.insert.Inserted.{Inserted}
 use Rattle.map_time.specs.declared.insert.Inserted.the-variants as inserted
 use Rattle.map_rules.specs.Table.{Row, Ordered, Outcome, refusedBy, stored, nowStored, ordered, allKnown, wellFormed, entered}
 use Rattle.map_rules.specs.Memory.{width, sameValue, knownValue, rowsFrom, rows, rowsBytes, roomOf, tableFits, rowsWritten, memoryAfter, outcomeAnswer, usedAfter, Gives}
-use Rattle.map_rules.specs.MemoryLaws.{length-rows}
+use Rattle.map_rules.specs.MemoryLaws.{length-rows, rows-written}
 use Rattle.map_rules.specs.Outcomes.{Lent, table-lent}
 use Rattle.map_rules.specs.Tests.{formed-parts}
 use Rattle.map_rules.specs.Pieces.{symbols}
@@ -49,7 +49,9 @@ use Rattle.build_rules.specs.declared.reading.Heading.the-variants as heading
 use Rattle.build_rules.specs.Reading.{Read, fault, andThen, textOf, numberIn, momentIn, directionBy, directionOf, symbolIn, headingRead, instrumentRead, momentRead}
 use Rattle.build_rules.specs.OverTime.{Step, stop, skip, give, reading, dated, forwardStep, inverseStep, taken, Build, stopped, built, layIntervals, layRead, layMapping, layMappings, directed, overTime, buildAnswer}
 use Rattle.build_rules.specs.OverTimeLaws.{unknown-stops, empty-skips, filled-known, filled-reads, dated-start, dated-end, dated-row, name-unknown, name-known, Plain, PlainStep, text-plain, number-plain, direction-plain, andThen-plain, forward-plain, inverse-plain, intervals-end, intervals-turn, intervals-stop, mappings-end, mappings-turn, mappings-stop, laid-blank, written-again}
-use Rattle.build_rules.specs.OverTimeHistory.{insertsAsked, Demanded, built-demanded}
+use Rattle.map_rules.specs.Trace.{Comes, Trace, build}
+use Rattle.build_rules.specs.OverTimeHistory.{insertsAsked, built-history}
+use Rattle.build_rules.specs.Fitting.{comes-fit, asked-bounded}
 use Rattle.build_time.specs.declared.over_time.Built.{Built}
 use Rattle.build_time.specs.declared.over_time.Built.the-variants.{Done, Refused}
 use Rattle.build_time.specs.declared.over_time.Way.{Way}
@@ -633,13 +635,13 @@ module _ (t : List ℕ) (h : Header) (l : Lists) (bytes ends : List ℕ) (names 
               (rw (j, i) (ap (λ (n : ℕ). directed (n / 24) (namesOf bytes ends names) (mappingsFrom (l .mappings) (l .intervals) 0 0 (h .mappings)) (directionBy (h .«stype_in») (h .«stype_out»))) (sym long)))
               (x .answers) (x .memory ∙ ap (λ (n : ℕ). builtMemory n b) long) (x .stands)
 
-  -- ---- demand 3 of a done call
+  -- ---- a done call begins a trace of calls, with the inserts that its steps ask for; a refused one leaves 0 in use, where a trace begins
 
-  pub over-demanded : (u : ℕ) → overTimeAnswer t h l bytes ends names name-bytes ≡ answer 0 (u ∷ [])
+  over-comes : (u : ℕ) → overTimeAnswer t h l bytes ends names name-bytes ≡ answer 0 (u ∷ [])
       → (u ≡ length (overTimeRows t h l bytes ends names name-bytes))
-      × Demanded (length (namesOf bytes ends names)) (insertsAsked (namesOf bytes ends names) (metadataOf h l)) (overTimeRows t h l bytes ends names name-bytes)
+      × (length (namesOf bytes ends names) ≤ 4096) × Comes (length (namesOf bytes ends names)) (roomOf t) (insertsAsked (namesOf bytes ends names) (metadataOf h l)) (overTimeRows t h l bytes ends names name-bytes)
   unfolding overTimeAnswer overTimeRows overTimeBuild buildAnswer builtRows
-  over-demanded u =
+  over-comes u =
       go (buildFits (length t) h (lengthsOf l) (l .mappings) (length bytes) (length ends) names name-bytes) refl (wellFormedNames bytes ends names name-bytes)
       (overTime (roomOf t) (namesOf bytes ends names) (metadataOf h l)) refl
     where
@@ -647,7 +649,7 @@ module _ (t : List ℕ) (h : Header) (l : Lists) (bytes ends : List ℕ) (names 
           → overTime (roomOf t) (namesOf bytes ends names) (metadataOf h l) ≡ b
           → buildAnswer (cond f (cond w b (stopped 14 0 0)) (stopped 15 0 0)) ≡ answer 0 (u ∷ [])
           → (u ≡ length (builtRows (cond f (cond w b (stopped 14 0 0)) (stopped 15 0 0))))
-          × Demanded (length (namesOf bytes ends names)) (insertsAsked (namesOf bytes ends names) (metadataOf h l)) (builtRows (cond f (cond w b (stopped 14 0 0)) (stopped 15 0 0)))
+          × (length (namesOf bytes ends names) ≤ 4096) × Comes (length (namesOf bytes ends names)) (roomOf t) (insertsAsked (namesOf bytes ends names) (metadataOf h l)) (builtRows (cond f (cond w b (stopped 14 0 0)) (stopped 15 0 0)))
       go false y w b z e = absurd (let q : _≡_ {A = ℕ} 15 0 = cc in omega arith)
       go true y false b z e = absurd (let q : _≡_ {A = ℕ} 14 0 = cc in omega arith)
       go true y true (stopped c s k) z e = absurd (let q : _≡_ {A = ℕ} 0 1 = cc in omega arith)
@@ -659,4 +661,32 @@ module _ (t : List ℕ) (h : Header) (l : Lists) (bytes ends : List ℕ) (names 
           let n : length (namesOf bytes ends names) ≡ names = names-length bytes ends names in
           let d : length t / 24 ≤ 65536 = table-lent (length t) 0 (p .0) .limit in
           let q : length ys ≡ u = cc in
-          (sym q, built-demanded (roomOf t) (namesOf bytes ends names) (omega arith) d (metadataOf h l) ys z)
+          (sym q, omega arith, built-history (roomOf t) (namesOf bytes ends names) (omega arith) d (metadataOf h l) ys z)
+
+  written : (u : ℕ) (b : Build (Row ℕ)) → buildAnswer b ≡ answer 0 (u ∷ []) → builtMemory (length t) b ≡ rowsWritten (replicate (length t) 0) 0 (builtRows b)
+  unfolding buildAnswer builtMemory builtRows
+  written u (stopped c s k) e = absurd (let z : _≡_ {A = ℕ} 0 1 = cc in omega arith)
+  written u (built ys) e = refl
+
+  -- the intervals that a done call answers are read back from the bytes that it leaves
+  pub over-read : (u : ℕ) → overTimeAnswer t h l bytes ends names name-bytes ≡ answer 0 (u ∷ [])
+      → rows (overTimeMemory t h l bytes ends names name-bytes) u ≡ overTimeRows t h l bytes ends names name-bytes
+  unfolding overTimeAnswer overTimeMemory overTimeRows
+  over-read u e =
+      let p = over-comes u e in
+      let texts = namesOf bytes ends names in
+      let ys = overTimeRows t h l bytes ends names name-bytes in
+      let asked = insertsAsked texts (metadataOf h l) in
+      let f = comes-fit (length texts) (roomOf t) (p .1) asked ys (p .2) (asked-bounded texts (metadataOf h l)) in
+      ap (rows (overTimeMemory t h l bytes ends names name-bytes)) (p .0)
+      ∙ ap (λ (x : List ℕ). rows x (length ys)) (written u (overTimeBuild t h l bytes ends names name-bytes) e)
+      ∙ rows-written (replicate (length t) 0) 0 ys f
+
+  pub over-traced : (u : ℕ) (t′ : List ℕ) → overTimeAnswer t h l bytes ends names name-bytes ≡ answer 0 (u ∷ [])
+      → t′ ≡ overTimeMemory t h l bytes ends names name-bytes → Trace (insertsAsked (namesOf bytes ends names) (metadataOf h l)) t′ u
+  over-traced u t′ e m =
+      let p = over-comes u e in
+      let asked = insertsAsked (namesOf bytes ends names) (metadataOf h l) in
+      let texts = length (namesOf bytes ends names) in
+      build texts (roomOf t) asked t′ u
+      (subst (Comes texts (roomOf t) asked) (sym (ap (λ (x : List ℕ). rows x u) m ∙ over-read u e)) (p .2))

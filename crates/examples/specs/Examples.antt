@@ -25,10 +25,9 @@ use Rattle.metadata_form.specs.Header.{Lists, lists, metadataOf, metadataFits}
 use Rattle.metadata_form.specs.Over.{over}
 use Rattle.metadata_form.specs.Header.{numbersOf}
 use Rattle.metadata_merge.specs.Merger.{bothFit, mergeAnswer, mergeLists}
-use Rattle.records_rules.specs.Machine.{start}
+use Rattle.records_rules.specs.Machine.{answersF, start}
 use Rattle.records_rules.specs.Bytes.{streamsOf}
 use Rattle.records_rules.specs.State.{answerOf, arraysFit, rightStreams, padded, opening}
-use Rattle.records_rules.specs.Calls.{answersF}
 use Rattle.records_rules.specs.Examples.{short}
 
 -- ---- calls

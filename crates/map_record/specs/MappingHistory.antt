@@ -1,36 +1,35 @@
--- A mapping call that stores is an insert of the table's history, with the name's number and the names known once it has joined;
--- any other leaves table and history. Assumes nothing.
-use mathlib.Core.Path.{_≡_, refl, sym, ap, _∙_}
+-- A mapping call that stores is an insert of the trace of calls, with the name's number and the names known once it has joined;
+-- any other leaves the table as it was. Assumes nothing.
+use mathlib.Core.Path.{_≡_, refl, sym, ap, _∙_, subst}
 use mathlib.Core.Logic.{_≢_, _⊎_, inl, inr}
-use Prim.Native.Nat.{ℕ, _+_, _≤_, _<_}
+use Prim.Native.Nat.{ℕ, _+_, _%_, _≤_, _<_}
 use native.Mathlib.Omega.{arith}
 use mathlib.Core.Bool.{Bool, true, false, _&&_, cond}
 use mathlib.Core.List.{List, [], _∷_}
 use lib.ListN.{length}
-use lib.Dec.{T, ltb, leb, eqb, lt→ltb}
+use lib.Dec.{T, ltb, leb, eqb, eqb-refl, lt→ltb}
 use borrow.Author.Tests.{lt-ltb, le-ltb, le-leb, ltb-true, ltb-false, eqb-false, ne-eqb}
 use mir.Facts.{ltb-yes}
 use Rattle.theory.specs.Answer.{Answer}
-use Rattle.theory.specs.RunsTools.{T-and, T-fst, T-snd}
+use Rattle.theory.specs.RunsTools.{cond-case, cond-yes, T-and, T-fst, T-snd}
 use Rattle.leaves.specs.Refusal.{refused}
 use Rattle.leaves.specs.declared.refusal.Refusal.the-variants.{Reversed, BadName, NoNameRoom, IllFormed, BadMemory}
 use Rattle.leaves.specs.Frame.{Mapped, other, symbol, notOne, mappedIn, nameIn}
-use Rattle.leaves_names.specs.Names.{listFits, wellFormed as wellFormedNames, isName, numbering, naming, hasRoom}
+use Rattle.leaves_names.specs.Names.{listFits, wellFormed as wellFormedNames, isName, namesOf, least, numbering, naming, hasRoom}
 use Rattle.leaves_names.specs.NamesLaws.{Memory, memory}
 use Rattle.leaves_names.specs.declared.names.Naming.{Naming}
 use Rattle.leaves_names.specs.declared.names.Naming.the-variants.{Old, New, Refused as NotNamed}
-use Rattle.map_rules.specs.Table.{Row, Ordered, Outcome, nowStored, ifRoom, roomFits, namesFit, wellFormed, ordered, allKnown, insertRows, entered, inserted}
-use Rattle.map_rules.specs.History.{Event, insertion, after}
-use Rattle.map_rules.specs.Memory.{sameValue, knownValue, rows, roomOf, tableFits, usedAfter}
+use Rattle.map_rules.specs.Table.{Row, Ordered, Outcome, refusedBy, stored, nowStored, ifRoom, roomFits, namesFit, wellFormed, ordered, allKnown, insertRows, entered, inserted}
+use Rattle.map_rules.specs.Memory.{width, sameValue, knownValue, rows, roomOf, tableFits, insertOutcome, outcomeAnswer, usedAfter, Gives}
 use Rattle.map_rules.specs.MemoryLaws.{length-rows}
 use Rattle.map_rules.specs.Outcomes.{Lent, table-lent}
-use Rattle.map_rules.specs.Calls.{Holds}
+use Rattle.map_rules.specs.Trace.{usedTold, doneTold, Trace, insert}
 use Rattle.map_point.specs.declared.entries.Entry.{Entry}
 use Rattle.map_point.specs.Entries.{entries}
 use Rattle.map_point.specs.Points as points
 use Rattle.map_point.specs.Points.{rising, setEntry, pointsFit}
 use Rattle.map_point.specs.PointsLaws.{set-rising, set-known}
-use Rattle.map_record.specs.Mapping.{pointWanted, pointJudged, pointOutcome, Wanted, nothing, refuses, stores, numberingIn, numbered, timeWanted, timeJudged, mappingRow, timeOutcome, timeTable, timeUsed, timeRows, namesThen}
+use Rattle.map_record.specs.Mapping.{pointWanted, pointJudged, pointOutcome, Wanted, nothing, refuses, stores, numberingIn, numbered, timeWanted, timeJudged, mappingRow, timeOutcome, timeTable, timeUsed, timeRows, outcomeThen, timeAnswer, namesThen}
 use Rattle.map_record.specs.MappingLaws.{two, and-fst, and-snd, room}
 
 -- ---- what a call that stores has passed
@@ -203,28 +202,84 @@ stores-insert t used names i s e n new p =
     )
     refl
 
--- memory that holds the table after some events holds it after the call: one insert more where it stores, else the same
-module _ (es : List (Event ℕ)) (t : List ℕ) (used : ℕ) (bytes ends : List ℕ) (names name-bytes : ℕ) (rec : List ℕ) (held : Holds es t used) where
+-- ---- a mapping call is a step of the trace of calls
+
+-- the inserts that were done once a mapping call has answered: a symbol's row, where it was stored
+unfoldable pub mappedTold : Wanted → List (Row ℕ) → Answer → List (Row ℕ)
+unfolding doneTold
+mappedTold nothing ns a = ns
+mappedTold (refuses r) ns a = ns
+mappedTold (stores i s e n new) ns a = doneTold (mappingRow i s e n) ns a
+
+-- a refusal tells no number in use
+abbrev Refusing : Wanted → Type 0
+Refusing nothing = Unit {0}
+Refusing (refuses r) = (used : ℕ) → usedTold used r ≡ used
+Refusing (stores i s e n new) = Unit {0}
+
+refusing-named : (bytes ends : List ℕ) (names name-bytes : ℕ) (name : List ℕ) (i s e : ℕ) → Refusing (numbered i s e (numberingIn bytes ends names name-bytes name))
+unfolding numberingIn numbering usedTold
+refusing-named bytes ends names name-bytes name i s e =
+    let number = least name (namesOf bytes ends names) in
+    cond-case (λ (x : Naming). Refusing (numbered i s e x)) (ltb number names) _ _ (λ l. tt) (λ l.
+    cond-case (λ (x : Naming). Refusing (numbered i s e x)) (hasRoom (length bytes) (length ends) names name-bytes (length name)) _ _ (λ r. tt) (λ r used. refl))
+
+refusing-wanted : (bytes ends : List ℕ) (names name-bytes : ℕ) (name : List ℕ) (m : Mapped) → Refusing (timeWanted bytes ends names name-bytes name m)
+unfolding timeWanted usedTold
+refusing-wanted bytes ends names name-bytes name other = tt
+refusing-wanted bytes ends names name-bytes name (notOne reason) = λ used. refl
+refusing-wanted bytes ends names name-bytes name (symbol i s e) =
+    cond-case Refusing (isName name) _ _ (λ v.
+    cond-case Refusing (ltb e s) _ _ (λ h used. refl) (λ h.
+    cond-case Refusing (eqb s e) _ _ (λ q. tt) (λ q. refusing-named bytes ends names name-bytes name i s e))) (λ v used. refl)
+
+refusing : (t : List ℕ) (used : ℕ) (bytes ends : List ℕ) (names name-bytes : ℕ) (rec : List ℕ) → Refusing (timeJudged t used bytes ends names name-bytes rec)
+unfolding timeJudged usedTold
+refusing t used bytes ends names name-bytes rec =
+    cond-case Refusing (tableFits (length t) used && listFits (length bytes) (length ends) names name-bytes) _ _ (λ f.
+    cond-case Refusing (wellFormed sameValue knownValue names (rows t used) && wellFormedNames bytes ends names name-bytes) _ _
+    (λ w. refusing-wanted bytes ends names name-bytes (nameIn rec) (mappedIn rec)) (λ w used′. refl)) (λ f used′. refl)
+
+-- the answers of an insert and of a mapping call with one outcome tell the same
+module _ (names name-bytes : ℕ) (name : List ℕ) (new : Bool) where
+  same-used : (used : ℕ) (o : Outcome (Row ℕ)) → usedTold used (outcomeAnswer o) ≡ usedTold used (outcomeThen names name-bytes name new o)
+  unfolding usedTold outcomeAnswer
+  same-used used (refusedBy c) = refl
+  same-used used (stored ys) = refl
+
+  same-done : (n : Row ℕ) (ns : List (Row ℕ)) (o : Outcome (Row ℕ)) → doneTold n ns (outcomeAnswer o) ≡ doneTold n ns (outcomeThen names name-bytes name new o)
+  unfolding doneTold outcomeAnswer
+  same-done n ns (refusedBy c) = refl
+  same-done n ns (stored ys) = refl
+
+-- calls, and then a mapping call that answers a and leaves t′: where it stores a symbol it is an insert of its row, else nothing changes
+module _ {ns : List (Row ℕ)} {t : List ℕ} {used : ℕ} (c : Trace ns t used) (bytes ends : List ℕ) (names name-bytes : ℕ) (rec : List ℕ) where
   abbrev judged : Wanted
   judged = timeJudged t used bytes ends names name-bytes rec
 
-  pub stores-call : {i s e n : ℕ} {new : Bool} (t′ : List ℕ) → judged ≡ stores i s e n new → rows t′ (timeUsed t used judged) ≡ timeRows t used judged
-      → Holds (insertion (namesThen new names) (roomOf t) (mappingRow i s e n) ∷ es) t′ (timeUsed t used judged)
-  unfolding after timeRows
-  stores-call {i} {s} {e} {n} {new} t′ h r =
-      let o = stores-insert t used names i s e n new (passed t used bytes ends names name-bytes rec h) in
-      r
-      ∙ ap (timeRows t used) h
-      ∙ ap (nowStored (rows t used)) (sym o)
-      ∙ ap (λ (xs : List (Row ℕ)). nowStored xs (inserted sameValue knownValue (namesThen new names) (roomOf t) (mappingRow i s e n) xs)) held
-
-  pub nothing-call : {t′ : List ℕ} → judged ≡ nothing → t′ ≡ timeTable t used judged → Holds es t′ used
-  unfolding timeTable
-  nothing-call h r = ap (λ (l : List ℕ). rows l used) (r ∙ ap (timeTable t used) h) ∙ held
-
-  pub refused-call : {a : Answer} {t′ : List ℕ} → judged ≡ refuses a → t′ ≡ timeTable t used judged → Holds es t′ used
-  unfolding timeTable
-  refused-call h r = ap (λ (l : List ℕ). rows l used) (r ∙ ap (timeTable t used) h) ∙ held
+  pub mapping-traced : (a : Answer) (t′ : List ℕ) → a ≡ timeAnswer t used names name-bytes (nameIn rec) judged → t′ ≡ timeTable t used judged
+      → rows t′ (timeUsed t used judged) ≡ timeRows t used judged → Trace (mappedTold judged ns a) t′ (usedTold used a)
+  unfolding mappedTold timeAnswer timeTable timeUsed timeRows usedTold insertOutcome
+  mapping-traced a t′ = go judged refl
+    where
+      go : (w : Wanted) → judged ≡ w → a ≡ timeAnswer t used names name-bytes (nameIn rec) w → t′ ≡ timeTable t used w
+          → rows t′ (timeUsed t used w) ≡ timeRows t used w → Trace (mappedTold w ns a) t′ (usedTold used a)
+      go nothing j h m r = rw (h, m) c
+      go (refuses q) j h m r =
+          let z : Refusing (refuses q) = rw j at (refusing t used bytes ends names name-bytes rec) in
+          rw (h, m, z used) c
+      go (stores i s e n new) j h m r =
+          let p = passed t used bytes ends names name-bytes rec j in
+          let x = mappingRow i s e n in
+          let o = timeOutcome t used i s e n in
+          let known = namesThen new names in
+          let even : T (eqb (length t % width) 0) = rw (table-lent (length t) used (p .fits) .even) (eqb-refl 0) in
+          let same : insertOutcome t used known x ≡ o = cond-yes (eqb (length t % width) 0) _ _ even ∙ stores-insert t used names i s e n new p in
+          let g : Gives (insertOutcome t used known x) t used (outcomeAnswer o) t′ = rw same (record { answers = refl; memory = m; holds = r }) in
+          let d : doneTold x ns (outcomeAnswer o) ≡ doneTold x ns a = same-done names name-bytes (nameIn rec) new x ns o ∙ ap (doneTold x ns) (sym h) in
+          let u : usedTold used (outcomeAnswer o) ≡ usedTold used a = same-used names name-bytes (nameIn rec) new used o ∙ ap (usedTold used) (sym h) in
+          subst (λ (k : ℕ). Trace (doneTold x ns a) t′ k) u
+          (subst (λ (l : List (Row ℕ)). Trace l t′ (usedTold used (outcomeAnswer o))) d (insert c known x (outcomeAnswer o) t′ g))
 
 -- ---- on a point-in-time table
 

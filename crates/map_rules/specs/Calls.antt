@@ -1,14 +1,14 @@
 -- Calls on lent memory make a history: a memory that holds the table after some events holds it after one more, whatever the
 -- name count and the room of the call; a lookup in it gives what the latest accepted insert says; and each refusal is given
 -- exactly when document 01's table says, in its order. Assumes nothing.
-use mathlib.Core.Path.{_≡_, ap, _∙_}
+use mathlib.Core.Path.{_≡_, sym, ap, _∙_}
 use mathlib.Core.Logic.{_≢_}
 use Prim.Native.Nat.{ℕ, _%_, _≤_, _<_}
 use native.Mathlib.Omega.{arith}
-use mathlib.Core.Bool.{Bool, not, _&&_}
+use mathlib.Core.Bool.{Bool, not, _&&_, cond}
 use mathlib.Core.List.{List, [], _∷_}
 use lib.ListN.{length}
-use lib.Dec.{T, ltb, eqb, eqb-refl, not-T}
+use lib.Dec.{T, ltb, eqb, eqb-refl, lt→ltb, not-T}
 use mir.Facts.{eqb-yes, eqb-no, ltb-yes, ltb-no}
 use Rattle.theory.specs.Answer.{Answer, answer}
 use Rattle.theory.specs.RunsTools.{cond-case, cond-yes, cond-no}
@@ -91,3 +91,39 @@ module _ (names room : ℕ) (n : Row ℕ) (xs : List (Row ℕ)) where
       cond-case P (ltb (n .value) names) _ _ (λ k.
       cond-case P (ltb room (length (insertRows sameValue n xs))) _ _ (λ r. by-2 b f l (ltb-yes k) (ltb-yes r)) (λ r. fits b f l (ltb-yes k) (ltb-no r)))
       (λ k. by-3 b f l (ltb-no k))))) (λ f. by-14 b f)) (λ b. by-15 b)
+
+  not-less : (a b : ℕ) → b ≤ a → T (not (ltb a b))
+  not-less a b h = not-T (ltb a b) (λ x. let k : a < b = ltb-yes x in absurd (omega arith))
+
+  not-equal : (a b : ℕ) → a < b → T (not (eqb a b))
+  not-equal a b h = not-T (eqb a b) (λ x. let k : a ≡ b = eqb-yes x in absurd (omega arith))
+
+  passes : T lent → T formed → inserted sameValue knownValue names room n xs ≡ entered sameValue knownValue names room n xs
+  unfolding inserted
+  passes b f = cond-yes lent _ _ b ∙ cond-yes formed _ _ f
+
+  forward : T lent → T formed → n .start < n .end
+      → inserted sameValue knownValue names room n xs ≡ cond (ltb (n .value) names) (ifRoom room (insertRows sameValue n xs)) (refusedBy 3)
+  unfolding entered
+  forward b f l = passes b f ∙ cond-no (ltb (n .end) (n .start)) _ _ (not-less (n .end) (n .start) (omega arith)) ∙ cond-no (eqb (n .start) (n .end)) _ _ (not-equal (n .start) (n .end) l)
+
+  -- and the other way: the number that is first is the one that is given
+  pub first-refused : {c : ℕ} → First c → outcomeNumber (inserted sameValue knownValue names room n xs) ≡ c
+  unfolding inserted entered ifRoom outcomeNumber
+  first-refused (by-15 b) = ap outcomeNumber (cond-no lent _ _ b)
+  first-refused (by-14 b f) = ap outcomeNumber (cond-yes lent _ _ b ∙ cond-no formed _ _ f)
+  first-refused (by-1 b f l) = ap outcomeNumber (passes b f ∙ cond-yes (ltb (n .end) (n .start)) _ _ (lt→ltb (n .end) (n .start) l))
+  first-refused (empty b f e) =
+      ap outcomeNumber (passes b f ∙ cond-no (ltb (n .end) (n .start)) _ _ (not-less (n .end) (n .start) (omega arith))
+      ∙ cond-yes (eqb (n .start) (n .end)) _ _ (rw e (eqb-refl (n .end))))
+  first-refused (by-3 b f l k) = ap outcomeNumber (forward b f l ∙ cond-no (ltb (n .value) names) _ _ (not-less (n .value) names k))
+  first-refused (by-2 b f l k r) =
+      ap outcomeNumber (forward b f l ∙ cond-yes (ltb (n .value) names) _ _ (lt→ltb (n .value) names k)
+      ∙ cond-yes (ltb room (length (insertRows sameValue n xs))) _ _ (lt→ltb room (length (insertRows sameValue n xs)) r))
+  first-refused (fits b f l k r) =
+      ap outcomeNumber (forward b f l ∙ cond-yes (ltb (n .value) names) _ _ (lt→ltb (n .value) names k)
+      ∙ cond-no (ltb room (length (insertRows sameValue n xs))) _ _ (not-less room (length (insertRows sameValue n xs)) r))
+
+  -- so only one number is first
+  pub only-first : {c d : ℕ} → First c → First d → c ≡ d
+  only-first x y = sym (first-refused x) ∙ first-refused y

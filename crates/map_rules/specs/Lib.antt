@@ -18,3 +18,4 @@ pub mod Checks
 pub mod Outcomes
 pub mod Looks
 pub mod Calls
+pub mod Trace

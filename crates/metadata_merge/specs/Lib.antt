@@ -1,3 +1,4 @@
 pub mod Room
 pub mod Outcome
 pub mod Merger
+pub mod ReadBack

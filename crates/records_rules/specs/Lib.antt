@@ -16,3 +16,6 @@ pub mod StateLaws
 pub mod Steps
 pub mod Opening
 pub mod Calls
+pub mod Others
+pub mod OthersLaws
+pub mod Complaint

@@ -11,7 +11,7 @@ use lib.Seq.{getD-set-same, set-set}
 use Rattle.leaves.specs.Frame.{Read, whole, ended, damaged}
 use Rattle.records_rules.specs.Machine.{Rec, rec, Stream, record-at, damage-at}
 use Rattle.records_rules.specs.Machine.{Status, waiting, standing, gone, key, First, nobody, first, up, before, least}
-use Rattle.records_rules.specs.Machine.{Answer, says, end, Step, done, again, afterRead, chosen, stepAt, step, Turn, turn, onward, nextF, next, answer, rest, upTo, runF, start, mine}
+use Rattle.records_rules.specs.Machine.{Answer, says, end, Step, done, again, afterRead, chosen, stepAt, step, Turn, turn, onward, nextF, next, answer, rest, answersBy, upTo, untilEnd, runF, start, mine}
 use Rattle.records_rules.specs.Least.{IsFirst, LeastOk, least-ok}
 use Rattle.records_rules.specs.Machine.{own}
 use Rattle.records_rules.specs.Order.{Rising, Sorted}
@@ -70,13 +70,12 @@ statuses (reply x ss o) = ss
 unfoldable pub last : Reply → Option ℕ
 last (reply x ss o) = o
 
+-- the answers of f calls one after the other, up to the first end
 unfoldable pub callsF : ℕ → (ℕ → Stream) → List Status → Option ℕ → List Answer
-unfolding call answered statuses last upTo
-callsF zero b ss o = []
-callsF (suc f) b ss o =
-    let r = call b ss o in
-    let xs = callsF f b (statuses r) (last r) in
-    upTo (answered r) xs
+unfolding answersBy untilEnd call answered statuses last
+callsF f b ss o =
+    untilEnd (answersBy (λ (s : List Status × Option ℕ). answered (call b (s .0) (s .1)))
+    (λ (s : List Status × Option ℕ). (statuses (call b (s .0) (s .1)), last (call b (s .0) (s .1)))) f (ss, o))
 
 -- ---- the same as the shorter machine
 

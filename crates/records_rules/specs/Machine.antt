@@ -142,18 +142,28 @@ answer (turn x ss) = x
 unfoldable pub rest : Turn → List Status
 rest (turn x ss) = ss
 
--- the answers of call after call, up to the first end
+-- the answers of f calls one after the other, of anything that is called again and again
+unfoldable pub answersBy : {S : Type 0} → (S → Answer) → (S → S) → ℕ → S → List Answer
+answersBy say go zero s = []
+answersBy say go (suc f) s = say s ∷ answersBy say go f (go s)
+
+unfoldable pub answersF : ℕ → (ℕ → Stream) → List Status → List Answer
+unfolding answersBy next answer rest
+answersF f b ss = answersBy (λ s. answer (next b s)) (λ s. rest (next b s)) f ss
+
+-- answers up to the first end
 unfoldable pub upTo : Answer → List Answer → List Answer
 upTo (says p y) xs = says p y ∷ xs
 upTo end xs = end ∷ []
 
+unfoldable pub untilEnd : List Answer → List Answer
+unfolding upTo
+untilEnd [] = []
+untilEnd (x ∷ xs) = upTo x (untilEnd xs)
+
 unfoldable pub runF : ℕ → (ℕ → Stream) → List Status → List Answer
-unfolding next answer rest upTo
-runF zero b ss = []
-runF (suc f) b ss =
-    let r = next b ss in
-    let xs = runF f b (rest r) in
-    upTo (answer r) xs
+unfolding answersF untilEnd
+runF f b ss = untilEnd (answersF f b ss)
 
 -- one waiting stream for each hint
 unfoldable pub start : List ℕ → List Status

@@ -16,11 +16,11 @@ use Rattle.records_rules.specs.Kept.{waits-le, AgainOk, StepOk, step-ok}
 use Rattle.records_rules.specs.Literal.{next-same}
 
 module _ (b : ℕ → Stream) (ss : List Status) where
-  next-done : (x : Answer) (ss' : List Status) → step b ss ≡ done x ss' → next b ss ≡ turn x ss'
+  pub next-done : (x : Answer) (ss' : List Status) → step b ss ≡ done x ss' → next b ss ≡ turn x ss'
   unfolding next nextF onward
   next-done x ss' e = ap (onward (λ r. nextF (length ss) b r)) e
 
-  next-again : (ss' : List Status) → step b ss ≡ again ss' → next b ss ≡ next b ss'
+  pub next-again : (ss' : List Status) → step b ss ≡ again ss' → next b ss ≡ next b ss'
   unfolding next nextF onward
   next-again ss' e =
       let k : AgainOk b ss ss' = (let z : StepOk b ss (again ss') = rw e at (step-ok b ss) in z) in

@@ -37,7 +37,7 @@ unfoldable pub bytes : (ℕ → Stream) → ℕ → ℕ
 bytes b zero = 0
 bytes b (suc n) = b 0 .size + bytes (λ p. b (suc p)) n
 
-total-start : (b : ℕ → Stream) (hs : List ℕ) → total b (start hs) ≤ bytes b (length hs)
+pub total-start : (b : ℕ → Stream) (hs : List ℕ) → total b (start hs) ≤ bytes b (length hs)
 unfolding total sumBy start bytes leftOf
 total-start b [] = omega arith
 total-start b (h ∷ hs) = omega (arith, own-short (b 0) 0, total-start (λ p. b (suc p)) hs)

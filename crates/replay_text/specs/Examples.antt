@@ -7,6 +7,7 @@ use Rattle.leaves.specs.Frame.{frameAt}
 use Rattle.records_rules.specs.Literal.{literalRun}
 use Rattle.lines.specs.Lines.{badLine, endLine}
 use Rattle.replay_text.specs.Replay.{replayText}
+use Rattle.replay_text.specs.OtherLines.{otherLines}
 
 -- a record of 16 bytes: kind 1, instrument 7, the time t below 256
 unfoldable pub short : ℕ → List ℕ
@@ -30,6 +31,13 @@ printed-text =
 pub printed : replayText printed-bundle ≡ printed-text
 unfolding replayText printed-bundle printed-text literalRun frameAt field
 printed = refl
+
+-- without the lines of stream 0: "1 6 7", "end"; without those of stream 1: "0 5 7", "0 damaged 16", "end"
+pub printed-others : (otherLines 0 printed-text ≡ (49 ∷ 32 ∷ 54 ∷ 32 ∷ 55 ∷ []) ∷ (101 ∷ 110 ∷ 100 ∷ []) ∷ [])
+    × (otherLines 1 printed-text
+    ≡ (48 ∷ 32 ∷ 53 ∷ 32 ∷ 55 ∷ []) ∷ (48 ∷ 32 ∷ 100 ∷ 97 ∷ 109 ∷ 97 ∷ 103 ∷ 101 ∷ 100 ∷ 32 ∷ 49 ∷ 54 ∷ []) ∷ (101 ∷ 110 ∷ 100 ∷ []) ∷ [])
+unfolding otherLines printed-text
+printed-others = (refl, refl)
 
 -- no input is bad; one empty stream ends at once; with a byte more, with kind 2, or with a length below 6 it is bad
 pub smallest : (replayText [] ≡ badLine)

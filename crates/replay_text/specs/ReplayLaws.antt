@@ -13,12 +13,12 @@ use mir.Facts.{ltb-no}
 use Rattle.theory.specs.Fields.{field}
 use Rattle.leaves.specs.Frame.{Read, whole, ended, damaged, judged, recordAt, frameAt}
 use Rattle.records_rules.specs.Machine.{Fits, Stream, Said, ownOn, ownF, own}
-use Rattle.records_rules.specs.Machine.{Status, Answer, says, end, Turn, turn, next, answer, rest, upTo, runF, start}
+use Rattle.records_rules.specs.Machine.{Status, Answer, says, end, Turn, turn, next, answer, rest, upTo, start}
 use Rattle.records_rules.specs.Bytes.{bytesOf, frame-fits, streamsOf}
 use Rattle.records_rules.specs.Literal.{literalRun, told-run}
 use Rattle.records_rules.specs.Least.{cond-case}
 use Rattle.records_rules.specs.Kept.{size, leftOf, sumBy, total, TurnOk, next-ok}
-use Rattle.records_rules.specs.Whole.{bytes, run, own-short}
+use Rattle.records_rules.specs.Whole.{run, allFrom, all-step, run-all}
 use Rattle.lines.specs.Sections.{streamAt, cutOut, Cuts, Apart}
 use Rattle.lines.specs.SectionsLaws.{cutOut-same, length-cutOut, getD-cutOut}
 use Rattle.lines.specs.Lines.{endLine, laid, Lays}
@@ -98,50 +98,32 @@ bytes-cut buffer cuts (suc n) first rises =
 
 -- ---- a run, answer by answer
 
--- any count above the answers to come gives the same
-run-same : (f g : ℕ) (b : ℕ → Stream) (ss : List Status) → total b ss < f → total b ss < g → runF f b ss ≡ runF g b ss
-unfolding runF upTo answer rest size
-run-same zero g b ss h k = absurd (omega arith)
-run-same (suc f) zero b ss h k = absurd (omega arith)
-run-same (suc f) (suc g) b ss h k = go (next b ss) (next-ok b ss) (λ ss' i j. run-same f g b ss' i j)
-  where
-    go : (r : Turn) → TurnOk b ss r → ((ss' : List Status) → total b ss' < f → total b ss' < g → runF f b ss' ≡ runF g b ss')
-        → upTo (answer r) (runF f b (rest r)) ≡ upTo (answer r) (runF g b (rest r))
-    go (turn (says q y) ss') (w, c) ih = ap (λ (xs : List Answer). says q y ∷ xs) (ih ss' (omega (arith, w .less)) (omega (arith, w .less)))
-    go (turn end ss') (w, c) ih = refl
-
 -- the lines to come from these statuses on
 unfoldable pub linesLeft : (ℕ → Stream) → List Status → List ℕ
-linesLeft b ss = linesOf (runF (suc (total b ss)) b ss)
-
-start-total : (b : ℕ → Stream) (hs : List ℕ) → total b (start hs) ≤ bytes b (length hs)
-unfolding total sumBy start bytes leftOf
-start-total b [] = omega arith
-start-total b (h ∷ hs) = omega (arith, own-short (b 0) 0, start-total (λ p. b (suc p)) hs)
+linesLeft b ss = linesOf (allFrom b ss)
 
 -- at the start these are the lines of the run
 pub left-start : (b : ℕ → Stream) (hs : List ℕ) → linesLeft b (start hs) ≡ linesOf (run b hs)
-unfolding linesLeft run
-left-start b hs =
-    ap linesOf (run-same (suc (total b (start hs))) (suc (bytes b (length hs))) b (start hs) (omega arith) (omega (arith, start-total b hs)))
+unfolding linesLeft
+left-start b hs = ap linesOf (sym (run-all b hs))
 
 module _ (b : ℕ → Stream) (ss ss' : List Status) where
+  onward : {x : Answer} → next b ss ≡ turn x ss' → linesLeft b ss ≡ linesOf (upTo x (allFrom b ss'))
+  unfolding linesLeft answer rest
+  onward e = ap linesOf (all-step b ss ∙ ap (λ (r : Turn). upTo (answer r) (allFrom b (rest r))) e)
+
   -- an answer's line, and those to come; one answer less is to come
   pub left-says : (p : ℕ) (y : Said) → next b ss ≡ turn (says p y) ss'
       → (linesLeft b ss ≡ lineOf (says p y) ++ linesLeft b ss') × (suc (total b ss') ≡ total b ss)
-  unfolding linesLeft runF linesOf upTo answer rest size
+  unfolding linesLeft linesOf upTo size
   left-says p y e =
       let w : TurnOk b ss (turn (says p y) ss') = rw e at (next-ok b ss) in
-      let l : suc (total b ss') ≡ total b ss = omega (arith, w .0 .less) in (
-        ap (λ (r : Turn). linesOf (upTo (answer r) (runF (total b ss) b (rest r)))) e
-            ∙ ap (λ (f : ℕ). lineOf (says p y) ++ linesOf (runF f b ss')) (sym l),
-        l,
-      )
+      (onward e, omega (arith, w .0 .less))
 
   -- the end's line
   pub left-end : next b ss ≡ turn end ss' → linesLeft b ss ≡ endLine
-  unfolding linesLeft runF linesOf upTo answer rest lineOf
-  left-end e = ap (λ (r : Turn). linesOf (upTo (answer r) (runF (total b ss) b (rest r)))) e ∙ append-nil endLine
+  unfolding linesOf upTo lineOf
+  left-end e = onward e ∙ append-nil endLine
 
 -- ---- the loop that writes
 

@@ -23,7 +23,7 @@ struct Said {
 // The number of 6: metadata differ.
 const DIFFER: u64 = 6;
 
-// Memory for the lists of one side: one entry and one mapping more than document 01 allows, and some intervals.
+// Memory for the lists of one side: one entry, one mapping and one interval more than document 01 allows.
 fn entries() -> [u32; 4097]
     ensures { λ r. ⌜ 4097 ≡ length r ⌝ }
 {
@@ -36,10 +36,10 @@ fn mapping_words() -> [u32; 8194]
     [0; 8194]
 }
 
-fn interval_words() -> [u32; 240]
-    ensures { λ r. ⌜ 240 ≡ length r ⌝ }
+fn interval_words() -> [u32; 196611]
+    ensures { λ r. ⌜ 196611 ≡ length r ⌝ }
 {
-    [0; 240]
+    [0; 196611]
 }
 
 fn field_of(refusal: Refusal) -> u64 {

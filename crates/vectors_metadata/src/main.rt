@@ -6,10 +6,10 @@ ghost use mathlib.Core.Path.{_≡_};
 ghost use lib.ListN.{length};
 
 // Room for the whole data.
-fn room() -> [u8; 262144]
-    ensures { λ r. ⌜ 262144 ≡ length r ⌝ }
+fn room() -> [u8; 327680]
+    ensures { λ r. ⌜ 327680 ≡ length r ⌝ }
 {
-    [0; 262144]
+    [0; 327680]
 }
 
 // The calls of cases.
@@ -60,4 +60,7 @@ fn main() {
     run(text, b"finish", FINISH);
     run(text, b"dbn_open", OPEN);
     run(text, b"dbn_merge", MERGE);
+    run(text, b"limit_open", OPEN);
+    run(text, b"limit_merge", MERGE);
+    run(text, b"limit_finish", FINISH);
 }

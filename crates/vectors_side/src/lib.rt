@@ -1,7 +1,14 @@
 // One side of a case: a metadata in lent memory, read from the text, and compared with what stands there. It is written as
 // the header's ten numbers, its four counts, and five lists; a list as the places lent, how many of them are given, and
-// those: the others hold 0.
+// those, or the rule that makes them: the others hold 0.
+mod rule;
+
+use crate::rule::NONE;
+use crate::rule::Rule;
+use crate::rule::made;
+use crate::rule::rule_at;
 use metadata_form::header::Header;
+use vectors_text::Token;
 ghost use Prim.Native.Nat.{_≤_, _<_};
 ghost use lib.ListN.{length};
 ghost use Rattle.vectors_side.specs.Sides.{Within};
@@ -100,26 +107,39 @@ pub fn at_most(places: u64, all: usize) -> usize
     }
 }
 
-// Reads a list into out, which holds 0 behind what is given.
+// The i-th word of a list, of which so many are given: by a rule, by the number at a place, or 0.
+fn word_at(text: &[u8], at: usize, given: u64, rule: Rule, i: usize) -> Token {
+    if given <= i as u64 {
+        return Token { value: 0, next: at };
+    }
+    if rule.letter == NONE {
+        return vectors_text::number_at(text, at);
+    }
+    Token {
+        value: made(rule, i),
+        next: at,
+    }
+}
+
+// Reads a list into out, as many places of it as are lent.
 pub fn list_at(text: &[u8], at: usize, out: &mut [u32]) -> Listed
     ensures { λ r. ⌜ r .places ≤ length (now (out .exit)) ⌝ }
 {
     let lent = vectors_text::number_at(text, at);
     let given = vectors_text::number_at(text, lent.next);
-    let mut place = given.next;
+    let ruled = rule_at(text, given.next);
+    let rule = ruled.rule;
+    let places = at_most(lent.value, out.len());
+    let mut place = ruled.next;
     let mut i = 0;
-    while i < out.len() {
-        let mut word = 0;
-        if (i as u64) < given.value {
-            let one = vectors_text::number_at(text, place);
-            word = of_32(one.value);
-            place = one.next;
-        }
-        out[i] = word;
+    while i < places {
+        let word = word_at(text, place, given.value, rule, i);
+        out[i] = of_32(word.value);
+        place = word.next;
         i += 1;
     }
     Listed {
-        places: at_most(lent.value, out.len()),
+        places,
         next: place,
     }
 }
@@ -163,23 +183,22 @@ fn number_too(text: &[u8], so_far: Compared, n: u64) -> Compared {
     }
 }
 
-// Whether the list behind what was compared so far is this one, too.
+// Whether the list behind what was compared so far is this one, too, as many places of it as are lent.
 fn list_too(text: &[u8], so_far: Compared, list: &[u32]) -> Compared {
     let lent = vectors_text::number_at(text, so_far.next);
     let given = vectors_text::number_at(text, lent.next);
+    let ruled = rule_at(text, given.next);
+    let rule = ruled.rule;
+    let places = at_most(lent.value, list.len());
     let mut same = so_far.same;
-    let mut place = given.next;
+    let mut place = ruled.next;
     let mut i = 0;
-    while i < list.len() {
-        let mut expected = 0;
-        if (i as u64) < given.value {
-            let one = vectors_text::number_at(text, place);
-            expected = of_32(one.value);
-            place = one.next;
-        }
-        if list[i] != expected {
+    while i < places {
+        let word = word_at(text, place, given.value, rule, i);
+        if list[i] != of_32(word.value) {
             same = false;
         }
+        place = word.next;
         i += 1;
     }
     Compared { same, next: place }
@@ -223,7 +242,7 @@ fn same_header(text: &[u8], at: usize, header: Header) -> Compared {
     number_too(text, so_far, header.mappings as u64)
 }
 
-// Whether the side at a place of the text is this header with these lists, every place of them.
+// Whether the side at a place of the text is this header with these lists, every place that is lent of them.
 pub fn is_side(
     text: &[u8],
     at: usize,

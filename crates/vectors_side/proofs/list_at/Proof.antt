@@ -8,10 +8,10 @@ use Rattle.vectors_side.proofs.list_at.Statement.{statement}
 use Rattle.vectors_side.proofs.list_at.Tie as tie
 
 abbrev Inv-loop : tie.InvT-loop
-Inv-loop text at out₀ lent given place₀ i₀ out place i = length out ≡ length out₀
+Inv-loop text at out₀ given rule places place₀ i₀ out place i = length out ≡ length out₀
 
 abbrev μ-loop : tie.MeasureT-loop
-μ-loop text at out₀ lent given place₀ i₀ out place i = length out₀ - i
+μ-loop text at out₀ given rule places place₀ i₀ out place i = places - i
 
 number-at-requires : tie.Need-number-at-requires Inv-loop μ-loop
 number-at-requires c κs = search needs
@@ -19,11 +19,17 @@ number-at-requires c κs = search needs
 number-at-requires-2 : tie.Need-number-at-requires-2 Inv-loop μ-loop
 number-at-requires-2 c κs = search needs
 
+rule-at-requires : tie.Need-rule-at-requires Inv-loop μ-loop
+rule-at-requires c κs = search needs
+
+at-most-requires : tie.Need-at-most-requires Inv-loop μ-loop
+at-most-requires c κs = search needs
+
 loop-holds : tie.Need-loop-holds Inv-loop μ-loop
 loop-holds c = search needs
 
-number-at-requires-3 : tie.Need-number-at-requires-3 Inv-loop μ-loop
-number-at-requires-3 c κs = search needs
+word-at-requires : tie.Need-word-at-requires Inv-loop μ-loop
+word-at-requires c κs = search needs
 
 of-32-requires : tie.Need-of-32-requires Inv-loop μ-loop
 of-32-requires c κs = search needs
@@ -43,9 +49,6 @@ loop-less c = search needs
 loop-again : tie.Need-loop-again Inv-loop μ-loop
 loop-again c = simp length-set (omega arith)
 
-at-most-requires : tie.Need-at-most-requires Inv-loop μ-loop
-at-most-requires c κs = search needs
-
 same-length : tie.Need-same-length Inv-loop μ-loop
 same-length c = search needs
 
@@ -60,14 +63,15 @@ list-at-spec =
     μ-loop
     number-at-requires
     number-at-requires-2
+    rule-at-requires
+    at-most-requires
     loop-holds
-    number-at-requires-3
+    word-at-requires
     of-32-requires
     mul-out
     slice-write-out
     add-i
     loop-less
     loop-again
-    at-most-requires
     same-length
     returns)

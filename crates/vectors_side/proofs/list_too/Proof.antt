@@ -1,15 +1,14 @@
--- Loop: it ends with the list. Assumes nothing.
+-- Loop: it ends with the places lent. Assumes nothing.
 use Prim.Native.Nat.{_-_}
-use lib.ListN.{length}
 use borrow.Author.Needs.{needs}
 use Rattle.vectors_side.proofs.list_too.Statement.{statement}
 use Rattle.vectors_side.proofs.list_too.Tie as tie
 
 abbrev Inv-loop : tie.InvT-loop
-Inv-loop text list given same₀ place₀ i₀ same place i = Unit {0}
+Inv-loop text list given rule places same₀ place₀ i₀ same place i = Unit {0}
 
 abbrev μ-loop : tie.MeasureT-loop
-μ-loop text list given same₀ place₀ i₀ same place i = length list - i
+μ-loop text list given rule places same₀ place₀ i₀ same place i = places - i
 
 number-at-requires : tie.Need-number-at-requires Inv-loop μ-loop
 number-at-requires c κs = search needs
@@ -17,20 +16,26 @@ number-at-requires c κs = search needs
 number-at-requires-2 : tie.Need-number-at-requires-2 Inv-loop μ-loop
 number-at-requires-2 c κs = search needs
 
+rule-at-requires : tie.Need-rule-at-requires Inv-loop μ-loop
+rule-at-requires c κs = search needs
+
+at-most-requires : tie.Need-at-most-requires Inv-loop μ-loop
+at-most-requires c κs = search needs
+
 loop-holds : tie.Need-loop-holds Inv-loop μ-loop
 loop-holds c = search needs
 
-number-at-requires-3 : tie.Need-number-at-requires-3 Inv-loop μ-loop
-number-at-requires-3 c κs = search needs
+word-at-requires : tie.Need-word-at-requires Inv-loop μ-loop
+word-at-requires c κs = search needs
+
+mul-if1 : tie.Need-mul-if1 Inv-loop μ-loop
+mul-if1 c = search needs
+
+shared-slice-read-if1 : tie.Need-shared-slice-read-if1 Inv-loop μ-loop
+shared-slice-read-if1 c = search needs
 
 of-32-requires : tie.Need-of-32-requires Inv-loop μ-loop
 of-32-requires c κs = search needs
-
-mul-if2 : tie.Need-mul-if2 Inv-loop μ-loop
-mul-if2 c = search needs
-
-shared-slice-read-if2 : tie.Need-shared-slice-read-if2 Inv-loop μ-loop
-shared-slice-read-if2 c = search needs
 
 add-i : tie.Need-add-i Inv-loop μ-loop
 add-i c = search needs
@@ -52,11 +57,13 @@ list-too-spec =
     μ-loop
     number-at-requires
     number-at-requires-2
+    rule-at-requires
+    at-most-requires
     loop-holds
-    number-at-requires-3
+    word-at-requires
+    mul-if1
+    shared-slice-read-if1
     of-32-requires
-    mul-if2
-    shared-slice-read-if2
     add-i
     loop-less
     loop-again
