@@ -32,7 +32,7 @@ returns-2 : tie.Need-returns-2
 returns-2 c =
     let d = c .before .before .before .before in
     compared-no-room _ _ _ _ _ _ (d .before .bad-compare .ensures) (d .if1 .left) (c .before .before .before .both-formed .ensures) (c .before .before .if2 .taken)
-    (c .before .count .ensures) (c .if3 .taken)
+    (c .before .count .ensures) (omega arith)
 
 same-length : tie.Need-same-length
 same-length c = search needs
@@ -41,7 +41,7 @@ returns-3 : tie.Need-returns-3
 returns-3 c =
     let d = c .before .before .before .before in
     compared-done _ _ _ _ _ _ (d .before .before .before .before .before .bad-compare .ensures) (d .before .before .before .before .if1 .left) (d .before .before .before .both-formed .ensures)
-    (d .before .before .if2 .taken) (d .before .count .ensures) (d .if3 .left) (c .before .before .lay .ensures)
+    (d .before .before .if2 .taken) (d .before .count .ensures) (omega arith) (c .before .before .lay .ensures)
 
 returns-4 : tie.Need-returns-4
 returns-4 c =
