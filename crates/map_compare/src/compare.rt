@@ -76,7 +76,7 @@ fn lay(left: &[u8], n: usize, right: &[u8], m: usize, stretches: &mut [u8])
 }
 
 // Whether what is lent is no two tables with so many in use and a list, or too many names are: 15.
-fn bad_compare(left: usize, n: usize, right: usize, m: usize, names: usize, list: usize) -> bool
+pub fn bad_compare(left: usize, n: usize, right: usize, m: usize, names: usize, list: usize) -> bool
     ensures { λ r. ⌜ r ≡ badCompare left n right m names list ⌝ }
 {
     if map_time::table::bad_memory(left, n, names) {
@@ -89,7 +89,7 @@ fn bad_compare(left: usize, n: usize, right: usize, m: usize, names: usize, list
 }
 
 // Whether both tables are well-formed.
-fn both_formed(left: &[u8], n: usize, right: &[u8], m: usize, names: usize) -> bool
+pub fn both_formed(left: &[u8], n: usize, right: &[u8], m: usize, names: usize) -> bool
     requires { ⌜ (n * width ≤ length (now left)) × (m * width ≤ length (now right)) ⌝ }
     ensures { λ r. ⌜ r ≡ bothFormed (now (left .entry)) n (now (right .entry)) m names ⌝ }
 {
