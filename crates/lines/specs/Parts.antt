@@ -1,5 +1,6 @@
 -- A section of a kind found in place (whole length 4 bytes, kind 2, then the content), and its laws. Assumes nothing.
 use mathlib.Core.Path.{_≡_, refl, sym, ap, _∙_}
+use mathlib.Core.Logic.{_≢_}
 use Prim.Native.Nat.{ℕ, _+_, _-_, _≤_, _<_}
 use native.Mathlib.Omega.{arith}
 use mathlib.Core.Bool.{Bool, true, false, _&&_, cond}
@@ -78,3 +79,12 @@ module _ (kind : ℕ) (b : List ℕ) (at : ℕ) where
       let d : leb (sizeOf s) (length s) ≡ true = le-leb (sizeOf s) (length s) (omega (arith, size-at b at, length-drop at b)) in
       let e : eqb (kindOf s) kind ≡ true = eq-eqb (kindOf s) kind (field-drop 2 b at 4 ∙ sym ek ∙ one) in
       rw (a, c, d, e) (ap (λ (i : ℕ). at + i) (en ∙ sym (size-at b at)))
+
+-- a section takes 6 bytes at least
+pub part-long : (kind : ℕ) (b : List ℕ) (at : ℕ) → partEnd kind b at ≢ 0 → at + 6 ≤ partEnd kind b at
+unfolding partEnd
+part-long kind b at d = go (isPart kind (drop at b)) refl d
+  where
+    go : (c : Bool) → isPart kind (drop at b) ≡ c → cond c (at + sizeOf (drop at b)) 0 ≢ 0 → at + 6 ≤ cond c (at + sizeOf (drop at b)) 0
+    go true e f = let w = part-yes kind (drop at b) e in omega (arith, w .size)
+    go false e f = absurd (f refl)

@@ -76,7 +76,14 @@ fn lay(left: &[u8], n: usize, right: &[u8], m: usize, stretches: &mut [u8])
 }
 
 // Whether what is lent is two tables with so many in use, and a list, and no more names are in use than may be; where not, 15.
-fn compare_fits(left: usize, n: usize, right: usize, m: usize, names: usize, list: usize) -> bool
+pub fn compare_fits(
+    left: usize,
+    n: usize,
+    right: usize,
+    m: usize,
+    names: usize,
+    list: usize,
+) -> bool
     ensures { λ r. ⌜ r ≡ compareFits left n right m names list ⌝ }
 {
     if map_time::table::memory_fits(left, n, names) {
@@ -91,7 +98,7 @@ fn compare_fits(left: usize, n: usize, right: usize, m: usize, names: usize, lis
 }
 
 // Whether both tables are well-formed.
-fn both_formed(left: &[u8], n: usize, right: &[u8], m: usize, names: usize) -> bool
+pub fn both_formed(left: &[u8], n: usize, right: &[u8], m: usize, names: usize) -> bool
     requires { ⌜ (n * width ≤ length (now left)) × (m * width ≤ length (now right)) ⌝ }
     ensures { λ r. ⌜ r ≡ bothFormed (now (left .entry)) n (now (right .entry)) m names ⌝ }
 {

@@ -1,0 +1,157 @@
+// The compare program: reads two tables from standard input and writes every stretch in which they disagree (02, No. 1). Its input is
+// three sections: the name count (4 bytes), the left table's intervals, the right one's.
+use compare_text::telling::lay_portion;
+use lines::parts::PART_HEAD;
+use lines::parts::part_end;
+use map_compare::compare::both_formed;
+use map_compare::compare::compare_fits;
+use map_compare::walk::Position;
+use map_time::interval::WIDTH;
+use standard::Input;
+ghost use mathlib.Core.Path.{_≡_};
+ghost use Prim.Native.Nat.{_≤_};
+ghost use lib.ListN.{length};
+ghost use Rattle.map_compare.specs.Walk.{InOrder};
+ghost use Rattle.compare_main.specs.Asked.{leftEnd, Apart, tablesStatus, statusOf, Ends};
+
+// The status of two tables that were compared.
+const DONE: u8 = 0;
+
+// The status of a bad bundle, and of a refusal.
+const BAD: u8 = 1;
+
+// The status where reading or writing failed.
+const FAILED: u8 = 2;
+
+// The kind of the section with the name count, and of those with a table's intervals.
+const NAMES: u16 = 2;
+
+const TABLE: u16 = 3;
+
+// The section with the name count takes so many bytes.
+const NAMES_BYTES: usize = 10;
+
+// An input over this many bytes is bad.
+const MOST_BYTES: usize = 3145750;
+
+// Room for the longest input and a byte more, so that a longer one is seen.
+fn input_space() -> [u8; 3145751]
+    ensures { λ r. ⌜ 3145751 ≡ length r ⌝ }
+{
+    [0; 3145751]
+}
+
+// Room for a portion of lines.
+fn text_space() -> [u8; 65536]
+    ensures { λ r. ⌜ 65536 ≡ length r ⌝ }
+{
+    [0; 65536]
+}
+
+// Where the left table's section ends, or 0 where the input is not the three sections.
+fn left_end(input: &[u8]) -> usize
+    ensures { λ r. ⌜ (r ≡ leftEnd (now (input .entry))) × Apart r (length (now (input .entry))) ⌝ }
+{
+    if MOST_BYTES < input.len() {
+        return 0;
+    }
+    let first = part_end(input, 0, NAMES);
+    if first != NAMES_BYTES {
+        return 0;
+    }
+    let end = part_end(input, first, TABLE);
+    if end == 0 {
+        return 0;
+    }
+    let last = part_end(input, end, TABLE);
+    if last != input.len() {
+        return 0;
+    }
+    end
+}
+
+// Writes the last line and answers the status.
+fn say(text: &[u8], status: u8) -> u8
+    ensures { λ r. ⌜ Ends status r ⌝ }
+{
+    if standard::write_output(text, b"compare: writing standard output") {
+        status
+    } else {
+        FAILED
+    }
+}
+
+// Writes a portion of lines, and answers whether it went out.
+fn put(text: &[u8]) -> bool {
+    let out = io::write_all(libc::STDOUT_FILENO, text);
+    if !out {
+        os::fail(b"compare: writing standard output");
+    }
+    out
+}
+
+// Writes the line of every stretch in which two tables that are in order disagree, portion by portion, then `end`.
+fn tell_all(left: &[u8], n: usize, right: &[u8], m: usize, text: &mut [u8]) -> u8
+    requires { ⌜ InOrder (now left) n (now right) m × (105 ≤ length (now text)) ⌝ }
+    ensures { λ r. ⌜ Ends 0 r ⌝ }
+{
+    let mut l = Position { place: 0, from: 0 };
+    let mut r = Position { place: 0, from: 0 };
+    while l.place < n || r.place < m {
+        let p = lay_portion(left, n, right, m, l, r, text);
+        let k = p.at;
+        if !put(&text[..k]) {
+            return FAILED;
+        }
+        l = p.left;
+        r = p.right;
+    }
+    say(b"end\n", DONE)
+}
+
+// Compares two tables of which every interval is in use: their lines, or the line that refuses them.
+fn compare_tables(left: &[u8], right: &[u8], names: usize, text: &mut [u8]) -> u8
+    requires { ⌜ 105 ≤ length (now text) ⌝ }
+    ensures { λ r. ⌜ Ends (tablesStatus (now (left .entry)) (now (right .entry)) names) r ⌝ }
+{
+    let n = left.len() / WIDTH;
+    let m = right.len() / WIDTH;
+    if !compare_fits(left.len(), n, right.len(), m, names, 0) {
+        say(b"refused 15\n", BAD)
+    } else if both_formed(left, n, right, m, names) {
+        tell_all(left, n, right, m, text)
+    } else {
+        say(b"refused 14\n", BAD)
+    }
+}
+
+// Takes the input apart and compares, or writes only the line that says that it is bad.
+fn show(input: &[u8], text: &mut [u8]) -> u8
+    requires { ⌜ 105 ≤ length (now text) ⌝ }
+    ensures { λ r. ⌜ Ends (statusOf (now (input .entry))) r ⌝ }
+{
+    let end = left_end(input);
+    if end == 0 {
+        return say(b"bad bundle\n", BAD);
+    }
+    let names = leaves::fields::u32_at(input, PART_HEAD) as usize;
+    let begin = NAMES_BYTES + PART_HEAD;
+    let next = end + PART_HEAD;
+    compare_tables(&input[begin..end], &input[next..], names, text)
+}
+
+// Compares standard input and answers the status.
+fn compared() -> u8 {
+    let mut input = input_space();
+    let mut text = text_space();
+    match standard::read_input(&mut input, b"compare: reading standard input") {
+        Input::Bytes(n) => show(&input[..n], &mut text),
+        Input::Failed => FAILED,
+    }
+}
+
+// The program: compares the tables of standard input, and answers the status to end with.
+#[no_mangle]
+pub extern "C" fn compare_main() -> i32 {
+    compared() as i32
+}
