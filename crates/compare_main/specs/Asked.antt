@@ -10,7 +10,7 @@ use lib.ListN.{length, take, drop}
 use lib.Dec.{T, ltb, eqb}
 use Rattle.theory.specs.RunsTools.{cond-case, cond-yes, cond-no, cond-lt, cond-ge}
 use Rattle.theory.specs.Fields.{field}
-use borrow.Author.Tests.{eq-eqb, ne-eqb}
+use borrow.Author.Tests.{eq-eqb, ne-eqb, not-true, not-false}
 use Rattle.map_rules.specs.Memory.{width}
 use Rattle.map_compare_rules.specs.Memory.{compareFits, bothFormed}
 use Rattle.lines.specs.Parts.{partEnd, part-long}
