@@ -1,6 +1,6 @@
 /* The desk's side of the benchmark: `ours ROW STEPS` lays the row's inputs out, takes so many steps over them through the C door,
  * and prints a digest of the answers, which theirs.rs prints too. With 0 steps only the inputs are laid out. theirs.rs has the same
- * rows and makes the same inputs with the same generator: a change here is a change there. */
+ * rows, save the comparison's, and makes the same inputs with the same generator: a change here is a change there. */
 #include <stdint.h>
 #include <stdio.h>
 #include <stdlib.h>
@@ -111,6 +111,116 @@ static void middles(uint64_t steps, uint64_t most, uint64_t instruments, uint64_
         insert(instrument(which), from, from + 300, symbol(k + 1));
     }
     digest = used;
+}
+
+/* ---- Two tables side by side: `table` on the left, `other` on the right, as long and with as many in use. */
+
+static uint8_t *other, *stretches;
+static size_t stretches_len;
+
+/* x86-64 is little-endian, as the tables are. */
+static uint64_t get(const uint8_t *at, size_t bytes) {
+    uint64_t value = 0;
+    memcpy(&value, at, bytes);
+    return value;
+}
+
+/* Both tables; of each hundred intervals one is another on the right: it has another symbol, starts later or ends earlier. */
+static void lay_tables(uint64_t instruments, uint64_t intervals) {
+    lay_table(instruments, intervals, 0);
+    other = room(table_len);
+    memcpy(other, table, table_len);
+    for (uint64_t i = 0; i + 100 <= used; i += 100) {
+        uint64_t place = i + draw(100), k = place % intervals;
+        uint8_t *row = other + place * DESK_INTERVAL_BYTES;
+        switch (draw(3)) {
+        case 0: put(row + 4, symbol(k + 1), 4); break;
+        case 1: put(row + 8, k * SPACING + 100, 8); break;
+        default: put(row + 16, k * SPACING + 800, 8);
+        }
+    }
+    if (desk_check(other, table_len, used, NAMES) != DESK_DONE) stop("the right table is not well-formed");
+    stretches_len = DESK_STRETCHES(used, used) * DESK_STRETCH_BYTES;
+    stretches = room(stretches_len);
+}
+
+static size_t compare(void) {
+    size_t count;
+    if (desk_compare(table, table_len, used, other, table_len, used, NAMES, stretches, stretches_len, &count) != DESK_DONE)
+        stop("a comparison was refused");
+    return count;
+}
+
+/* The checks that a comparison can't do without, and no stretch. */
+static size_t check_both(void) {
+    if (desk_check(table, table_len, used, NAMES) != DESK_DONE || desk_check(other, table_len, used, NAMES) != DESK_DONE)
+        stop("a check was refused");
+    return 0;
+}
+
+static uint32_t look(const uint8_t *rows, uint32_t instrument, uint64_t moment, uint64_t *hint) {
+    uint32_t found, number;
+    if (desk_get_for_ts(rows, table_len, used, instrument, moment, hint, &found, &number) != DESK_DONE) stop("a lookup was refused");
+    return found ? number : DESK_NOTHING;
+}
+
+/* A table's start or end: those of interval k have the places 2k and 2k + 1. */
+struct edge {
+    uint64_t instrument, moment;
+};
+
+static struct edge edge(const uint8_t *rows, size_t place) {
+    if (place == 2 * used) return (struct edge){UINT64_MAX, UINT64_MAX};
+    const uint8_t *row = rows + place / 2 * DESK_INTERVAL_BYTES;
+    return (struct edge){get(row, 4), get(row + (place % 2 ? 16 : 8), 8)};
+}
+
+static int before(struct edge x, struct edge y) {
+    return x.instrument < y.instrument || (x.instrument == y.instrument && x.moment < y.moment);
+}
+
+/* The list of desk_compare by lookups alone: at every start and end of both tables in order, each once, with a cursor for each
+ * table, both are asked, and where the two answers are others than before a stretch is over or begins. */
+static size_t compare_by_lookups(void) {
+    size_t i = 0, j = 0, count = 0;
+    uint64_t instrument = UINT64_MAX, left_hint = 0, right_hint = 0;
+    uint32_t left = DESK_NOTHING, right = DESK_NOTHING;
+    while (i < 2 * used || j < 2 * used) {
+        struct edge x = edge(table, i), y = edge(other, j), at = before(y, x) ? y : x;
+        i += !before(y, x);
+        j += !before(x, y);
+        if (at.instrument != instrument) {
+            instrument = at.instrument;
+            left_hint = right_hint = 0;
+        }
+        uint32_t l = look(table, (uint32_t)instrument, at.moment, &left_hint);
+        uint32_t r = look(other, (uint32_t)instrument, at.moment, &right_hint);
+        if (l == left && r == right) continue;
+        uint8_t *stretch = stretches + count * DESK_STRETCH_BYTES;
+        if (left != right) {
+            put(stretch + 20, at.moment, 8);
+            stretch += DESK_STRETCH_BYTES;
+            count++;
+        }
+        if (l != r) {
+            put(stretch, instrument, 4);
+            put(stretch + 4, l, 4);
+            put(stretch + 8, r, 4);
+            put(stretch + 12, at.moment, 8);
+        }
+        left = l;
+        right = r;
+    }
+    return count;
+}
+
+/* Both tables compared in one of the three ways; the digest is of the list's bytes. */
+static void comparisons(uint64_t steps, size_t (*way)(void)) {
+    lay_tables(3125, 16);
+    for (uint64_t i = 0; i < steps; i++) {
+        size_t bytes = way() * DESK_STRETCH_BYTES;
+        for (size_t k = 0; k < bytes; k += 4) digest = digest * 31 + get(stretches + k, 4);
+    }
 }
 
 /* ---- The record merge. */
@@ -258,6 +368,9 @@ int main(int words, char **word) {
     else if (!strcmp(row, "append-one")) appends(steps, 4096, 4096);
     else if (!strcmp(row, "middle")) middles(steps, 1024, 256, 16);
     else if (!strcmp(row, "middle-one")) middles(steps, 1024, 1, 4096);
+    else if (!strcmp(row, "compare")) comparisons(steps, compare);
+    else if (!strcmp(row, "compare-checks")) comparisons(steps, check_both);
+    else if (!strcmp(row, "compare-lookups")) comparisons(steps, compare_by_lookups);
     else if (!strcmp(row, "merge-4") || !strcmp(row, "ready-4")) records(steps, 200000, 4);
     else if (!strcmp(row, "merge-16") || !strcmp(row, "ready-16")) records(steps, 200000, 16);
     else if (!strcmp(row, "merge-256") || !strcmp(row, "ready-256")) records(steps, 200000, 256);

@@ -1,5 +1,5 @@
-//! dbn's side of the benchmark: `theirs ROW STEPS`, with the rows, the inputs and the digests of ours.c. What steps make or
-//! leave behind is not dropped, so that taking it apart is not counted.
+//! dbn's side of the benchmark: `theirs ROW STEPS`, with the rows, the inputs and the digests of ours.c, save the comparison's,
+//! which dbn has not. What steps make or leave behind is not dropped, so that taking it apart is not counted.
 
 use std::{env, hint::black_box, mem::ManuallyDrop};
 
