@@ -1,5 +1,7 @@
 #!/usr/bin/env python3
-"""Writes the cases of vectors_metadata: oracle/build && python3 tools/make_vectors_metadata.py > crates/vectors_metadata/stdin
+"""Writes the cases of vectors_metadata and vectors_openings: oracle/build && python3 tools/make_vectors_metadata.py
+
+crates/vectors_metadata/stdin has the merges, crates/vectors_openings/stdin what is opened and finished.
 
 Five sources, in this order: the traps of the rules' reading (oracle/traps.py); one merge for each way to earn a refusal and,
 drawn from all pairs, one for two ways at once, the answer written here by document 01's order and held against the plain
@@ -15,7 +17,8 @@ from copy import deepcopy
 from itertools import product
 from pathlib import Path
 
-ORACLE = Path(__file__).resolve().parent.parent / "oracle"
+ROOT = Path(__file__).resolve().parent.parent
+ORACLE = ROOT / "oracle"
 sys.path.insert(0, str(ORACLE))
 
 import cases  # noqa: E402
@@ -31,10 +34,21 @@ NAMES = 9
 A, B, C, NONE = 1, 2, 3, 99
 D1, D2, D3, D4, BAD = 19700102, 19700103, 19700104, 19700105, 21000229
 
+ABOUT = """\
+# The cases of vectors_metadata and vectors_openings, made by tools/make_vectors_metadata.py, which says where the answers are
+# from. A call, what it is handed, and behind the = what it answers: 0 and the side as it then is, 6 and the field, or the
+# number alone. A side is version, dataset, schema, start, end, limit, stype_in, stype_out, ts_out, symbol_cstr_len; symbols,
+# partial, not_found, mappings in use; and five lists (symbols, partial, not_found, mappings, intervals), each as the places
+# lent, how many of them are given, and those, or the rule that makes them (crates/sides/src/rule.rt): the others hold 0. `dbn_`
+# marks answers of dbn's own code, `limit_` lists at document 01's limits."""
+
+MERGES, OPENINGS = [ABOUT], [ABOUT]
+
 
 def show(kind, handed, answer, after=None):
     said = " ".join(map(str, answer))
-    print(kind, handed, "=", said if after is None else f"{said} {side(after)}")
+    lines = MERGES if kind.endswith("merge") else OPENINGS
+    lines.append(f"{kind} {handed} = {said if after is None else f'{said} {side(after)}'}")
 
 
 def call(kind, handed, act):
@@ -442,12 +456,6 @@ def limits_of_intervals():
     merged_in(2, full(), full(most))
 
 
-print("# The cases of vectors_metadata, made by tools/make_vectors_metadata.py, which says where the answers are from. A call, what")
-print("# it is handed, and behind the = what it answers: 0 and the side as it then is, 6 and the field, or the number alone.")
-print("# A side is version, dataset, schema, start, end, limit, stype_in, stype_out, ts_out, symbol_cstr_len; symbols, partial,")
-print("# not_found, mappings in use; and five lists (symbols, partial, not_found, mappings, intervals), each as the places lent,")
-print("# how many of them are given, and those, or the rule that makes them (crates/sides/src/rule.rt): the others hold 0. `dbn_`")
-print("# marks answers of dbn's own code, `limit_` lists at document 01's limits.")
 for _, (case, said) in traps.traps():
     kind, _, rest = case.partition(" ")
     words = Case(rest)
@@ -482,3 +490,5 @@ limits_with_repeats()
 for which in range(4):
     limits_of_names(which)
 limits_of_intervals()
+for crate, lines in ("vectors_metadata", MERGES), ("vectors_openings", OPENINGS):
+    (ROOT / "crates" / crate / "stdin").write_text("\n".join(lines) + "\n")

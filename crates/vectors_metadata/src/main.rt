@@ -6,42 +6,21 @@ ghost use mathlib.Core.Path.{_≡_};
 ghost use lib.ListN.{length};
 
 // Room for the whole data.
-fn room() -> [u8; 327680]
-    ensures { λ r. ⌜ 327680 ≡ length r ⌝ }
+fn room() -> [u8; 262144]
+    ensures { λ r. ⌜ 262144 ≡ length r ⌝ }
 {
-    [0; 327680]
-}
-
-// The calls of cases.
-const OPEN: u8 = 0;
-
-const MERGE: u8 = 1;
-
-const FINISH: u8 = 2;
-
-// Whether the case that a line holds, from a place behind its kind on, is answered as expected.
-fn is_right(text: &[u8], at: usize, call: u8) -> bool {
-    if call == OPEN {
-        return calls::open(text, at);
-    }
-    if call == MERGE {
-        return calls::merge(text, at);
-    }
-    if call == FINISH {
-        return calls::finish(text, at);
-    }
-    false
+    [0; 262144]
 }
 
 // Runs the lines of one kind and prints the group's line.
-fn run(text: &[u8], name: &[u8], call: u8) {
+fn run(text: &[u8], name: &[u8]) {
     let mut cases = 0u64;
     let mut wrong = 0u64;
     let mut at = 0;
     while at < text.len() {
         if vectors_text::is_word(text, at, name) {
             cases = vectors_text::one_more(cases);
-            if !is_right(text, vectors_text::word_end(text, at), call) {
+            if !calls::merge(text, vectors_text::word_end(text, at)) {
                 wrong = vectors_text::one_more(wrong);
                 vectors_text::print_wrong(text, at);
             }
@@ -55,12 +34,7 @@ fn main() {
     let mut data = room();
     let n = io::read_full(0, &mut data);
     let text = &data[..n];
-    run(text, b"open", OPEN);
-    run(text, b"merge", MERGE);
-    run(text, b"finish", FINISH);
-    run(text, b"dbn_open", OPEN);
-    run(text, b"dbn_merge", MERGE);
-    run(text, b"limit_open", OPEN);
-    run(text, b"limit_merge", MERGE);
-    run(text, b"limit_finish", FINISH);
+    run(text, b"merge");
+    run(text, b"dbn_merge");
+    run(text, b"limit_merge");
 }

@@ -1,6 +1,7 @@
 // One side of a case: a metadata in lent memory, read from the text, and compared with what stands there. It is written as
 // the header's ten numbers, its four counts, and five lists; a list as the places lent, how many of them are given, and
 // those, or the rule that makes them: the others hold 0.
+pub mod expected;
 mod rule;
 
 use crate::rule::NONE;

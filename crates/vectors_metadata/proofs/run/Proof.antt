@@ -7,10 +7,10 @@ use Rattle.vectors_metadata.proofs.run.Statement.{statement}
 use Rattle.vectors_metadata.proofs.run.Tie as tie
 
 abbrev Inv-loop : tie.InvT-loop
-Inv-loop text name call cases₀ wrong₀ at₀ cases wrong at = Unit {0}
+Inv-loop text name cases₀ wrong₀ at₀ cases wrong at = Unit {0}
 
 abbrev μ-loop : tie.MeasureT-loop
-μ-loop text name call cases₀ wrong₀ at₀ cases wrong at = length text - at
+μ-loop text name cases₀ wrong₀ at₀ cases wrong at = length text - at
 
 loop-holds : tie.Need-loop-holds Inv-loop μ-loop
 loop-holds c = search needs
@@ -24,8 +24,8 @@ one-more-requires c κs = search needs
 word-end-requires : tie.Need-word-end-requires Inv-loop μ-loop
 word-end-requires c κs = search needs
 
-is-right-requires : tie.Need-is-right-requires Inv-loop μ-loop
-is-right-requires c κs = search needs
+merge-requires : tie.Need-merge-requires Inv-loop μ-loop
+merge-requires c κs = search needs
 
 one-more-requires-2 : tie.Need-one-more-requires-2 Inv-loop μ-loop
 one-more-requires-2 c κs = search needs
@@ -58,7 +58,7 @@ run-spec =
     is-word-requires
     one-more-requires
     word-end-requires
-    is-right-requires
+    merge-requires
     one-more-requires-2
     print-wrong-requires
     next-line-requires

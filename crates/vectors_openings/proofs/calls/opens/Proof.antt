@@ -3,8 +3,8 @@ use native.Mathlib.Omega.{arith}
 use mathlib.Core.Path.{sym}
 use lib.Seq.{length-take-le}
 use borrow.Author.Needs.{needs}
-use Rattle.vectors_metadata.proofs.calls.opens.Statement.{statement}
-use Rattle.vectors_metadata.proofs.calls.opens.Tie as tie
+use Rattle.vectors_openings.proofs.calls.opens.Statement.{statement}
+use Rattle.vectors_openings.proofs.calls.opens.Tie as tie
 
 slice-relend-prefix-open : tie.Need-slice-relend-prefix-open
 slice-relend-prefix-open c = search needs

@@ -3,8 +3,8 @@ use native.Mathlib.Omega.{arith}
 use mathlib.Core.Path.{sym}
 use lib.Seq.{length-take-le}
 use borrow.Author.Needs.{needs}
-use Rattle.vectors_metadata.proofs.calls.finishes.Statement.{statement}
-use Rattle.vectors_metadata.proofs.calls.finishes.Tie as tie
+use Rattle.vectors_openings.proofs.calls.finishes.Statement.{statement}
+use Rattle.vectors_openings.proofs.calls.finishes.Tie as tie
 
 slice-aggregate-finish : tie.Need-slice-aggregate-finish
 slice-aggregate-finish c = sym (length-take-le _ _ (omega arith))
