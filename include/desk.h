@@ -1,6 +1,6 @@
-/* The replay desk at the C door. "01" is document 01, "Exact rules and what to build".
+/* The replay desk at the C door, by the rules of docs/RULES.md.
  *
- * Every function returns document 01's number: DESK_DONE (0) or one of the refusals below. Further results come back through
+ * Every function returns the rules' number: DESK_DONE (0) or one of the refusals below. Further results come back through
  * pointers to single numbers. Every call ends, on any content of the memory.
  *
  * What stands behind the pointers afterwards each function says by the number returned. "As before" is as it was at the call. What

@@ -1,7 +1,7 @@
 #!/usr/bin/env python3
 """Prints cases, one a line: cases.py PART SIZE [SEED].
 
-PART is `domain` (document 01's equality domain: the Rust and the model agree), `beyond` (outside it: they may not) or
+PART is `domain` (the rules' equality domain: the Rust and the model agree), `beyond` (outside it: they may not) or
 `lent` (lent memory: the model and the port alone). SIZE is `quick` or `long`. A seed that was not given is drawn, and
 printed on standard error. Exits with 2 for another PART, SIZE or SEED.
 """

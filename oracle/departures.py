@@ -1,5 +1,5 @@
 #!/usr/bin/env python3
-"""The smallest input of each departure of the Rust from document 01, with both answers: docs/DIFFERENCES.md by number.
+"""The smallest input of each departure of the Rust from the rules, with both answers: docs/DIFFERENCES.md by number.
 
 departures.py asks the driver and the model, and exits with 1 where an answer is not the one below.
 """
@@ -32,7 +32,7 @@ late = metadata((A, [(D1, D2, A), (D2, 25540722, A)]))
 clash_and_back = metadata((A, [(D1, D2, B)]), (B, [(D2, D1, A)]))
 
 
-DEPARTURES = [  # number in docs/DIFFERENCES.md, case, the Rust's answer, document 01's
+DEPARTURES = [  # number in docs/DIFFERENCES.md, case, the Rust's answer, the rules'
     (1, "records 0 2 1 1 5 0 1 6", "r 0 0 5 ; d ; e ; e", "r 0 0 5 ; d ; r 1 0 6 ; e ; e"),
     (1, "records 2 0 3 2 0 1 5 1 0", "d ; e ; e", "d ; r 0 0 5 ; e ; e"),
     (2, "records 0 1 1 0", "refused", "d ; e ; e"),
@@ -73,7 +73,7 @@ def main():
         for (number, case, theirs, ours), said in zip(departures, answers, strict=True):
             if (said, answer.answer(case)) != (theirs, ours):
                 wrong += 1
-                print(f"{number}: {case}\n  Rust {said}\n  document 01 {answer.answer(case)}")
+                print(f"{number}: {case}\n  Rust {said}\n  rules {answer.answer(case)}")
     two = metadata((A, [(D1, D2, FIVE)]), (B, [(D1, D2, FIVE)]))
     by_hash = set(rust("driver", [f"build_merged {TEXTS} 1 {two}"] * 64))
     if by_hash != {f"0 1 5 {DAY} {2 * DAY} {last}" for last in (A, B)}:

@@ -123,7 +123,7 @@ impl<'a> Case<'a> {
     }
 }
 
-/// Document 01's number for an error of dbn's.
+/// The rules' number for an error of dbn's.
 fn refusal(error: Error) -> String {
     let number = match error {
         Error::Utf8 => "4",

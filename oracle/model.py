@@ -1,4 +1,4 @@
-"""A plain model of document 01, written from its text and from nothing else.
+"""A plain model of the rules, written from their text and from nothing else.
 
 It is slow and short. A call that is refused raises Refused and so leaves lent memory alone; a build, which empties its
 table on a refusal, hands it back. Tables are bytes, 24 an interval over time and 8 an entry at a point in time;
@@ -18,7 +18,7 @@ NO_SCHEMA, NO_STYPE = 65_535, 255
 
 
 class Refused(Exception):
-    """One of document 01's numbers, and the values that come with it."""
+    """One of the rules' numbers, and the values that come with it."""
 
     def __init__(self, number, *values):
         super().__init__(number, *values)
@@ -625,7 +625,7 @@ def build_for_day(table, date, names, lent):
 
 
 class RecordMerge:
-    """The merge of the streams that stand in one buffer, by document 01's words.
+    """The merge of the streams that stand in one buffer, by the rules' words.
 
     A head is the (time, stream) that stands for a stream: of its hint, or of the record that it stands at.
     """

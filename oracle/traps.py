@@ -1,5 +1,5 @@
 #!/usr/bin/env python3
-"""The printed examples M1 to M12 of document 01 and the traps B1 to B45 of its reading, as cases with their answers.
+"""The printed examples M1 to M12 of the rules and the traps B1 to B45 (docs/TRAPS.md), as cases with their answers.
 
 traps.py checks the model on them, and exits with 1 where an answer is another. traps.py cases, traps.py answers print
 them for another program.

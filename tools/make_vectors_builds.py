@@ -1,9 +1,9 @@
 #!/usr/bin/env python3
 """Writes the cases of vectors_builds: oracle/build && python3 tools/make_vectors_builds.py > crates/vectors_builds/stdin
 
-Four sources, in this order: the traps of the rules' reading with the answers written beside them (oracle/traps.py); builds
+Four sources, in this order: the traps of docs/TRAPS.md with the answers written beside them (oracle/traps.py); builds
 with one way to earn a refusal and, drawn from all pairs, with two, at one place or at two, the answer written here by
-document 01's order and held against the plain model; lent memory drawn by oracle/lent.py and answered by the model
+the rules' order and held against the plain model; lent memory drawn by oracle/lent.py and answered by the model
 (oracle/model.py); and builds answered by dbn's own code (oracle/driver.rs), of one metadata and of several that dbn merged.
 dbn's answers are held against the model, too. In merged metadata each name has instruments of its own: where two names
 reach one, dbn's answer changes from run to run, since its merged mappings stand in a hash's order.
@@ -241,7 +241,7 @@ DONE = 0
 
 
 def whole(date):
-    """The ways that come before any mapping, each with its number, by document 01's order."""
+    """The ways that come before any mapping, each with its number, by the rules' order."""
     neither = [header(stype_in=1, stype_out=1), header(stype_in=255, stype_out=7)]
     if date is None:
         return [(15, MEMORY), (14, FORM), (9, neither)]
@@ -250,7 +250,7 @@ def whole(date):
 
 
 def within(inverse, date, interval):
-    """The ways of one interval and its mapping's name, by document 01's order. DONE passes over the interval."""
+    """The ways of one interval and its mapping's name, by the rules' order. DONE passes over the interval."""
     unnamed = (3, [named(NONE)])
     no_number = (8, [named(X), named(EMPTY)] if inverse else [word(2, X)])
     symbol = [(3, [word(2, NONE), word(2, len(TEXTS.ends))]), (DONE, [word(2, EMPTY)])]

@@ -2,7 +2,7 @@
 """Writes the cases of vectors_leaves: python3 tools/make_vectors_leaves.py > crates/vectors_leaves/stdin
 
 Dates come from Python's datetime and calendar (the proleptic Gregorian calendar of ISO 8601), texts are judged by Python's
-strict UTF-8 decoder, number texts are the cases of document 01's M7 and of Rust's documentation, written out by hand.
+strict UTF-8 decoder, number texts are the cases of the rules' M7 and of Rust's documentation, written out by hand.
 """
 import calendar
 import datetime
@@ -98,7 +98,7 @@ def record(kind=1, instrument=7, time=5, body=b"", length=None):
 
 
 def frames():
-    print("# f PLACE NUMBER VALUES BYTES: what stands at a place of a stream, by document 01, Merging records. The values are length, kind,")
+    print("# f PLACE NUMBER VALUES BYTES: what stands at a place of a stream, by RULES, Merging records. The values are length, kind,")
     print("# instrument and time of a record, the reason of damage, or none; five numbers always, 0 where there are fewer")
     largest = 2**64 - 1
     two = record() + record(kind=2, instrument=4294967295, time=largest, body=b"ab")

@@ -1,9 +1,9 @@
 #!/usr/bin/env python3
 """Writes the cases of vectors_maps: oracle/build && python3 tools/make_vectors_maps.py > crates/vectors_maps/stdin
 
-Three sources: the traps of the rules' reading (oracle/traps.py), random lent memory answered by the plain model of document
-01 (oracle/model.py), and histories answered by dbn's own code (oracle/driver.rs), each of their inserts and lookups on the
-table that the one before it left.
+Three sources: the traps of docs/TRAPS.md (oracle/traps.py), random lent memory answered by the plain model of the
+rules (oracle/model.py), and histories answered by dbn's own code (oracle/driver.rs), each of their inserts and lookups
+on the table that the one before it left.
 """
 import random
 import subprocess

@@ -3,10 +3,10 @@
 
 crates/vectors_metadata/stdin has the merges, crates/vectors_openings/stdin what is opened and finished.
 
-Five sources, in this order: the traps of the rules' reading (oracle/traps.py); one merge for each way to earn a refusal and,
-drawn from all pairs, one for two ways at once, the answer written here by document 01's order and held against the plain
+Five sources, in this order: the traps of docs/TRAPS.md (oracle/traps.py); one merge for each way to earn a refusal and,
+drawn from all pairs, one for two ways at once, the answer written here by the rules' order and held against the plain
 model; lent memory drawn by oracle/lent.py and answered by the model (oracle/model.py); merges answered by dbn's own code
-(oracle/driver.rs); and document 01's limits, the number and the counts written here by its words and held against the model.
+(oracle/driver.rs); and the rules' limits, the number and the counts written here by its words and held against the model.
 The order of dbn's sets and mappings is a hash's: they are written in the order of first arrival. A list at a limit is written
 as the rule that makes it.
 """
@@ -40,7 +40,7 @@ ABOUT = """\
 # number alone. A side is version, dataset, schema, start, end, limit, stype_in, stype_out, ts_out, symbol_cstr_len; symbols,
 # partial, not_found, mappings in use; and five lists (symbols, partial, not_found, mappings, intervals), each as the places
 # lent, how many of them are given, and those, or the rule that makes them (crates/sides/src/rule.rt): the others hold 0. `dbn_`
-# marks answers of dbn's own code, `limit_` lists at document 01's limits."""
+# marks answers of dbn's own code, `limit_` lists at the rules' limits."""
 
 MERGES, OPENINGS = [ABOUT], [ABOUT]
 
@@ -284,7 +284,7 @@ def in_order_of_arrival(outcome, seen):
     return outcome
 
 
-# Document 01's limits. A list there is made by a rule of crates/sides/src/rule.rt, and written as that rule.
+# The rules' limits. A list there is made by a rule of crates/sides/src/rule.rt, and written as that rule.
 
 MAPPINGS, INTERVALS, EVERY = 3, 4, 5
 MOST, HALF = 4096, 2048
@@ -364,7 +364,7 @@ def at_limit(which, over=0):
 
 
 def limit(kind, number, given, added=None, after=None):
-    """A call of which document 01 says this number and, where it is done, that these lists stand in memory after it."""
+    """A call of which the rules say this number and, where it is done, that these lists stand in memory after it."""
     if kind == "limit_merge":
         handed = f"{MOST} {ruled(given)} {ruled(added)}"
         answer, held = answer_of(lambda: model.merge_metadata(given, added, MOST))

@@ -2,7 +2,7 @@
 """Writes the data of vectors_records: oracle/build && python3 tools/make_vectors_records.py
 
 crates/vectors_records/stdin has the cases, crates/vectors_records/stdout what the program must write. The answers come from the
-plain model of document 01 (oracle/model.py); those of the traps and borders also stand below, by hand, and those that are headed
+plain model of the rules (oracle/model.py); those of the traps and borders also stand below, by hand, and those that are headed
 `dbn` were given by dbn's own code (oracle/driver.rs).
 """
 import os

@@ -1,4 +1,4 @@
--- The point-in-time build on lent memory: what it answers, and what the table then holds (01, The map over time).
+-- The point-in-time build on lent memory: what it answers, and what the table then holds (RULES, The map over time).
 use Prim.Native.Nat.{ℕ, _/_}
 use mathlib.Core.Bool.{Bool, _&&_, cond}
 use mathlib.Core.List.{List, [], _∷_}

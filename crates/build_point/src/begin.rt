@@ -1,5 +1,5 @@
-// What comes before the mappings of a point-in-time build (01): 11 for the asked day, then 9, then 10 where the day lies outside
-// the query's range.
+// What comes before the mappings of a point-in-time build (RULES, The map over time, 18): 11 for the asked day, then 9, then 10 where the
+// day lies outside the query's range.
 use build_rules::reading::Direction;
 use build_rules::reading::Heading;
 use build_rules::reading::direction_by;

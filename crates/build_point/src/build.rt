@@ -1,4 +1,4 @@
-// The point-in-time build from metadata (01, The map over time). A metadata is a header by value and five lent lists of words, as in
+// The point-in-time build from metadata (RULES, The map over time). A metadata is a header by value and five lent lists of words, as in
 // the metadata merge; a name list is lent bytes and ends, with the names and the bytes in use; the table is lent bytes, 8 an entry,
 // whatever it held.
 use crate::begin::Begun;

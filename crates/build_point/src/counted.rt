@@ -1,4 +1,4 @@
-// Which interval of a mapping counts for a day (01, "Point-in-time build"): the first with start <= day < end. Both dates of each
+// Which interval of a mapping counts for a day (RULES, The map over time, 18): the first with start <= day < end. Both dates of each
 // interval up to it are read.
 use leaves_days::days::Day;
 use leaves_days::days::day_of;

@@ -1,4 +1,4 @@
-// The entry that a mapping sets (01, "Point-in-time build"): of the interval that counts, 3 for its symbol, the skip, 3 for the
+// The entry that a mapping sets (RULES, The map over time, 18): of the interval that counts, 3 for its symbol, the skip, 3 for the
 // mapping's name, 8.
 use crate::counted::Covering;
 use crate::counted::first_covering;

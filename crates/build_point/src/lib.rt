@@ -1,4 +1,4 @@
-// The point-in-time build from metadata (01, The map over time).
+// The point-in-time build from metadata (RULES, The map over time).
 pub mod begin;
 pub mod build;
 pub mod counted;

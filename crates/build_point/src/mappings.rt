@@ -1,4 +1,4 @@
-// The mappings of a metadata, one after the other, onto an empty point-in-time table (01, "Point-in-time build"): each sets its
+// The mappings of a metadata, one after the other, onto an empty point-in-time table (RULES, The map over time, 18): each sets its
 // entry, and a later entry for one instrument replaces the earlier one.
 use crate::entry::Wanted;
 use crate::entry::entry_of_mapping;

@@ -1,4 +1,4 @@
--- The build over time (01, The map over time): mappings and intervals in order, each interval an insert into a table that was empty;
+-- The build over time (RULES, The map over time): mappings and intervals in order, each interval an insert into a table that was empty;
 -- the first fault met decides.
 use Prim.Native.Nat.{ℕ, _+_, _*_}
 use mathlib.Core.Bool.{cond}
@@ -79,7 +79,7 @@ unfolding layIntervals inverseStep
 layRead room texts t xs rows (fault c) = stopped c t 0
 layRead room texts t xs rows (value instrument) = layIntervals (length texts) room (inverseStep texts instrument) t 0 xs rows
 
--- the mapping of number t: "in the inverse case the mapping's name is read (3, 8) before its intervals, even when it has none"
+-- the mapping of number t: inverse, "the mapping's name is read before its intervals (3, 8), even when there are none"
 unfoldable pub layMapping : ℕ → List (List ℕ) → Direction → ℕ → Mapping → List (Row ℕ) → Build (Row ℕ)
 unfolding layIntervals forwardStep layRead andThen textOf numberIn
 layMapping room texts Forward t m rows = layIntervals (length texts) room (forwardStep texts (m .name)) t 0 (m .intervals) rows

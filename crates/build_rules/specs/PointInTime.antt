@@ -1,4 +1,4 @@
--- The point-in-time build (01, The map over time): of each mapping the first interval that covers the asked day counts; a later entry
+-- The point-in-time build (RULES, The map over time): of each mapping the first interval that covers the asked day counts; a later entry
 -- for one instrument replaces the earlier one.
 use Prim.Native.Nat.{ℕ, _+_, _*_, _/_}
 use mathlib.Core.Bool.{Bool, not, _&&_, _||_, cond}
@@ -27,7 +27,7 @@ countsFrom day k x (fault c) b later = undated k
 countsFrom day k x (value a) (fault c) later = undated k
 countsFrom day k x (value a) (value b) later = cond (leb a day && ltb day b) (counts k x) later
 
--- "A mapping's dates are read in order up to the interval that counts, 11 at the first bad one": from number k on
+-- "Dates are read in order, both of each interval, up to the interval that counts, 11 at the first bad one": from number k on
 unfoldable pub counting : ℕ → ℕ → List Interval → Counted
 unfolding dayIn countsFrom
 counting day k [] = none
@@ -79,7 +79,7 @@ pickMappings room texts d day t [] es = built es
 pickMappings room texts d day t (m ∷ ms) es =
     onward t (placeOf (counting day 0 (m .intervals))) (pickMappings room texts d day (t + 1) ms) (pickMapping room texts d day m es)
 
--- "10 if the day is before the start's day, or an end exists and the day's start >= end"; an end of 0 is a missing one
+-- 10 if the day is before the start's day, or an end exists and the day's start is not before it; an end of 0 is a missing one
 unfoldable pub outsideQuery : Fields → ℕ → Bool
 outsideQuery f day = ltb day (f .start / dayLength) || (not (eqb (f .end) 0) && leb (f .end) (day * dayLength))
 

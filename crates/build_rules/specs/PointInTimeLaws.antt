@@ -1,5 +1,5 @@
 -- What the point-in-time build comes to, step by step, and what it comes to in all: the table is sorted with known symbols, the latest
--- entry of an instrument decides, and only document 01's refusals are given. Assumes nothing.
+-- entry of an instrument decides, and only the rules' refusals are given. Assumes nothing.
 use mathlib.Core.Path.{_≡_, refl, sym, ap, _∙_}
 use Prim.Native.Nat.{ℕ, zero, suc, _+_, _-_, _*_, _/_, _%_, _≤_, _<_}
 use native.Mathlib.Omega.{arith}
@@ -217,7 +217,7 @@ module _ (room : ℕ) (es : List Entry) where
   unfolding pointTaken ifRoom
   taken-full e h = rw (lt-ltb room (length (setEntry e es)) h) refl
 
--- ---- what a build gives: a sorted table with known symbols that fits its room, or one of the refusals that document 01 has for it
+-- ---- what a build gives: a sorted table with known symbols that fits its room, or one of the refusals that the rules have for it
 
 unfoldable pub pointRefusal : ℕ → Bool
 pointRefusal c = eqb c 2 || (eqb c 3 || (eqb c 8 || (eqb c 9 || (eqb c 10 || eqb c 11))))

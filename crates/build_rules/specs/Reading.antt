@@ -1,4 +1,4 @@
--- What both builds read of a metadata (01, The map over time): the direction, a name's text, a number, a date. Each reading comes to
+-- What both builds read of a metadata (RULES, The map over time): the direction, a name's text, a number, a date. Each reading comes to
 -- a value or to the refusal that it meets first.
 use Prim.Native.Nat.{ℕ, _*_}
 use mathlib.Core.Bool.{Bool, true, false, cond}
@@ -21,7 +21,7 @@ use Rattle.build_rules.specs.declared.reading.Symbol.the-variants.{Unkno
 use Rattle.build_rules.specs.declared.reading.Instrument.{Instrument}
 use Rattle.build_rules.specs.declared.reading.Instrument.the-variants as instrument
 
--- a value, or document 01's number of a refusal
+-- a value, or the rules' number of a refusal
 pub data Read (X : Type 0) : Type 0 where
   fault : ℕ → Read X
   value : X → Read X
@@ -64,7 +64,7 @@ unfoldable pub isEmpty : List ℕ → Bool
 isEmpty [] = true
 isEmpty (b ∷ s) = false
 
--- "if `stype_out` is instrument ID ...; else if `stype_in` is, the other way round; else 9"; instrument ID is DBN's 0
+-- if `stype_out` is instrument ID, forward; else if `stype_in` is, inverse; else 9; instrument ID is DBN's 0
 unfoldable pub directionBy : ℕ → ℕ → Read Direction
 directionBy stype-in stype-out = cond (eqb stype-out 0) (value Forward) (cond (eqb stype-in 0) (value Inverse) (fault 9))
 

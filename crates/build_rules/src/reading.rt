@@ -1,4 +1,4 @@
-// What both builds read of a metadata (01, The map over time): the direction, what stands under a name's number, an instrument's
+// What both builds read of a metadata (RULES, The map over time): the direction, what stands under a name's number, an instrument's
 // number, a date; and the table emptied.
 use leaves::number_text::Reading;
 use leaves::refusal::Refusal;

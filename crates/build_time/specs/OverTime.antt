@@ -1,5 +1,5 @@
--- The build over time in lent memory (01, The map over time): what it answers, and what the table then holds. Refusals in order: 15 for
--- table, metadata and list, 14 for the list alone, then as the build.
+-- The build over time in lent memory (RULES, The map over time): what it answers, and what the table then holds. Refusals in order: 15
+-- for table, metadata and list, 14 for the list alone, then as the build.
 use Prim.Native.Nat.{ℕ}
 use mathlib.Core.Bool.{Bool, true, false, _&&_, cond}
 use mathlib.Core.List.{List, [], _∷_}

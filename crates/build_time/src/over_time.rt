@@ -1,4 +1,4 @@
-// The build over time from metadata (01, The map over time): mappings and intervals in order, each interval an insert into a table
+// The build over time from metadata (RULES, The map over time): mappings and intervals in order, each interval an insert into a table
 // that was emptied. The table stays in order, so no insert pays a check.
 use build_rules::reading::Direction;
 use build_rules::reading::Heading;

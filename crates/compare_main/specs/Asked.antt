@@ -1,4 +1,4 @@
--- What the compare program is asked (02, No. 1): one section of kind 2, the name count in 4 bytes, then two of kind 3, a table's intervals
+-- What the compare program is asked (RULES, Requests, No. 1): one section of kind 2, the name count in 4 bytes, then two of kind 3, a table's intervals
 -- each, all in use, and nothing else; at most 3,145,750 bytes.
 use mathlib.Core.Path.{_≡_, refl, sym, ap, _∙_}
 use mathlib.Core.Logic.{_≢_}

@@ -1,4 +1,4 @@
-// The compare program: reads two tables from standard input and writes every stretch in which they disagree (02, No. 1). Its input is
+// The compare program: reads two tables from standard input and writes every stretch in which they disagree (RULES, Requests, No. 1). Its input is
 // three sections: the name count (4 bytes), the left table's intervals, the right one's.
 use compare_text::telling::lay_portion;
 use lines::parts::PART_HEAD;

@@ -1,4 +1,4 @@
--- The lines of a comparison (02, No. 1): a stretch's line is instrument, start, end, left symbol or `-`, right symbol or `-`. Numbers are
+-- The lines of a comparison (RULES, Requests, No. 1): a stretch's line is instrument, start, end, left symbol or `-`, right symbol or `-`. Numbers are
 -- decimal, one blank parts two fields, a newline ends each line.
 use Prim.Native.Nat.{ℕ, _+_, _≤_}
 use mathlib.Core.Path.{_≡_, ap, sym, subst, _∙_}

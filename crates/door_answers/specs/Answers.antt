@@ -7,7 +7,7 @@ use lib.ListN.{length, getD}
 use Rattle.theory.specs.Answer.{Answer, answer}
 use Rattle.map_rules.specs.Table.{Row}
 
--- the number that the call returns: document 01's, 0 where it is done
+-- the number that the call returns: the rules', 0 where it is done
 unfoldable pub numberIn : Answer → ℕ
 numberIn (answer number values) = number
 

@@ -1,4 +1,4 @@
-// What comes with 13 (01, Numbers the desk lives by): "with stream, place and reason".
+// What comes with 13 (RULES, Numbers the desk lives by): "with stream, place and reason".
 use leaves::refusal::Refusal;
 ghost use mathlib.Core.Path.{_≡_};
 ghost use Rattle.leaves.specs.Refusal.{refused};

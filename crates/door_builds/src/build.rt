@@ -1,4 +1,4 @@
-// Both builds from metadata at the C door (01, The map over time). A metadata is fourteen words, its header, and five lists of words,
+// Both builds from metadata at the C door (RULES, The map over time). A metadata is fourteen words, its header, and five lists of words,
 // as in the metadata merge. A build discards what the table held; a refused one leaves it empty, 0 in every place.
 use build_rules::reading::clear;
 use door_answers::BAD_MEMORY;

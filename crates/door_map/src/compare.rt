@@ -1,4 +1,4 @@
-// Two tables over time side by side at the C door (02, No. 1): a stretch is 28 bytes.
+// Two tables over time side by side at the C door (RULES, Requests, No. 1): a stretch is 28 bytes.
 use door_answers::DONE;
 use leaves::refusal::number;
 use map_compare::compare::Compared;

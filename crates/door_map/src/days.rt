@@ -1,4 +1,4 @@
-// Dates and days at the C door (01, Names, numbers, days).
+// Dates and days at the C door (RULES, Names, numbers, days).
 use door_answers::DONE;
 use leaves::refusal::number;
 use leaves_days::days::Date;

@@ -1,4 +1,4 @@
-// The table over time at the C door (01, The map over time): bytes, 24 an interval.
+// The table over time at the C door (RULES, The map over time): bytes, 24 an interval.
 use door_answers::DONE;
 use door_answers::damage::reason_in;
 use leaves::refusal::number;

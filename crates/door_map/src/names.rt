@@ -1,4 +1,4 @@
-// The name list at the C door (01, Names, numbers, days): the names' bytes one after another, where each ends, and two numbers in use.
+// The name list at the C door (RULES, Names, numbers, days): the names' bytes one after another, where each ends, and two numbers in use.
 use door_answers::DONE;
 use leaves::refusal::number;
 use leaves_names::names::Checked;

@@ -1,4 +1,4 @@
-// The point-in-time table at the C door (01, The map over time): bytes, 8 an entry, little-endian: instrument 4, symbol 4.
+// The point-in-time table at the C door (RULES, The map over time): bytes, 8 an entry, little-endian: instrument 4, symbol 4.
 use door_answers::DONE;
 use door_answers::damage::reason_in;
 use leaves::refusal::number;

@@ -1,4 +1,4 @@
-// Number text and UTF-8 at the C door (01, Names, numbers, days).
+// Number text and UTF-8 at the C door (RULES, Names, numbers, days).
 use door_answers::DONE;
 use leaves::number_text::Reading;
 ghost use mathlib.Core.Path.{_≡_};

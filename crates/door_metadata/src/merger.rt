@@ -1,4 +1,4 @@
-// The metadata merge at the C door (01, Merging metadata). A metadata is fourteen words, its header, and five lists of words:
+// The metadata merge at the C door (RULES, Merging metadata). A metadata is fourteen words, its header, and five lists of words:
 // symbols, partial, not_found (a word an entry), mappings (two words each: name, number of intervals) and intervals (three words
 // each: start date, end date, symbol).
 use door_answers::BAD_MEMORY;

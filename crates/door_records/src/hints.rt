@@ -1,4 +1,4 @@
-// A stream's hint at the C door (01, Merging records), from its own metadata's header.
+// A stream's hint at the C door (RULES, Merging records), from its own metadata's header.
 use door_answers::BAD_MEMORY;
 use door_answers::DONE;
 use door_answers::header::header_of;

@@ -1,4 +1,4 @@
-// The record merge at the C door (01, Merging records). Its state stands in five arrays of 256 places that the caller lends, and in
+// The record merge at the C door (RULES, Merging records). Its state stands in five arrays of 256 places that the caller lends, and in
 // the number of streams that the heap holds.
 use door_answers::DONE;
 use door_answers::damage::place_in;

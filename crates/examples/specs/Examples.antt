@@ -1,4 +1,4 @@
--- Document 01, "Examples on each side": M1 to M12 as one list of data, and one theorem: the definitions that the contracts cite
+-- RULES, Examples on each side: M1 to M12 as one list of data, and one theorem: the definitions that the contracts cite
 -- give what each example says, on lent memory where a call has some. Assumes nothing.
 use mathlib.Core.Path.{_≡_, refl}
 use mathlib.Core.Logic.{inl, inr}
@@ -196,7 +196,7 @@ two = one ++ insert 20 30 A ⇒ done 1 ∷ []
 abbrev three : List Step
 three = two ++ insert 15 18 B ⇒ done 3 ∷ []
 
--- document 01's examples, in its order
+-- the rules' examples, in their order
 unfoldable pub examples : List Example
 unfolding short
 examples =

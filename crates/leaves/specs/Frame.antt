@@ -1,4 +1,4 @@
--- A record's frame: document 01, "Merging records".
+-- A record's frame (RULES, Merging records).
 use Prim.Native.Nat.{ℕ, _+_, _-_}
 use mathlib.Core.Bool.{cond, _||_}
 use mathlib.Core.List.{List, [], _∷_}
@@ -20,7 +20,7 @@ pub data Read : Type 0 where
   ended : Read
   damaged : ℕ → Read
 
--- "A stream with 0 bytes left ends. A read that fails gives 13: reason 1 fewer than 16 bytes left, 2 length outside 16 to 1,024, 3 length past the end"
+-- "with 0 bytes left the stream ends"; else 13 with reason 1 "fewer than 16 bytes left", 2 "length outside 16 to 1,024", 3 "length past the end"
 unfoldable pub judged : ℕ → ℕ → Read → Read
 judged left size r =
     cond (eqb left 0) ended
@@ -28,7 +28,7 @@ judged left size r =
     (cond (ltb size 16 || ltb 1024 size) (damaged 2)
     (cond (ltb left size) (damaged 3) r)))
 
--- "all little-endian: whole length (2 bytes), kind (2), instrument (4), timestamp (8), then the body"
+-- "all numbers little-endian: whole length (2 bytes), kind (2), instrument (4), timestamp (8), then the body"
 unfoldable pub recordAt : List ℕ → ℕ → Read
 recordAt b place = whole (field 2 b place) (field 2 b (place + 2)) (field 4 b (place + 4)) (field 8 b (place + 8))
 
@@ -68,11 +68,11 @@ pub data Mapped : Type 0 where
   symbol : ℕ → ℕ → ℕ → Mapped
   notOne : ℕ → Mapped
 
--- "18446744073709551615 means missing", "a missing start is 0"; a missing end is 18446744073709551615, the number itself
+-- "a time of 18446744073709551615 is missing", "a missing start is 0"; a missing end is 18446744073709551615, the number itself
 unfoldable pub mappingStart : ℕ → ℕ
 mappingStart time = cond (eqb time 18446744073709551615) 0 time
 
--- "Kind 2 is a symbol mapping: start (8), end (8), name"; "a kind-2 record with a body under 16 bytes gets reason 4"; "other kinds are done and change nothing"
+-- "Kind 2 is a symbol mapping; its body is start (8), end (8), name"; reason 4 for "a body under 16 bytes"; "other kinds are done and change nothing"
 unfoldable pub ofKind : List ℕ → ℕ → ℕ → Mapped
 unfolding mappingStart
 ofKind b kind instrument =
@@ -82,7 +82,7 @@ ofKind b kind instrument =
 abbrev pub nameIn : List ℕ → List ℕ
 nameIn b = drop 32 b
 
--- "Bytes that aren't exactly one record get 13 with reason 1, 2 or 3 (3 also for bytes left over)"; no bytes are fewer than 16
+-- bytes that aren't exactly one record get 13 with reason 1, 2 or 3, 3 also for bytes left over; no bytes are fewer than 16
 unfoldable pub oneRecord : List ℕ → Read → Mapped
 unfolding ofKind
 oneRecord b ended = notOne 1
@@ -93,7 +93,7 @@ unfoldable pub mappedIn : List ℕ → Mapped
 unfolding oneRecord frameAt
 mappedIn b = oneRecord b (frameAt b 0)
 
--- its answer, over `size` bytes: "place and stream are 0"; the name stands from byte 32 to the end
+-- its answer, over `size` bytes: "stream and place 0"; the name stands from byte 32 to the end
 abbrev pub mappedOf : ℕ → Mapped → Answer
 mappedOf size other = answer 0 []
 mappedOf size (symbol instrument start end) = answer 0 (instrument ∷ start ∷ end ∷ 32 ∷ size ∷ [])

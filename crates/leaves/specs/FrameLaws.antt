@@ -194,7 +194,7 @@ mapped-refused n other r e = let z : numberOf r ≡ 0 = cc in absurd (refused-no
 mapped-refused n (symbol i s t) r e = let z : numberOf r ≡ 0 = cc in absurd (refused-not-done r z)
 mapped-refused n (notOne reason) r e = (reason, refl)
 
--- ---- only one answer fits: an answer in document 01's numbers comes from one value alone
+-- ---- only one answer fits: an answer in the rules' numbers comes from one value alone
 
 -- the refusal with a number and values
 refusalOf : ℕ → List ℕ → Refusal

@@ -1,4 +1,4 @@
--- Document 01, "Names, numbers, days": "an optional single `+`, then one or more ASCII digits, at most 4294967295", read from left to
+-- RULES, Names, numbers, days: "an optional single `+`, then one or more ASCII digits, at most 4294967295", read from left to
 -- right as Rust's documentation of reading a `u32` from text has it.
 use Prim.Native.Nat.{ℕ, _+_, _-_, _*_}
 use mathlib.Core.List.{List, [], _∷_}

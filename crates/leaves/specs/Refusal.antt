@@ -1,4 +1,4 @@
--- Document 01, "Numbers the desk lives by": a refusal's number, and what comes with it.
+-- RULES, Numbers the desk lives by: a refusal's number, and what comes with it.
 use Prim.Native.Nat.{ℕ}
 use mathlib.Core.List.{List, [], _∷_}
 use Rattle.theory.specs.Answer.{Answer, answer}

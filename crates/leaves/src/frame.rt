@@ -1,4 +1,4 @@
-// A record's frame, after document 01, "Merging records": what stands at a place of a stream's bytes, and a symbol
+// A record's frame (RULES, Merging records): what stands at a place of a stream's bytes, and a symbol
 // mapping's parts where the bytes are exactly one record.
 use crate::fields::u16_at;
 use crate::fields::u32_at;

@@ -1,4 +1,4 @@
-// Number text, as document 01 ("Names, numbers, days") and Rust's documentation of reading a `u32` have it: an optional
+// Number text (RULES, Names, numbers, days, 7), as Rust's documentation of reading a `u32` has it: an optional
 // single `+`, then one or more ASCII digits, at most 4294967295. Read from left to right, with no limit on the digits.
 ghost use mathlib.Core.Path.{_≡_};
 ghost use Prim.Native.Nat.{_<_, _≤_};

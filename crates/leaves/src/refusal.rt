@@ -1,4 +1,4 @@
-// The refusals of document 01, "Numbers the desk lives by". More will come: above this file nobody lists them all.
+// The refusals (RULES, Numbers the desk lives by). More will come: above this file nobody lists them all.
 ghost use mathlib.Core.Path.{_≡_};
 ghost use Rattle.leaves.specs.Refusal.{numberOf};
 
@@ -39,7 +39,7 @@ pub enum Refusal {
     BadMemory,
 }
 
-// The number of a refusal in document 01's table.
+// The number of a refusal in the rules' table.
 pub fn number(refusal: Refusal) -> u32
     ensures { λ r. ⌜ r ≡ numberOf refusal ⌝ }
 {

@@ -1,4 +1,4 @@
--- The calendar of ISO 8601, which decides dates (document 01, "What you take over"): leap years, the days of a month, of whole months and of whole years,
+-- The calendar of ISO 8601, which decides dates (RULES, What you take over, 1): leap years, the days of a month, of whole months and of whole years,
 -- and a count of days taken apart again. All by counting: nothing here is a closed formula.
 use Prim.Native.Nat.{ℕ, zero, suc, _+_, _-_, _*_, _/_, _%_}
 use mathlib.Core.Bool.{Bool, not, _&&_, _||_, cond}

@@ -1,4 +1,4 @@
--- Document 01, "Names, numbers, days": a date becomes days since 1970-01-01, and back; and a day's start. Refusal 11 is "no such date, or outside 1970-01-01 to 2554-07-21".
+-- RULES, Names, numbers, days: a date becomes days since 1970-01-01, and back; and a day's start. Refusal 11 is "no such date, or outside 1970-01-01 to 2554-07-21".
 use Prim.Native.Nat.{ℕ, _*_}
 use mathlib.Core.Bool.{Bool, _&&_, cond}
 use mathlib.Core.List.{[], _∷_}

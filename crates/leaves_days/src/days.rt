@@ -1,4 +1,4 @@
-// Dates and days: document 01, "Names, numbers, days", by the calendar of ISO 8601. A date is the number YYYYMMDD, DBN's own form.
+// Dates and days (RULES, Names, numbers, days), by the calendar of ISO 8601. A date is the number YYYYMMDD, DBN's own form.
 ghost use mathlib.Core.Path.{_≡_};
 ghost use Prim.Native.Nat.{_-_, _≤_, _<_};
 ghost use Rattle.leaves_days.specs.Calendar.{isLeap, yearDays, daysOfYears, daysBefore};

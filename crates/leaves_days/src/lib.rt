@@ -1,2 +1,2 @@
-// Days and dates (01, Names, numbers, days).
+// Days and dates (RULES, Names, numbers, days).
 pub mod days;

@@ -1,4 +1,4 @@
--- Document 01, "Names, numbers, days", and the limits of "Numbers the desk lives by": the list of names that lent memory holds, when it
+-- RULES, Names, numbers, days, and the limits of RULES, Numbers the desk lives by: the list of names that lent memory holds, when it
 -- is well-formed, and what naming does.
 use Prim.Native.Nat.{ℕ, zero, suc, _+_}
 use mathlib.Core.List.{List, [], _∷_}
@@ -45,7 +45,7 @@ namesOf bytes ends names = namesFrom bytes ends 0 names
 
 -- ---- well-formed
 
--- "A name is 0 to 255 bytes of UTF-8"
+-- a name is "0 to 255 bytes of UTF-8"
 unfoldable pub isName : List ℕ → Bool
 isName name = leb (length name) 255 && isUtf8 name
 
@@ -55,11 +55,11 @@ standFrom bytes ends name-bytes n zero = eqb (nameStart ends n) name-bytes
 standFrom bytes ends name-bytes n (suc k) =
     leb (nameStart ends n) (nameEnd ends n) && isName (nameOf bytes ends n) && standFrom bytes ends name-bytes (suc n) k
 
--- "A name list is well-formed if valid names stand one after another"
+-- a name list is well-formed "where valid names stand one after another"
 unfoldable pub wellFormed : List ℕ → List ℕ → ℕ → ℕ → Bool
 wellFormed bytes ends names name-bytes = standFrom bytes ends name-bytes 0 names
 
--- "At most 4,096 names and 65,536 name bytes in all"; each number in use within its room
+-- at most 4,096 names and 65,536 name bytes in all; each number in use within its room
 unfoldable pub listFits : ℕ → ℕ → ℕ → ℕ → Bool
 listFits bytes places names name-bytes = leb places 4096 && leb bytes 65536 && leb names places && leb name-bytes bytes
 

@@ -1,4 +1,4 @@
-// Names: document 01, "Names, numbers, days". A name list is lent memory: the names' bytes, one name after another, and where each
+// Names (RULES, Names, numbers, days). A name list is lent memory: the names' bytes, one name after another, and where each
 // name ends; how many names and how many bytes are in use goes by value. Name n lies from the end of the one before it to its own end.
 ghost use mathlib.Core.Path.{_≡_};
 ghost use mathlib.Core.Bool.{true};

@@ -1,5 +1,5 @@
--- The lines of a replay (document 01, "Merging records"): "A record's line is stream, time, instrument; a damage line ends in the place."
--- Numbers are decimal, one blank parts two fields, a newline ends each line.
+-- The lines of a replay (RULES, Merging records): "a record's line is stream, time, instrument; a damage line is stream, `damaged`,
+-- place". Numbers are decimal, one blank parts two fields, a newline ends each line.
 use mathlib.Core.Path.{_≡_}
 use Prim.Native.Nat.{ℕ, zero, suc, _+_, _/_, _%_}
 use mathlib.Core.Bool.{cond}
@@ -42,7 +42,7 @@ unfoldable pub recordLine : ℕ → ℕ → ℕ → List ℕ
 unfolding decimal blank newline
 recordLine stream time instrument = decimal stream ++ blank ++ decimal time ++ blank ++ decimal instrument ++ newline
 
--- "a damage line ends in the place"
+-- "a damage line is stream, `damaged`, place"
 unfoldable pub damageLine : ℕ → ℕ → List ℕ
 unfolding decimal damagedWord newline
 damageLine stream place = decimal stream ++ damagedWord ++ decimal place ++ newline

@@ -1,4 +1,4 @@
--- A bundle (document 01, "Merging records"): "sections of whole length (4 bytes), kind (2, always 1), then one stream".
+-- A bundle (RULES, Merging records): sections of whole length (4 bytes), kind (2, always 1), then one stream.
 -- All little-endian; a section's whole length counts its own 6 bytes before the stream.
 use mathlib.Core.Path.{_≡_}
 use Prim.Native.Nat.{ℕ, zero, suc, _+_, _≤_, _<_}
@@ -56,7 +56,7 @@ unfoldable pub few : Option (List (List ℕ)) → Option (List (List ℕ))
 few none = none
 few (some ss) = cond (leb 1 (length ss) && leb (length ss) 256) (some ss) none
 
--- the streams of a bundle; none: bad ("a bundle it can't take apart, over 60,000 bytes, or with 0 or over 256 sections")
+-- the streams of a bundle; none: bad ("a bundle that it can't take apart, over 60,000 bytes, or with 0 or over 256 sections")
 unfoldable pub streamsIn : List ℕ → Option (List (List ℕ))
 unfolding sections few
 streamsIn b = cond (leb (length b) 60000) (few (sections b)) none

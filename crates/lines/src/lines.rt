@@ -1,4 +1,4 @@
-// The lines of a replay (document 01, "Merging records"), laid one behind the other in lent bytes.
+// The lines of a replay (RULES, Merging records), laid one behind the other in lent bytes.
 ghost use Prim.Native.Nat.{_+_, _≤_};
 ghost use lib.ListN.{length};
 ghost use Rattle.lines.specs.Lines.{decimal, recordLine, damageLine, Lays};

@@ -1,5 +1,5 @@
-// A bundle taken apart into one buffer and cuts (document 01, "Merging records": "sections of whole length (4 bytes),
-// kind (2, always 1), then one stream").
+// A bundle taken apart into one buffer and cuts (RULES, Merging records: sections of whole length (4 bytes),
+// kind (2, always 1), then one stream).
 ghost use mathlib.Core.Path.{_≡_};
 ghost use Prim.Native.Nat.{_+_, _≤_};
 ghost use lib.ListN.{length, getD, drop};

@@ -1,4 +1,4 @@
-// Two tables over time side by side (02, No. 1): every stretch in which they disagree.
+// Two tables over time side by side (RULES, Requests, No. 1): every stretch in which they disagree.
 pub mod compare;
 pub mod stretch_bytes;
 pub mod walk;

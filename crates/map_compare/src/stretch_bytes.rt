@@ -1,4 +1,4 @@
-// A stretch in bytes (02, No. 1: instrument, left symbol or nothing, right symbol or nothing, start, end): 28, little-endian. No other file
+// A stretch in bytes (RULES, Requests, No. 1: instrument, left symbol or nothing, right symbol or nothing, start, end): 28, little-endian. No other file
 // knows them.
 use crate::walk::Stretch;
 use map_time::interval::Interval;

@@ -1,4 +1,4 @@
--- Two tables side by side (02, No. 1): the stretches in which they disagree, over any type of value that a test tells apart.
+-- Two tables side by side (RULES, Requests, No. 1): the stretches in which they disagree, over any type of value that a test tells apart.
 use mathlib.Core.Path.{_≡_}
 use Prim.Native.Nat.{ℕ, min, max}
 use mathlib.Core.Bool.{Bool, _&&_, _||_, cond}

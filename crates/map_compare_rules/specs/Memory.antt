@@ -1,4 +1,4 @@
--- A comparison over lent bytes (02, No. 1): the tables are those of the map over time, and a stretch takes 28 bytes,
+-- A comparison over lent bytes (RULES, Requests, No. 1): the tables are those of the map over time, and a stretch takes 28 bytes,
 -- little-endian: instrument 4, left symbol 4, right symbol 4, start 8, end 8. Nothing is 4294967295.
 use mathlib.Core.Path.{_≡_}
 use Prim.Native.Nat.{ℕ, _+_, _*_, _/_, _%_, _<_}

@@ -1,4 +1,4 @@
--- A lookup's answer in document 01's terms.
+-- A lookup's answer in the rules' terms.
 use Prim.Native.Nat.{ℕ}
 use mathlib.Core.List.{[], _∷_}
 use Rattle.theory.specs.Answer.{Answer, answer}

@@ -1,4 +1,4 @@
-// A cursor for one instrument holds its hint and is updated in place by each lookup (document 01, "The map over time").
+// A cursor for one instrument holds its hint and is updated in place by each lookup (RULES, The map over time).
 use crate::lookup::Found;
 use crate::lookup::Looked;
 use crate::lookup::get_for_ts;

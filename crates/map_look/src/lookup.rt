@@ -1,4 +1,4 @@
-// Lookups in the table over time (01, The map over time): the hinted interval of the instrument, the following one, then the last
+// Lookups in the table over time (RULES, The map over time): the hinted interval of the instrument, the following one, then the last
 // with start <= moment. No step is linear in the table.
 use leaves::refusal::Refusal;
 ghost use mathlib.Core.Path.{_≡_};

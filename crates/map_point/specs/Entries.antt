@@ -1,4 +1,4 @@
--- The entries of a point-in-time table in its bytes: 8 an entry, little-endian, instrument 4, symbol 4 (01, The map over time).
+-- The entries of a point-in-time table in its bytes: 8 an entry, little-endian, instrument 4, symbol 4 (RULES, The map over time).
 use Prim.Native.Nat.{ℕ, zero, suc, _+_, _*_}
 use mathlib.Core.List.{List, [], _∷_}
 use Rattle.theory.specs.Fields.{field, putField}

@@ -1,4 +1,4 @@
--- The point-in-time table (01, The map over time): "sorted by instrument, each once, known symbols". The record or the build
+-- The point-in-time table (RULES, The map over time): "sorted by instrument, each once, known symbols". The record or the build
 -- "sets the instrument's entry", "a later entry for one instrument replaces the earlier one"; "its lookup takes the instrument
 -- alone; its length counts entries".
 use Prim.Native.Nat.{ℕ, _/_, _%_}
@@ -56,7 +56,7 @@ setEntry x (y ∷ ys) =
 
 -- ---- calls
 
--- a length that is a multiple of 8, a room within the limit, and no more in use than the room; 15 where not (01, Numbers the
+-- a length that is a multiple of 8, a room within the limit, and no more in use than the room; 15 where not (RULES, Numbers the
 -- desk lives by)
 unfoldable pub pointsFit : ℕ → ℕ → Bool
 pointsFit bytes used = eqb (bytes % 8) 0 && roomFits (bytes / 8) used

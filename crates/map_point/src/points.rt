@@ -1,4 +1,4 @@
-// The point-in-time table of document 01, "The map over time": one entry an instrument, sorted by instrument, in lent bytes
+// The point-in-time table (RULES, The map over time): one entry an instrument, sorted by instrument, in lent bytes
 // of which `used` entries are in use from the front. Its length is `used`.
 use crate::entries::Entry;
 use crate::entries::WIDTH;

@@ -1,4 +1,4 @@
--- The mapping call: what a record's bytes ask of a name list and a table, and what is left of both (01, The map over time: "A
+-- The mapping call: what a record's bytes ask of a name list and a table, and what is left of both (RULES, The map over time: "A
 -- symbol mapping record inserts"; Merging records: "The mapping call takes a record's bytes").
 use Prim.Native.Nat.{ℕ, _+_}
 use mathlib.Core.Bool.{Bool, true, false, _&&_, cond}
@@ -83,7 +83,7 @@ timeJudged t used bytes ends names name-bytes record′ =
 
 -- ---- what is left
 
--- the entries once an instrument has a symbol: "the record sets the instrument's entry"
+-- the entries once an instrument has a symbol: "a symbol mapping record sets the instrument's entry"
 unfoldable pub pointOutcome : List ℕ → ℕ → ℕ → ℕ → List Entry
 pointOutcome t used instrument number = setEntry (record { instrument = instrument; symbol = number }) (entries t used)
 

@@ -1,4 +1,4 @@
--- Mapping calls computed: the smallest inputs at each border of document 01's order. Assumes nothing.
+-- Mapping calls computed: the smallest inputs at each border of the rules' order. Assumes nothing.
 use mathlib.Core.Path.{_≡_, refl}
 use Prim.Native.Nat.{ℕ, _+_, _*_, _/_}
 use mathlib.Core.Bool.{true, false}

@@ -1,2 +1,2 @@
-// The mapping call of document 01, "The map over time": a symbol mapping record goes into a table, and its name into the list.
+// The mapping call (RULES, The map over time): a symbol mapping record goes into a table, and its name into the list.
 pub mod mapping;

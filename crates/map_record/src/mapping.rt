@@ -1,4 +1,4 @@
-// The mapping call (document 01, "The map over time" and "Merging records"): a record's bytes, a name list and a table. All is
+// The mapping call (RULES, The map over time and Merging records): a record's bytes, a name list and a table. All is
 // read and judged before anything is stored, and the name joins the list last.
 use leaves::frame::Mapping;
 use leaves::frame::read_mapping;

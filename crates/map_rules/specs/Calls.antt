@@ -1,6 +1,6 @@
 -- Calls on lent memory make a history: a memory that holds the table after some events holds it after one more, whatever the
 -- name count and the room of the call; a lookup in it gives what the latest accepted insert says; and each refusal is given
--- exactly when document 01's table says, in its order. Assumes nothing.
+-- exactly when the rules' table says, in its order. Assumes nothing.
 use mathlib.Core.Path.{_≡_, sym, ap, _∙_}
 use mathlib.Core.Logic.{_≢_}
 use Prim.Native.Nat.{ℕ, _%_, _≤_, _<_}

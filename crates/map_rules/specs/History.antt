@@ -1,5 +1,5 @@
 -- Any history of inserts, refused ones among them, each with its own name count and room, and lookups between with any hint:
--- the latest accepted insert with start <= moment < end decides (01, demand 3), the stored rows are exactly the longest runs
+-- the latest accepted insert with start <= moment < end decides (RULES, Demands, 3), the stored rows are exactly the longest runs
 -- of that answer, and a lookup gives it whatever the hint. Assumes nothing.
 use mathlib.Core.Path.{_≡_, refl, sym, _∙_}
 use mathlib.Core.Logic.{_≢_, _↔_}

@@ -30,7 +30,7 @@ use Rattle.map_rules.specs.Search.{at-row}
 
 -- ---- definitions
 
--- document 01's number of an answer
+-- the rules' number of an answer
 abbrev pub numberIn : Answer → ℕ
 numberIn (answer c vs) = c
 

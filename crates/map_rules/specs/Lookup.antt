@@ -1,4 +1,4 @@
--- A lookup with a hint (01, The map over time): the hinted interval, the following one, then the last with start <= moment.
+-- A lookup with a hint (RULES, The map over time): the hinted interval, the following one, then the last with start <= moment.
 -- On an ordered table it gives the answer whatever the hint (lookup-right), and the new hint is the last interval that has
 -- started; with none it stays (lookup-hint). Assumes nothing.
 use mathlib.Core.Path.{_≡_, refl, sym, ap, _∙_}

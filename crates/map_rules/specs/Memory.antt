@@ -1,4 +1,4 @@
--- The table in lent bytes (01, The map over time: "24 an interval, little-endian: instrument 4, symbol 4, start 8, end 8"):
+-- The table in lent bytes (RULES, The map over time: "24 an interval, little-endian: instrument 4, symbol 4, start 8, end 8"):
 -- its rows, and the memory that an accepted insert leaves.
 use Prim.Native.Nat.{ℕ, zero, suc, _+_, _-_, _*_, _/_, _%_, _<_, max}
 use mathlib.Core.Path.{_≡_}
@@ -10,7 +10,7 @@ use Rattle.theory.specs.Fields.{field, putField}
 use Rattle.theory.specs.Answer.{Answer, answer}
 use Rattle.map_rules.specs.Table.{Row, Outcome, refusedBy, stored, nowStored, roomFits, namesFit, wellFormed, inserted}
 
--- two values are the same: symbol numbers are equal (01: "names are equal when their numbers are")
+-- two values are the same: symbol numbers are equal (RULES, Names, numbers, days, 4: "names are equal when their numbers are")
 abbrev pub sameValue : ℕ → ℕ → Bool
 sameValue u v = eqb u v
 

@@ -1,4 +1,4 @@
--- The map over time (01, The map over time) as a list of rows: each is an interval of an instrument. The value type stays a
+-- The map over time (RULES, The map over time) as a list of rows: each is an interval of an instrument. The value type stays a
 -- parameter: here it is a symbol number.
 use mathlib.Core.Path.{_≡_}
 use Prim.Native.Nat.{ℕ, _≤_, _<_}
@@ -60,7 +60,7 @@ module _ {A : Type 0} where
   AheadRow x (y ∷ ys) = (x .instrument ≤ y .instrument) × (x .instrument ≡ y .instrument → Ahead (x .end) (x .value) (intervalOf y ∷ []))
 
   -- the order part of well-formed: sorted by instrument; for each instrument the intervals are non-empty, sorted by start,
-  -- disjoint, and two that touch have different values (01, The map over time)
+  -- disjoint, and two that touch have different values (RULES, The map over time)
   abbrev pub Ordered : List (Row A) → Type 0
   Ordered [] = Unit {0}
   Ordered (x ∷ xs) = (x .start < x .end) × AheadRow x xs × Ordered xs
@@ -70,7 +70,7 @@ module _ {A : Type 0} where
   allKnown known [] = true
   allKnown known (x ∷ xs) = known (x .value) && allKnown known xs
 
--- the outcome of an insert: refused by document 01's number, or done with these rows
+-- the outcome of an insert: refused by the rules' number, or done with these rows
 pub data Outcome (X : Type 0) : Type 0 where
   refusedBy : ℕ → Outcome X
   stored : List X → Outcome X
@@ -84,7 +84,7 @@ nowStored xs (stored ys) = ys
 unfoldable pub ifRoom : {X : Type 0} → ℕ → List X → Outcome X
 ifRoom room ys = cond (ltb room (length ys)) (refusedBy 2) (stored ys)
 
--- a table's room is 0 to 65,536, and the number in use is within it; 15 where not (01, Numbers the desk lives by)
+-- a table's room is 0 to 65,536, and the number in use is within it; 15 where not (RULES, Numbers the desk lives by)
 unfoldable pub roomFits : ℕ → ℕ → Bool
 roomFits room used = leb room 65536 && leb used room
 

@@ -1,4 +1,4 @@
--- An insert's answer in document 01's terms.
+-- An insert's answer in the rules' terms.
 use mathlib.Core.List.{[], _∷_}
 use Rattle.theory.specs.Answer.{Answer, answer}
 use Rattle.leaves.specs.Refusal.{refused}

@@ -1,4 +1,4 @@
--- The check's answer in document 01's terms.
+-- The check's answer in the rules' terms.
 use mathlib.Core.List.{[]}
 use Rattle.theory.specs.Answer.{Answer, answer}
 use Rattle.leaves.specs.Refusal.{refused}

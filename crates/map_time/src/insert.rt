@@ -1,4 +1,4 @@
-// Inserts into the table over time (01, The map over time).
+// Inserts into the table over time (RULES, The map over time).
 use crate::interval::Interval;
 use crate::interval::WIDTH;
 use leaves::refusal::Refusal;

@@ -1,4 +1,4 @@
-// An interval of the table over time, and the table's bytes (01, The map over time: "24 an interval, little-endian"). No other
+// An interval of the table over time, and the table's bytes (RULES, The map over time: "24 an interval, little-endian"). No other
 // file knows them.
 ghost use mathlib.Core.Path.{_≡_};
 ghost use Prim.Native.Nat.{_+_, _*_, _≤_};

@@ -1,4 +1,4 @@
-// The maps of document 01, "The map over time": the table over time and the point-in-time table, in lent bytes.
+// The maps (RULES, The map over time): the table over time and the point-in-time table, in lent bytes.
 pub mod insert;
 pub mod interval;
 pub mod moves;

@@ -1,4 +1,4 @@
-// A table over time: the memory that is lent for it (01, Numbers the desk lives by), and its check (01, The map over time).
+// A table over time: the memory that is lent for it (RULES, Numbers the desk lives by), and its check (RULES, The map over time).
 use crate::interval::Interval;
 use crate::interval::WIDTH;
 use leaves::refusal::Refusal;

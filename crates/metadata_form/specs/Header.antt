@@ -1,4 +1,4 @@
--- The form of a metadata in lent memory (01, Numbers the desk lives by: 15), and its value. A set is one word an entry, a mapping
+-- The form of a metadata in lent memory (RULES, Numbers the desk lives by: 15), and its value. A set is one word an entry, a mapping
 -- two (name, number of intervals), an interval three (start, end, symbol).
 use mathlib.Core.Path.{_≡_, refl}
 use Prim.Native.Nat.{ℕ, _*_, _/_, _%_, _≤_, min, max}

@@ -44,7 +44,7 @@ pub struct Counts {
     pub intervals: usize,
 }
 
-// Document 01's limits: entries of a set, mappings, intervals.
+// The rules' limits: entries of a set, mappings, intervals.
 const ENTRIES: usize = 4096;
 
 const MAPPINGS: usize = 4096;

@@ -23,7 +23,7 @@ use Rattle.metadata_rules.specs.Metadata.{every}
 use Rattle.metadata_rules.specs.Words.{intervalAt, stretch, nameAt, namesFrom}
 use Rattle.metadata_form.specs.Words.{rest, rest-cons, rest-nil}
 
--- a date of ISO 8601 from 1970-01-01 to 2554-07-21 (01, Names, numbers, days): the numbers that do not get 11
+-- a date of ISO 8601 from 1970-01-01 to 2554-07-21 (RULES, Names, numbers, days): the numbers that do not get 11
 unfoldable pub knownDate : ℕ → Bool
 knownDate d = isDate d && inRange d
 

@@ -1,4 +1,4 @@
-// The tests of a metadata merge over both sides whole (01, Merging metadata): 11 for any date, 3 for any name number, 1 for any
+// The tests of a metadata merge over both sides whole (RULES, Merging metadata): 11 for any date, 3 for any name number, 1 for any
 // interval. Each answers whether all pass. Helpers: each asks for the words that it reads.
 use leaves_days::days::Day;
 use leaves_days::days::day_of;

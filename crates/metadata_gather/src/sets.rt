@@ -10,7 +10,7 @@ ghost use Rattle.metadata_rules.specs.Metadata.{every};
 ghost use Rattle.metadata_gather.specs.Judge.{below};
 ghost use Rattle.metadata_gather.specs.Sets.{IsUnited, AllUnited};
 
-// Numbers that an index finds: document 01's limit of names.
+// Numbers that an index finds: the rules' limit of names.
 const NAMES: usize = 4096;
 
 // Whether each entry was handed out, and how many the outcome has.

@@ -18,7 +18,7 @@ ghost use Rattle.metadata_lists.specs.Flat.{listAt};
 ghost use Rattle.metadata_lists.specs.Names.{placed, layAll};
 ghost use Rattle.metadata_gather.specs.Sides.{Within, Layable, pickedTo, Sound};
 
-// Document 01's limit of mappings, and so of names that an index finds.
+// The rules' limit of mappings, and so of names that an index finds.
 const MAPPINGS: usize = 4096;
 
 // How many mappings and intervals are laid.

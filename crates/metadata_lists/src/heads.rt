@@ -1,4 +1,4 @@
-// The walk over the intervals of one name by their two heads, a and b (01, Merging metadata). The Rust's `merge_intervals`,
+// The walk over the intervals of one name by their two heads, a and b (RULES, Merging metadata). The Rust's `merge_intervals`,
 // `ordering` and `IntervalOrdering`; a conflict is found after the ordering, not in it.
 use metadata_form::words::copy_intervals;
 use metadata_form::words::interval_at;
@@ -38,7 +38,7 @@ fn greater(a: u32, b: u32) -> u32
     if a <= b { b } else { a }
 }
 
-// How a lies to b, the tests in document 01's order: the same dates first.
+// How a lies to b, the tests in the rules' order: the same dates first.
 pub fn ordering(a: Interval, b: Interval) -> IntervalOrdering
     ensures { λ r. ⌜ r ≡ orderingOf a b ⌝ }
 {

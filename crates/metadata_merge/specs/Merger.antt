@@ -1,4 +1,4 @@
--- Opening, merging, finishing: what each answers, and what each lent list then holds (01, Merging metadata).
+-- Opening, merging, finishing: what each answers, and what each lent list then holds (RULES, Merging metadata).
 use mathlib.Core.Path.{_≡_, refl, sym, ap, _∙_, subst}
 use mathlib.Core.Logic.{_≢_}
 use Prim.Native.Nat.{ℕ, zero, suc, _+_, _-_, _*_, _/_, _≤_, _<_}

@@ -1,3 +1,3 @@
-// Metadata: opening the first, merging one more, finishing (01, Merging metadata). The Rust's `MetadataMerger`.
+// Metadata: opening the first, merging one more, finishing (RULES, Merging metadata). The Rust's `MetadataMerger`.
 pub mod merger;
 pub mod outcome;

@@ -1,4 +1,4 @@
-// Opening a first metadata, merging one more into it, finishing (01, Merging metadata). A metadata is a header by value and
+// Opening a first metadata, merging one more into it, finishing (RULES, Merging metadata). A metadata is a header by value and
 // five lent lists of words: symbols, partial, not_found (a word an entry), mappings (two words each: name, number of
 // intervals) and intervals (three words each: start date, end date, symbol), those of the mappings one after the other.
 use crate::outcome::Verdict;
@@ -39,10 +39,10 @@ pub enum FinishedMetadata {
     Refused(Refusal),
 }
 
-// Document 01's limit of names.
+// The rules' limit of names.
 const NAMES: usize = 4096;
 
-// Scratch for one metadata at document 01's limits: entries of a set, words of its mappings and of its intervals.
+// Scratch for one metadata at the rules' limits: entries of a set, words of its mappings and of its intervals.
 const ENTRIES: usize = 4096;
 
 const MAPPING_WORDS: usize = 8192;

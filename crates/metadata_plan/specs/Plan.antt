@@ -33,7 +33,7 @@ unfoldable pub bothSides : List ℕ → ℕ → List ℕ → List ℕ → ℕ �
 bothSides left-mappings left-count left-intervals right-mappings right-count right-intervals =
     enterAll [] (mappingsFrom left-mappings left-intervals 0 0 left-count) ++ mappingsFrom right-mappings right-intervals 0 0 right-count
 
--- 11, 3 or 1, over all mappings each before the next; 0 for none (01, Merging metadata)
+-- 11, 3 or 1, over all mappings each before the next; 0 for none (RULES, Merging metadata)
 unfoldable pub faultOf : ℕ → Bool → List Mapping → ℕ
 faultOf names rest ms = cond (datesKnown knownDate ms) (cond (rest && mappingsKnown names ms) (cond (forwardsOf ms) 0 1) 3) 11
 

@@ -1,4 +1,4 @@
-// The mappings of a merge: both sides gathered, tested whole in document 01's order (11, 3, 1), then merged by name (7), all in
+// The mappings of a merge: both sides gathered, tested whole in the rules' order (11, 3, 1), then merged by name (7), all in
 // scratch. Helpers: the memory was tested before.
 use metadata_gather::judge::dates_known;
 use metadata_gather::judge::forwards;

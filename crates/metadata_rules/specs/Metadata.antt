@@ -1,4 +1,4 @@
--- A metadata value, losing its repeats, and merging one more into it (01, Merging metadata). Laws stand in Names, Fold, Cover.
+-- A metadata value, losing its repeats, and merging one more into it (RULES, Merging metadata). Laws stand in Names, Fold, Cover.
 use mathlib.Core.Path.{_≡_}
 use Prim.Native.Nat.{ℕ, zero, suc, _+_, min, max}
 use mathlib.Core.Bool.{Bool, true, false, not, _&&_, cond}

@@ -1,4 +1,4 @@
--- The walk over the intervals of one name by their two heads, a and b (01, Merging metadata).
+-- The walk over the intervals of one name by their two heads, a and b (RULES, Merging metadata).
 use mathlib.Core.Path.{_≡_}
 use Prim.Native.Nat.{ℕ, zero, suc, min, max}
 use mathlib.Core.Bool.{Bool, true, false, _&&_, cond}

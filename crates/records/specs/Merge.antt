@@ -1,4 +1,4 @@
--- The answers of `next` and `open` in document 01's numbers.
+-- The answers of `next` and `open` in the rules' numbers.
 use mathlib.Core.Path.{_≡_, refl, ap}
 use Prim.Native.Nat.{ℕ}
 use native.Mathlib.Omega.{arith}

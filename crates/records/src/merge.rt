@@ -1,4 +1,4 @@
-// The record merge over a heap: document 01, "Merging records". All of its state stands in arrays of 256 places that the caller
+// The record merge over a heap (RULES, Merging records). All of its state stands in arrays of 256 places that the caller
 // lends: for each stream its mark, its time, its place and the head (length, kind, instrument) of the record it stands at; and the
 // heap of stream numbers, of which `held` places are in use. A call hands out the record of the least (time, stream).
 use crate::heap::heapify;

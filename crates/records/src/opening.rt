@@ -1,4 +1,4 @@
-// The parts of an opening: whether the streams are right, and each of them laid at its hint. Document 01, "Merging records".
+// The parts of an opening: whether the streams are right, and each of them laid at its hint (RULES, Merging records).
 use crate::state::EMPTY;
 use crate::state::GONE;
 use crate::state::PLACES;

@@ -80,7 +80,7 @@ answers-first (suc f) (suc g) m b ss h l = go (machine.next b ss) refl (next-ok 
     go (turn end ss') e (z, c) ih =
         ap (λ (xs : List machine.Answer). end ∷ xs) (ended f b ss' (stays b ss ss' e) ∙ sym (take-same f m end (omega arith)))
 
--- what so many calls of `next` after an opening of n streams answered: what the document's machine tells up to its end, and then the end
+-- what so many calls of `next` after an opening of n streams answered: what the rules' machine tells up to its end, and then the end
 -- again and again, as far as calls went; of the stream p it tells the records from place 0 on, in order, each once, and then its one
 -- damage report
 pub record ToldWhole (b : ℕ → Stream) (n : ℕ) (hints : List ℕ) (xs : List Answer) : Type 0 where

@@ -1,4 +1,4 @@
--- The complaint put to rest (document 02, No. 11): in two runs that are alike but for the stream p, which may be cut, garbled or empty,
+-- The complaint put to rest (RULES, Requests, No. 11): in two runs that are alike but for the stream p, which may be cut, garbled or empty,
 -- the others' records and damage reports are the same, byte for byte and in their order among each other. Over bytes, and over the
 -- calls of the code. Streams need not be sorted. Assumes nothing.
 use mathlib.Core.Path.{_≡_, refl, sym, ap, ap₂, _∙_}
@@ -144,7 +144,7 @@ trace-run {buffer} {cuts} {hints} t =
     ∙ ap (λ (ss : List Status). map answerOf (allFrom b ss)) (t .opened .starts)
     ∙ ap (map answerOf) (sym (told-run b hs ∙ run-all b hs))
 
--- an answer in 01's numbers is of the stream p where the machine's is
+-- an answer in the rules' numbers is of the stream p where the machine's is
 either-way : (c : Bool) (x : Answer) (zs : List Answer) {rs : List theory.Answer} → rs ≡ map answerOf zs
     → cond c rs (answerOf x ∷ rs) ≡ map answerOf (cond c zs (x ∷ zs))
 either-way true x zs e = e

@@ -1,4 +1,4 @@
--- The machine as the document tells it, with `last`: whose record the call before handed out. A call reads on there first.
+-- The machine as the rules tell it, with `last`: whose record the call before handed out. A call reads on there first.
 -- It answers as the shorter machine of `Machine` does, where a stream whose record is handed out waits at that record's time.
 -- Assumes nothing.
 use mathlib.Core.Path.{_≡_, refl, sym, ap, _∙_}
@@ -249,7 +249,7 @@ pub calls-start : (f : ℕ) (b : ℕ → Stream) (hs : List ℕ) → callsF f b 
 unfolding view
 calls-start f b hs = calls-same f b (start hs) none tt
 
--- ---- so the theorems hold of the document's machine
+-- ---- so the theorems hold of the rules' machine
 
 unfoldable pub literalRun : (ℕ → Stream) → List ℕ → List Answer
 unfolding callsF start bytes

@@ -1,4 +1,4 @@
--- The record merge as a machine: what a call of `next` answers, and what it leaves (document 01, "Merging records").
+-- The record merge as a machine: what a call of `next` answers, and what it leaves (RULES, Merging records).
 -- A stream is known by what a read at each place of it finds. A state is a list of statuses, stream p's at index p. Assumes nothing.
 use Prim.Native.Nat.{ℕ, zero, suc, _+_, _≤_, _<_}
 use mathlib.Core.Bool.{cond}
@@ -95,8 +95,8 @@ pub data Step : Type 0 where
   done : Answer → List Status → Step
   again : List Status → Step
 
--- the stream p waited at the place a, and the read there found this: "a stream with 0 bytes left ends", "a read that fails gives 13",
--- "a hint is replaced by its stream's first record and the choice made again"
+-- the stream p waited at the place a, and the read there found this: "with 0 bytes left the stream ends", "a read that fails gives 13",
+-- "a hint gives way to its stream's first record, and the choice is made again"
 unfoldable pub afterRead : List Status → ℕ → ℕ → Read → Step
 afterRead ss p a ended = again (set ss p gone)
 afterRead ss p a (damaged reason) = done (says p (damage-at a reason)) (set ss p gone)

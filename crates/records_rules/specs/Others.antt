@@ -1,4 +1,4 @@
--- What one stream leaves alone (document 02, No. 11): a run's answers without those of the stream p, the bytes of the records that it
+-- What one stream leaves alone (RULES, Requests, No. 11): a run's answers without those of the stream p, the bytes of the records that it
 -- hands out, and when two runs are alike but for p. Assumes nothing.
 use mathlib.Core.Path.{_≡_}
 use mathlib.Core.Logic.{_≢_}
@@ -63,7 +63,7 @@ pub record AlikeBut (p : ℕ) (buffer cuts hints buffer′ cuts′ hints′ : Li
   pub parts : (q : ℕ) → q ≢ p → q < length cuts - 1 → partOf buffer cuts q ≡ partOf buffer′ cuts′ q
   pub hinted : (q : ℕ) → q ≢ p → q < length cuts - 1 → getD hints q 0 ≡ getD hints′ q 0
 
--- ---- the same of the code's answers, in document 01's numbers: the stream is the first value, and the end has no value
+-- ---- the same of the code's answers, in the rules' numbers: the stream is the first value, and the end has no value
 
 unfoldable pub heardWithout : ℕ → theory.Answer → List theory.Answer → List theory.Answer
 heardWithout p (theory.answer n []) xs = theory.answer n [] ∷ xs

@@ -1,4 +1,4 @@
--- One stream leaves the others alone (document 02, No. 11), of the machine: a run's other answers are those of the run in which the
+-- One stream leaves the others alone (RULES, Requests, No. 11), of the machine: a run's other answers are those of the run in which the
 -- stream p is gone from the start, and streams that differ in p alone run alike once it is gone. Assumes nothing.
 use mathlib.Core.Path.{_≡_, refl, sym, ap, ap₂, _∙_}
 use mathlib.Core.Logic.{_≢_}
@@ -242,7 +242,7 @@ bare-start zero (x ∷ hs) (y ∷ hs′) l h = ap (λ (r : List Status). gone �
 bare-start (suc p) (x ∷ hs) (y ∷ hs′) l h =
     ap₂ (λ (t : ℕ) (r : List Status). waiting t 0 ∷ r) (h 0 (λ e. suc-ne-zero p (sym e))) (bare-start p hs hs′ (suc-inj l) (λ q d. h (suc q) (λ e. d (suc-inj e))))
 
--- THE THEOREM (document 02, No. 11)
+-- THE THEOREM (RULES, Requests, No. 11)
 pub complaint : (p : ℕ) (b b′ : ℕ → Stream) (hs hs′ : List ℕ) → length hs ≡ length hs′
     → ((q : ℕ) → q ≢ p → b q ≡ b′ q) → ((q : ℕ) → q ≢ p → getD hs q 0 ≡ getD hs′ q 0)
     → others p (run b hs) ≡ others p (run b′ hs′)

@@ -14,7 +14,7 @@ use Rattle.records_rules.specs.Holds.{HeapOk}
 
 -- ---- answers
 
--- the machine's answer in document 01's numbers: a record is done, with stream, place, length, kind, instrument and time; the end
+-- the machine's answer in the rules' numbers: a record is done, with stream, place, length, kind, instrument and time; the end
 -- is done; damage is 13, with stream, place and reason
 abbrev pub answerOf : machine.Answer → Answer
 answerOf (says p (record-at a r)) = answer 0 (p ∷ a ∷ r .size ∷ r .kind ∷ r .instrument ∷ r .time ∷ [])
@@ -47,8 +47,8 @@ unfoldable pub riseTo : ℕ → List ℕ → Bool
 riseTo zero cuts = true
 riseTo (suc n) cuts = leb (getD cuts n 0) (getD cuts (n + 1) 0) && riseTo n cuts
 
--- "cuts, one more than streams, start at 0, never fall, and end at the buffer's length. 12: no stream, over 256, cuts wrong, or hints
--- given and not one per stream"
+-- "cuts start at 0, never fall, and end at the buffer's length"; "12: no stream, over 256, cuts wrong,
+-- or hints given and not one per stream"
 unfoldable pub rightStreams : ℕ → List ℕ → ℕ → Bool
 unfolding riseTo
 rightStreams size cuts hints =

@@ -1,5 +1,5 @@
-// The replay program: reads a bundle from standard input and writes the records of its streams in the merge's order (document 01,
-// "Merging records").
+// The replay program: reads a bundle from standard input and writes the records of its streams in the merge's order (RULES, Merging
+// records).
 use replay_text::replay::Replayed;
 use standard::Input;
 ghost use mathlib.Core.Path.{_≡_};

@@ -1,4 +1,4 @@
--- Replays by computation: the printed example of document 01, and the smallest bundles.
+-- Replays by computation: the printed example of the rules, and the smallest bundles.
 use mathlib.Core.Path.{_≡_, refl}
 use Prim.Native.Nat.{ℕ}
 use mathlib.Core.List.{List, [], _∷_, _++_}
@@ -17,7 +17,7 @@ short t = 16 ∷ 0 ∷ 1 ∷ 0 ∷ 7 ∷ 0 ∷ 0 ∷ 0 ∷ t ∷ 0 ∷ 0 ∷ 0 �
 unfoldable pub head : ℕ → ℕ → List ℕ
 head size kind = size ∷ 0 ∷ 0 ∷ 0 ∷ kind ∷ 0 ∷ []
 
--- "Stream 0: a 16-byte record (time 5, instrument 7), 3 stray bytes; stream 1: a record (time 6, instrument 7)"
+-- stream 0: a 16-byte record (time 5, instrument 7), 3 stray bytes; stream 1: a record (time 6, instrument 7)
 unfoldable pub printed-bundle : List ℕ
 unfolding short head
 printed-bundle = head 25 1 ++ short 5 ++ (1 ∷ 2 ∷ 3 ∷ []) ++ head 22 1 ++ short 6

@@ -1,4 +1,4 @@
--- The lines of a replay's text that are not of one stream (document 02, No. 11), and when two bundles are alike but for it.
+-- The lines of a replay's text that are not of one stream (RULES, Requests, No. 11), and when two bundles are alike but for it.
 use mathlib.Core.Path.{_≡_}
 use mathlib.Core.Logic.{_≢_}
 use Prim.Native.Nat.{ℕ}

@@ -1,4 +1,4 @@
--- The complaint put to rest in the replay's text (document 02, No. 11): where two bundles are alike but for the stream p, the lines
+-- The complaint put to rest in the replay's text (RULES, Requests, No. 11): where two bundles are alike but for the stream p, the lines
 -- that are not p's are the same, in order. A number's digits hold no blank and no newline and say one number. Assumes nothing.
 use mathlib.Core.Path.{_≡_, refl, sym, ap, _∙_}
 use mathlib.Core.Logic.{_≢_}

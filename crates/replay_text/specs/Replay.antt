@@ -1,4 +1,4 @@
--- The whole text of a bundle's replay (document 01, "Merging records"): a line for each answer of the merge, "No hints are given",
+-- The whole text of a bundle's replay (RULES, Merging records): a line for each answer of the merge, "No hints are given",
 -- and for a bad bundle "only the line `bad bundle`".
 use Prim.Native.Nat.{ℕ, _*_, _+_}
 use mathlib.Core.Bool.{cond}

@@ -1,4 +1,4 @@
-// The whole text of a bundle's replay (document 01, "Merging records"), laid in lent bytes.
+// The whole text of a bundle's replay (RULES, Merging records), laid in lent bytes.
 use crate::telling::tell_streams;
 use leaves::refusal::Refusal;
 use lines::lines::word;

@@ -1,4 +1,4 @@
-// The merge of a buffer's streams told in lines (document 01, "Merging records"): it is opened with no hints and called to its end,
+// The merge of a buffer's streams told in lines (RULES, Merging records): it is opened with no hints and called to its end,
 // and each answer's line is laid behind the one before.
 use leaves::refusal::Refusal;
 use lines::lines::damage_line;

@@ -1,4 +1,4 @@
--- Little-endian numbers in a list of bytes (document 01: "all little-endian"), over their width in bytes, and their laws.
+-- Little-endian numbers in a list of bytes (RULES, Merging records, 1), over their width in bytes, and their laws.
 use mathlib.Core.Path.{_≡_, refl, ap, _∙_}
 use mathlib.Core.Logic.{_≢_}
 use Prim.Native.Nat.{ℕ, zero, suc, _+_, _*_, _/_, _%_, _^_, _≤_, _<_}

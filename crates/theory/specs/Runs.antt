@@ -1,5 +1,5 @@
 -- Intervals [start, end) with a value of any type, and what a list of them answers at a moment. A list is well-formed when
--- its intervals are the longest runs of its answers (RunsLongest). The map over time (01, The map over time) is one such
+-- its intervals are the longest runs of its answers (RunsLongest). The map over time (RULES, The map over time) is one such
 -- list an instrument.
 use mathlib.Core.Path.{_≡_}
 use mathlib.Core.Logic.{_≢_, _⊎_}

@@ -49,7 +49,7 @@ fn zeros() -> [u8; 1024]
     [0; 1024]
 }
 
-// Memory for name list and metadata: one byte, name, entry and mapping more than document 01 allows, and some intervals.
+// Memory for name list and metadata: one byte, name, entry and mapping more than the rules allow, and some intervals.
 fn list_bytes() -> [u8; 65537]
     ensures { λ r. ⌜ 65537 ≡ length r ⌝ }
 {

@@ -5,7 +5,7 @@ use leaves::refusal::Refusal;
 ghost use mathlib.Core.Path.{_≡_};
 ghost use lib.ListN.{length};
 
-// An answer in numbers: document 01's number and the values that come with it, 0 where there are fewer than five.
+// An answer in numbers: the rules' number and the values that come with it, 0 where there are fewer than five.
 struct Numbers {
     number: u64,
     first: u64,

@@ -91,7 +91,7 @@ fn in_use_at(text: &[u8], at: usize) -> InUse {
     }
 }
 
-// What a call answers: document 01's number, the reason where it is 13, and what is in use then.
+// What a call answers: the rules' number, the reason where it is 13, and what is in use then.
 struct Said {
     number: u64,
     reason: u64,

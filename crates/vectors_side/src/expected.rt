@@ -17,7 +17,7 @@ pub struct Said {
 // The number of 6: metadata differ.
 const DIFFER: u64 = 6;
 
-// Memory for the lists of one side: one entry, one mapping and one interval more than document 01 allows.
+// Memory for the lists of one side: one entry, one mapping and one interval more than the rules allow.
 pub fn entries() -> [u32; 4097]
     ensures { λ r. ⌜ 4097 ≡ length r ⌝ }
 {

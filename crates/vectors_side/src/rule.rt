@@ -1,4 +1,4 @@
-// Words of a list that a rule makes, so that a list at document 01's limits is a few words of the text: a letter and three
+// Words of a list that a rule makes, so that a list at the rules' limits is a few words of the text: a letter and three
 // numbers. `n` are names, from the first number on, and from the place of the second on the same once more; `m` mappings of such
 // names, each with the third number of intervals; `d` intervals of a day each, from the day of the first number on; `e` every
 // other one of these.

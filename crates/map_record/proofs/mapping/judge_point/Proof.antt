@@ -1,4 +1,4 @@
--- The tests in document 01's order, then the record. Assumes nothing.
+-- The tests in the rules' order, then the record. Assumes nothing.
 use mathlib.Core.Path.{_∙_}
 use Rattle.leaves_names.specs.NamesLaws.{holds, fails, memory}
 use Rattle.map_point.specs.PointsSteps.{fit-bytes}
