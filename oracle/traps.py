@@ -349,6 +349,44 @@ def merge_traps():
         yield "B43", (words("replay", bundle), words(text.encode()))
 
 
+def complaint_pairs():
+    """Pairs of runs of request No. 11 by trap: streams, hints and answers to the second end; the runs of a trap differ in one stream."""
+    def run(trap, streams, *answers, hints=()):
+        return f"No. 11, {trap}", streams, hints, (*answers, "e", "e")
+
+    x, first, last = b"\0", record(5) + record(2), record(4)
+    others = (handed(2, 0, 4), handed(0, 0, 5), handed(0, 16, 2))
+    yield run(1, [first, b"", last], *others)
+    yield run(1, [first, record(3) + record(10), last], handed(1, 0, 3), *others, handed(1, 16, 10))
+    yield run(2, [first, x * 3, last], "d 1 0 1", *others)
+    yield run(3, [b"", record(7), record(7)], handed(1, 0, 7), handed(2, 0, 7))
+    yield run(3, [record(7)] * 3, handed(0, 0, 7), handed(1, 0, 7), handed(2, 0, 7))
+    yield run(4, [first, record(0), last], *others, handed(1, 0, 0), hints=(0, TOP, 0))
+    yield run(4, [first, record(0), last], handed(1, 0, 0), *others)
+    unsorted = (handed(1, 0, 5), handed(0, 0, 9), handed(0, 16, 1))
+    yield run(5, [record(9) + record(1), record(5), b""], *unsorted)
+    yield run(5, [record(9) + record(1), record(5), record(1)], handed(2, 0, 1), *unsorted)
+    long = record(3, length=1024)
+    yield run(6, [first, long, last], handed(1, 0, 3, 1024), *others)
+    yield run(6, [first, long[:1023], last], "d 1 0 3", *others)
+    damaged = (handed(0, 0, 5), "d 0 16 1", handed(2, 0, 6))
+    yield run(7, [record(5) + x, b"", record(6)], *damaged)
+    yield run(7, [record(5) + x, record(1) + record(9), record(6)], handed(1, 0, 1), *damaged, handed(1, 16, 9))
+    yield run(7, [record(5) + x, x, record(6)], "d 1 0 1", *damaged)
+    many = [record(5), *[b""] * 254]
+    yield run(8, [*many, record(4)], handed(255, 0, 4), handed(0, 0, 5))
+    yield run(8, [*many, b""], handed(0, 0, 5))
+    yield run(9, [b""])
+    yield run(9, [record(1)], handed(0, 0, 1))
+    yield run(9, [record(1) + x], handed(0, 0, 1), "d 0 16 1")
+    yield run(10, [first, record(0), last], *others, handed(1, 0, 0), hints=(0, 7, 0))
+
+
+def complaint_traps():
+    for name, streams, hints, answers in complaint_pairs():
+        yield name, streaming(streams, hints, *answers)
+
+
 def compare_traps():
     """Two tables side by side (RULES, Requests, No. 1)."""
 
@@ -414,7 +452,7 @@ def compare_program_traps():
 
 def traps():
     base = [examples, map_traps, name_traps, record_traps, build_traps, metadata_traps, merge_traps]
-    for part in (*base, compare_traps, compare_program_traps):
+    for part in (*base, complaint_traps, compare_traps, compare_program_traps):
         yield from part()
 
 

@@ -15,6 +15,7 @@ sys.dont_write_bytecode = True
 sys.path.insert(0, os.path.join(ROOT, "oracle"))
 from make_bundle import bundle, record, section
 from model import RecordMerge, Refused, replay
+from traps import complaint_pairs
 
 HERE = os.path.join(ROOT, "crates", "vectors_records")
 LATEST = 2**64 - 1
@@ -101,6 +102,14 @@ def traps():
     replayed("and a byte more", bytes([6, 0, 0, 0, 1, 0, 9]), "bad bundle\n")
 
 
+def pairs():
+    """The runs of request No. 11's traps, as oracle/traps.py writes them."""
+    said = {"r": "record", "d": "13", "e": "end"}
+    for number, (name, streams, hints, answers) in enumerate(complaint_pairs()):
+        lines = (" ".join([said[word], *rest]) for word, *rest in map(str.split, answers))
+        merged(f"{name}, run {number}", streams, list(hints), "".join(line + "\n" for line in lines))
+
+
 def borders():
     good = section(record(5, 7))
     for extra in range(1, 6):
@@ -170,6 +179,7 @@ def recorded():
 
 def main():
     traps()
+    pairs()
     borders()
     drawn()
     recorded()
