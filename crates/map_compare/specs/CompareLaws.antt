@@ -20,6 +20,7 @@ use Rattle.map_compare_rules.specs.Compare.{Difference, Stretches, compared}
 use Rattle.map_compare_rules.specs.Laws.{compared-length}
 use Rattle.map_compare_rules.specs.Memory.{Value, stretchWidth, putStretch, compareFits, bothFormed, stretchesOf, compareOutcome, comparedAnswer, comparedMemory, Compares}
 use Rattle.map_compare_rules.specs.MemoryLaws.{layStretches, length-put-stretch, lay-memory}
+use Rattle.map_compare.specs.Compare.{Needed}
 use Rattle.map_compare.specs.declared.walk.Position.{Position}
 use Rattle.map_compare.specs.declared.walk.Stretch.{Stretch}
 use Rattle.map_compare.specs.declared.walk.Step.{Step}
@@ -54,6 +55,16 @@ ahead-end left n right m l r h k = λ i. compared sameValue (from-end left n l h
 pub few-stretches : (left : List ℕ) (n : ℕ) (right : List ℕ) (m : ℕ) → InOrder left n right m → length (stretchesOf left n right m) ≤ 262144
 few-stretches left n right m w =
     omega (arith, compared-length sameValue (rows left n) (rows right m), length-rows left 0 n, length-rows right 0 m, w .left-few, w .right-few)
+
+-- two places an interval suffice, and a count tells exactly
+pub needed-none : (left : List ℕ) (n : ℕ) (right : List ℕ) (m room : ℕ) → 2 * (n + m) ≤ room → Needed 0 room (length (stretchesOf left n right m))
+needed-none left n right m room h = record {
+  fits = λ k. omega (arith, compared-length sameValue (rows left n) (rows right m), length-rows left 0 n, length-rows right 0 m);
+  over = λ k. absurd (omega arith);
+}
+
+pub needed-counted : {r room many : ℕ} → r ≡ many → Needed r room many
+needed-counted e = record { fits = λ k. omega arith; over = λ k. omega arith }
 
 -- ---- a turn's stretch
 

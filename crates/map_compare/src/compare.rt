@@ -10,7 +10,7 @@ ghost use Rattle.map_compare_rules.specs.Memory.{stretchWidth, compareFits, bot
 ghost use Rattle.map_rules.specs.Memory.{width};
 ghost use Rattle.map_compare_rules.specs.MemoryLaws.{layStretches};
 ghost use Rattle.map_compare.specs.Walk.{tellsOf, writtenOf, InOrder};
-ghost use Rattle.map_compare.specs.Compare.{comparedOf};
+ghost use Rattle.map_compare.specs.Compare.{Needed, comparedOf};
 
 // A comparison's answer: done, with the number of stretches, or refused.
 pub enum Compared {
@@ -58,10 +58,23 @@ fn write(stretches: &mut [u8], i: usize, s: Stretch)
     }
 }
 
-// Lays every stretch in the list.
-fn lay(left: &[u8], n: usize, right: &[u8], m: usize, stretches: &mut [u8])
+// How many of so many places must be there: as many as there are stretches; where there are two an interval, which always suffice,
+// none is counted.
+fn needed(left: &[u8], n: usize, right: &[u8], m: usize, room: usize) -> usize
+    requires { ⌜ InOrder (now left) n (now right) m ⌝ }
+    ensures { λ r. ⌜ Needed r room (length (stretchesOf (now (left .entry)) n (now (right .entry)) m)) ⌝ }
+{
+    if 2 * (n + m) <= room {
+        0
+    } else {
+        count(left, n, right, m)
+    }
+}
+
+// Lays every stretch in the list, and answers how many there are.
+fn lay(left: &[u8], n: usize, right: &[u8], m: usize, stretches: &mut [u8]) -> usize
     requires { ⌜ InOrder (now left) n (now right) m × (length (stretchesOf (now left) n (now right) m) * stretchWidth ≤ length (now stretches)) ⌝ }
-    ensures { λ _. ⌜ now (stretches .exit) ≡ layStretches (now (stretches .entry)) 0 (stretchesOf (now (left .entry)) n (now (right .entry)) m) ⌝ }
+    ensures { λ r. ⌜ (r ≡ length (stretchesOf (now (left .entry)) n (now (right .entry)) m)) × (now (stretches .exit) ≡ layStretches (now (stretches .entry)) 0 (stretchesOf (now (left .entry)) n (now (right .entry)) m)) ⌝ }
 {
     let mut l = Position { place: 0, from: 0 };
     let mut r = Position { place: 0, from: 0 };
@@ -73,6 +86,7 @@ fn lay(left: &[u8], n: usize, right: &[u8], m: usize, stretches: &mut [u8])
         l = s.left;
         r = s.right;
     }
+    i
 }
 
 // Whether what is lent is two tables with so many in use, and a list, and no more names are in use than may be; where not, 15.
@@ -131,11 +145,11 @@ pub fn compare(
     ) {
         Compared::Refused(Refusal::BadMemory)
     } else if both_formed(left, left_used, right, right_used, names) {
-        let total = count(left, left_used, right, right_used);
-        if stretches.len() / STRETCH_WIDTH < total {
+        let room = stretches.len() / STRETCH_WIDTH;
+        if room < needed(left, left_used, right, right_used, room) {
             Compared::Refused(Refusal::NoRoom)
         } else {
-            lay(left, left_used, right, right_used, stretches);
+            let total = lay(left, left_used, right, right_used, stretches);
             Compared::Done(total)
         }
     } else {

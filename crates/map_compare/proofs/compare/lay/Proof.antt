@@ -3,7 +3,7 @@ use mathlib.Core.Logic.{⊎-elim}
 use native.Mathlib.Omega.{arith}
 use borrow.Author.Needs.{needs}
 use Rattle.map_compare.specs.Walk.{turnsLeft}
-use Rattle.map_compare.specs.CompareLaws.{Laying, lay-start, more-left, more-right, count-few, lay-room, lay-on, lay-end}
+use Rattle.map_compare.specs.CompareLaws.{Laying, lay-start, more-left, more-right, count-few, lay-room, lay-on, count-end, lay-end}
 use Rattle.map_compare.proofs.compare.lay.Statement.{statement}
 use Rattle.map_compare.proofs.compare.lay.Tie as tie
 
@@ -43,7 +43,9 @@ same-length : tie.Need-same-length Inv-loop μ-loop
 same-length c = c .before .before .before .before .loop .inv .kept
 
 returns : tie.Need-returns Inv-loop μ-loop
-returns c = lay-end (c .before .before .before .before .loop .inv) (c .before .before .if1 .left) (c .if2 .left)
+returns c =
+    let w = c .before .before .before .before .loop .inv in
+    (count-end (w .counting) (c .before .before .if1 .left) (c .if2 .left), lay-end w (c .before .before .if1 .left) (c .if2 .left))
 
 pub lay-spec : {M : Type 1} → statement M
 lay-spec =
