@@ -1,4 +1,4 @@
-// Two tables side by side (RULES, Requests, No. 1): the list of every stretch in which they disagree, counted before its first byte is written.
+// Two tables side by side (RULES, Requests, No. 1): the list of every stretch in which they disagree, its room judged before a byte is written.
 use crate::stretch_bytes::STRETCH_WIDTH;
 use crate::walk::Position;
 use crate::walk::Stretch;
