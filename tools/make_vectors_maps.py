@@ -70,6 +70,12 @@ def lent_memory(part, faults):
             show(case, answer.answer(case))
 
 
+def borders():
+    """Tables that only just fail the check: two that touch with one symbol, an instrument twice."""
+    show(words("check", traps.table(2, (1, 10, 20, 0), (1, 20, 30, 0)), 2, 2), "14")
+    show(words("check_point", bytes.fromhex("05000000000000000500000001000000"), 2, 2), "14")
+
+
 def mapping_calls():
     """A call that joins two intervals, and random ones that the model answers, a few of each outcome: the number, and whether
     the table changed."""
@@ -92,6 +98,7 @@ print("# Bytes are hexadecimal, a - for none; oracle/README.md has the form of e
 for _, (case, said) in traps.traps():
     if is_served(case):
         show(case, said)
+borders()
 rng = random.Random(1)
 for faults in (0, 0.3):
     for part in (lent.table_case, lent.point_case):

@@ -11,7 +11,8 @@ use Rattle.leaves.specs.Refusal.{numberOf, refused}
 use Rattle.leaves_names.specs.Names.{namesOf, wellFormed, listFits}
 use Rattle.leaves_names.specs.NamesLaws.{fails, holds, Memory, memory, Ordered, formed, ordered}
 use Rattle.leaves.specs.declared.refusal.Refusal.{Refusal}
-use Rattle.leaves.specs.declared.refusal.Refusal.the-variants.{Reversed, NoRoom, UnknownSymbol, BadName, NoNameRoom, Differ, Conflict, NotNumber, NoInstrumentId, OutsideQuery, NoDate, BadStreams, Damaged, IllFormed, BadMemory}
+use Rattle.leaves.specs.declared.refusal.Refusal.the-variants.{IllFormed, BadMemory}
+use Rattle.leaves.specs.RefusalLaws.{plain-refused}
 use Rattle.map_point.specs.declared.entries.Entry.{Entry}
 use Rattle.map_point.specs.declared.points.Stored.{Stored}
 use Rattle.map_point.specs.declared.points.Stored.the-variants as stored
@@ -56,21 +57,7 @@ module _ (size : ℕ) (h : Header) (l : Lengths) (m : List ℕ) (bytes places na
 -- the build's refusals come with no values
 plain : (r : Refusal) → T (pointRefusal (numberOf r)) → refused r ≡ answer (numberOf r) []
 unfolding pointRefusal
-plain Reversed t = refl
-plain NoRoom t = refl
-plain UnknownSymbol t = refl
-plain BadName t = refl
-plain NoNameRoom t = refl
-plain (Differ field) t = absurd t
-plain Conflict t = refl
-plain NotNumber t = refl
-plain NoInstrumentId t = refl
-plain OutsideQuery t = refl
-plain NoDate t = refl
-plain BadStreams t = refl
-plain (Damaged stream place reason) t = absurd t
-plain IllFormed t = refl
-plain BadMemory t = refl
+plain r t = plain-refused r (λ e. subst (λ (c : ℕ). T (pointRefusal c)) e t) (λ e. subst (λ (c : ℕ). T (pointRefusal c)) e t)
 
 -- a build that refuses, by its number
 refuses : (size room names : ℕ) (b : Build Entry) → Sound room names b → (r : Refusal) → buildAnswer b ≡ answer (numberOf r) []

@@ -1,6 +1,6 @@
 // The point-in-time build from metadata (RULES, The map over time).
-pub mod begin;
+mod begin;
 pub mod build;
-pub mod counted;
-pub mod entry;
-pub mod mappings;
+mod counted;
+mod entry;
+mod mappings;

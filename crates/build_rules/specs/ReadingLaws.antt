@@ -1,5 +1,6 @@
 -- What each reading comes to, by what its test or its leaf answered. Assumes nothing.
 use mathlib.Core.Path.{_≡_, refl, sym, ap, _∙_}
+use mathlib.Core.Logic.{_≢_}
 use Prim.Native.Nat.{ℕ, _+_, _-_, _*_, _≤_, _<_}
 use native.Mathlib.Omega.{arith}
 use mathlib.Core.Bool.{true, false, cond}
@@ -9,9 +10,9 @@ use lib.ListN.{length, getD}
 use lib.Seq.{slice, slice-empty, slice-cons}
 use borrow.Author.Tests.{lt-ltb, le-ltb, eq-eqb, ne-eqb}
 use Rattle.theory.specs.Answer.{Answer, answer}
-use Rattle.leaves.specs.Refusal.{numberOf, refused}
+use Rattle.leaves.specs.Refusal.{numberOf, valuesOf, refused}
 use Rattle.leaves.specs.declared.refusal.Refusal.{Refusal}
-use Rattle.leaves.specs.declared.refusal.Refusal.the-variants.{Reversed, NoRoom, UnknownSymbol, BadName, NoNameRoom, Differ, Conflict, NotNumber, NoInstrumentId, OutsideQuery, NoDate, BadStreams, Damaged, IllFormed, BadMemory}
+use Rattle.leaves.specs.RefusalLaws.{refused-not-done}
 use Rattle.leaves_days.specs.declared.days.Moment.{Moment}
 use Rattle.leaves_days.specs.declared.days.Moment.the-variants as moment
 use Rattle.leaves.specs.NumberText.{numberText, readingOf}
@@ -33,21 +34,11 @@ use Rattle.build_rules.specs.declared.reading.Symbol.the-variants.{Unkno
 -- a refusal is read as its number
 pub refused-read : (r : Refusal) → readOf (refused r) ≡ fault (numberOf r)
 unfolding readOf
-refused-read Reversed = refl
-refused-read NoRoom = refl
-refused-read UnknownSymbol = refl
-refused-read BadName = refl
-refused-read NoNameRoom = refl
-refused-read (Differ field) = refl
-refused-read Conflict = refl
-refused-read NotNumber = refl
-refused-read NoInstrumentId = refl
-refused-read OutsideQuery = refl
-refused-read NoDate = refl
-refused-read BadStreams = refl
-refused-read (Damaged stream place reason) = refl
-refused-read IllFormed = refl
-refused-read BadMemory = refl
+refused-read r = go (numberOf r) (valuesOf r) (refused-not-done r)
+  where
+    go : (c : ℕ) (vs : List ℕ) → c ≢ 0 → readOf (answer c vs) ≡ fault c
+    go c [] h = refl
+    go c (v ∷ vs) h = rw (ne-eqb c 0 h) refl
 
 done-read : (v : ℕ) → readOf (answer 0 (v ∷ [])) ≡ value v
 unfolding readOf

@@ -10,7 +10,7 @@ use lib.Dec.{T}
 use Rattle.theory.specs.Answer.{answer}
 use Rattle.leaves.specs.Refusal.{numberOf, refused}
 use Rattle.leaves.specs.declared.refusal.Refusal.{Refusal}
-use Rattle.leaves.specs.declared.refusal.Refusal.the-variants.{Reversed, NoRoom, UnknownSymbol, BadName, NoNameRoom, Differ, Conflict, NotNumber, NoInstrumentId, OutsideQuery, NoDate, BadStreams, Damaged, IllFormed, BadMemory}
+use Rattle.leaves.specs.declared.refusal.Refusal.the-variants.{IllFormed, BadMemory}
 use Rattle.map_time.specs.Interval.{rowOf}
 use Rattle.map_time.specs.Insert.{insertedOf}
 use Rattle.map_time.specs.declared.interval.Interval.{Interval}
@@ -30,7 +30,7 @@ use Rattle.leaves_names.specs.NamesLaws.{Ordered as Ordered-names, ordered as o
 use Rattle.leaves_names.specs.NamesList.{names-length}
 use Rattle.leaves_days.specs.declared.days.Moment.{Moment}
 use Rattle.leaves_days.specs.declared.days.Moment.the-variants as moment
-use Rattle.leaves.specs.FrameLaws.{refused-not-done}
+use Rattle.leaves.specs.RefusalLaws.{refused-not-done, plain-refused}
 use Rattle.metadata_rules.specs.declared.Interval.{Interval as Span}
 use Rattle.metadata_rules.specs.Metadata.{Mapping, mapping}
 use Rattle.metadata_rules.specs.Words.{nameAt, countAt, before, intervalAt, stretch, mappingsFrom}
@@ -88,22 +88,8 @@ pub record Leaves (b : Build (Row ℕ)) (long : ℕ) (r : Built) (t′ : List �
 -- ---- one interval's step
 
 -- a refusal that comes with no values
-pub plain-refused : (r : Refusal) → Plain (numberOf r) → refused r ≡ answer (numberOf r) []
-plain-refused Reversed p = refl
-plain-refused NoRoom p = refl
-plain-refused UnknownSymbol p = refl
-plain-refused BadName p = refl
-plain-refused NoNameRoom p = refl
-plain-refused (Differ field) p = absurd (p .no-field refl)
-plain-refused Conflict p = refl
-plain-refused NotNumber p = refl
-plain-refused NoInstrumentId p = refl
-plain-refused OutsideQuery p = refl
-plain-refused NoDate p = refl
-plain-refused BadStreams p = refl
-plain-refused (Damaged stream place reason) p = absurd (p .no-damage refl)
-plain-refused IllFormed p = refl
-plain-refused BadMemory p = refl
+pub plain-stopped : (r : Refusal) → Plain (numberOf r) → refused r ≡ answer (numberOf r) []
+plain-stopped r p = plain-refused r (p .no-field) (p .no-damage)
 
 way-plain : (texts : List (List ℕ)) (way : Way) (x : Span) → PlainStep (wayStep texts way x)
 way-plain texts (Forward name) x = forward-plain texts name x
@@ -216,7 +202,7 @@ module _ (names : ℕ) (texts : List (List ℕ)) (way : Way) (x : Span) (t : Lis
   unfolding taken outcomeAnswer
   took-refuse {a} {why} t′ e d =
       let s : step ≡ stop (numberOf why) = sym e ∙ ap askedOf d in
-      rw s (record { answers = plain-refused why (way-plain texts way x (numberOf why) s); on = λ u f. absurd (let z : _≡_ {A = ℕ} 0 1 = cc in omega arith) })
+      rw s (record { answers = plain-stopped why (way-plain texts way x (numberOf why) s); on = λ u f. absurd (let z : _≡_ {A = ℕ} 0 1 = cc in omega arith) })
 
   pub took-skip : {a : Asked} → Holds names t used → askedOf a ≡ wayStep texts way x → a ≡ Nothing
       → Took names (taken names (roomOf t) (wayStep texts way x) (rows t used)) (Done used) t
@@ -396,7 +382,7 @@ module _ (bytes ends : List ℕ) (names : ℕ) (name room : ℕ) (xs : List Span
       let b : layMapping room texts direction.Inverse m (mapping name xs) ys ≡ stopped (numberOf why) m 0 =
       mapping-inverse a f m ∙ ap (λ (a : Instrument). layRead room texts m xs ys (instrumentRead a)) g in
       rw e (record {
-        answers = plain-refused why p ∙ sym (ap buildAnswer b);
+        answers = plain-stopped why p ∙ sym (ap buildAnswer b);
         on = λ u y. absurd (let z : _≡_ {A = ℕ} 0 1 = cc in omega arith);
       })
 
@@ -483,7 +469,7 @@ module _ (names : ℕ) (t : List ℕ) (texts : List (List ℕ)) (ms : List Mappi
   build-undirected {s} {why} i o h e d =
       let f : directionBy i o ≡ fault (numberOf why) = sym e ∙ ap headingRead d in
       let p : Plain (numberOf why) = direction-plain i o (numberOf why) f in
-      rw f (record { answers = plain-refused why p; memory = empty-memory h; stands = refl })
+      rw f (record { answers = plain-stopped why p; memory = empty-memory h; stands = refl })
 
   module _ {s : Heading} {d : Direction} (i o : ℕ) (e : headingRead s ≡ directionBy i o) (f : s ≡ heading.Is d) (r : Built) (t′ : List ℕ) (g : length t′ ≡ length t)
       (l : Lays names (layMappings (roomOf t) texts d 0 ms []) r t′) where

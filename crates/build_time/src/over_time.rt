@@ -319,7 +319,7 @@ fn build(
 }
 
 // The lengths of five lists.
-pub fn lengths(
+fn lengths(
     symbols: usize,
     partial: usize,
     not_found: usize,

@@ -1,6 +1,7 @@
 -- What a match on an answer gives at the door, one law a case. Assumes nothing.
-use Prim.Native.Nat.{ℕ}
+use Prim.Native.Nat.{ℕ, zero, suc}
 use mathlib.Core.Path.{_≡_, refl, sym, ap, _∙_}
+use mathlib.Core.Logic.{_≢_}
 use mathlib.Core.Bool.{cond}
 use mathlib.Core.List.{List}
 use lib.Dec.{ltb}
@@ -8,7 +9,7 @@ use lib.ListN.{length, getD}
 use Rattle.theory.specs.Answer.{Answer, answer}
 use Rattle.leaves.specs.Refusal.{numberOf, valuesOf, refused}
 use Rattle.leaves.specs.declared.refusal.Refusal.{Refusal}
-use Rattle.leaves.specs.declared.refusal.Refusal.the-variants.{Reversed, NoRoom, UnknownSymbol, BadName, NoNameRoom, Differ, Conflict, NotNumber, NoInstrumentId, OutsideQuery, NoDate, BadStreams, Damaged, IllFormed, BadMemory}
+use Rattle.leaves.specs.RefusalLaws.{refused-not-done}
 use Rattle.door_answers.specs.Answers.{numberIn, valueIn, givenIn, damageIn, eitherIn}
 
 -- ---- a refusal
@@ -16,39 +17,19 @@ use Rattle.door_answers.specs.Answers.{numberIn, valueIn, givenIn, damag
 -- every refusal has a number of its own, so what was held stays
 pub refused-value : (r : Refusal) (held k : ℕ) → valueIn held k (refused r) ≡ held
 unfolding valueIn
-refused-value Reversed held k = refl
-refused-value NoRoom held k = refl
-refused-value UnknownSymbol held k = refl
-refused-value BadName held k = refl
-refused-value NoNameRoom held k = refl
-refused-value (Differ field) held k = refl
-refused-value Conflict held k = refl
-refused-value NotNumber held k = refl
-refused-value NoInstrumentId held k = refl
-refused-value OutsideQuery held k = refl
-refused-value NoDate held k = refl
-refused-value BadStreams held k = refl
-refused-value (Damaged stream place reason) held k = refl
-refused-value IllFormed held k = refl
-refused-value BadMemory held k = refl
+refused-value r held k = go (numberOf r) (valuesOf r) (refused-not-done r)
+  where
+    go : (n : ℕ) (vs : List ℕ) → n ≢ 0 → valueIn held k (answer n vs) ≡ held
+    go zero vs h = absurd (h refl)
+    go (suc n) vs h = refl
 
 refused-given : (r : Refusal) (held k : ℕ) → givenIn held k (refused r) ≡ held
 unfolding givenIn
-refused-given Reversed held k = refl
-refused-given NoRoom held k = refl
-refused-given UnknownSymbol held k = refl
-refused-given BadName held k = refl
-refused-given NoNameRoom held k = refl
-refused-given (Differ field) held k = refl
-refused-given Conflict held k = refl
-refused-given NotNumber held k = refl
-refused-given NoInstrumentId held k = refl
-refused-given OutsideQuery held k = refl
-refused-given NoDate held k = refl
-refused-given BadStreams held k = refl
-refused-given (Damaged stream place reason) held k = refl
-refused-given IllFormed held k = refl
-refused-given BadMemory held k = refl
+refused-given r held k = go (numberOf r) (valuesOf r) (refused-not-done r)
+  where
+    go : (n : ℕ) (vs : List ℕ) → n ≢ 0 → givenIn held k (answer n vs) ≡ held
+    go zero vs h = absurd (h refl)
+    go (suc n) vs h = refl
 
 -- ---- a match
 

@@ -10,9 +10,10 @@ use lib.ListN.{length, getD, drop, drop-of-length-le}
 use lib.Seq.{paste, take-all}
 use native.Mathlib.Numerals.{add-one}
 use borrow.Author.Tests.{leb-true, lt-leb, le-leb}
-use Rattle.leaves.specs.Refusal.{refused}
+use Rattle.theory.specs.Answer.{answer}
+use Rattle.leaves.specs.Refusal.{numberOf, valuesOf, refused}
 use Rattle.leaves.specs.declared.refusal.Refusal.{Refusal}
-use Rattle.leaves.specs.declared.refusal.Refusal.the-variants.{Reversed, NoRoom, UnknownSymbol, BadName, NoNameRoom, Differ, Conflict, NotNumber, NoInstrumentId, OutsideQuery, NoDate, BadStreams, Damaged, IllFormed, BadMemory}
+use Rattle.leaves.specs.RefusalLaws.{refused-not-done}
 use Rattle.metadata_form.specs.declared.header.Header.{Header}
 use Rattle.door_answers.specs.Header.{widths, within, headerFits, headerOf, wordsIn}
 
@@ -125,18 +126,8 @@ paste-whole d t n e h =
 -- every refusal has a number of its own, so the header stays
 pub refused-words : (r : Refusal) (held : List ℕ) → wordsIn held (refused r) ≡ held
 unfolding wordsIn
-refused-words Reversed held = refl
-refused-words NoRoom held = refl
-refused-words UnknownSymbol held = refl
-refused-words BadName held = refl
-refused-words NoNameRoom held = refl
-refused-words (Differ field) held = refl
-refused-words Conflict held = refl
-refused-words NotNumber held = refl
-refused-words NoInstrumentId held = refl
-refused-words OutsideQuery held = refl
-refused-words NoDate held = refl
-refused-words BadStreams held = refl
-refused-words (Damaged stream place reason) held = refl
-refused-words IllFormed held = refl
-refused-words BadMemory held = refl
+refused-words r held = go (numberOf r) (valuesOf r) (refused-not-done r)
+  where
+    go : (n : ℕ) (vs : List ℕ) → n ≢ 0 → wordsIn held (answer n vs) ≡ held
+    go zero vs h = absurd (h refl)
+    go (suc n) vs h = refl

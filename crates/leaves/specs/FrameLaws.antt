@@ -11,8 +11,8 @@ use borrow.Author.Tests.{lt-ltb, le-ltb, eq-eqb, ne-eqb}
 use Rattle.theory.specs.Answer.{answer}
 use Rattle.theory.specs.Fields.{field, field-slice}
 use Rattle.leaves.specs.Refusal.{numberOf, valuesOf, refused}
+use Rattle.leaves.specs.RefusalLaws.{refused-not-done, refused-one}
 use Rattle.leaves.specs.declared.refusal.Refusal.{Refusal}
-use Rattle.leaves.specs.declared.refusal.Refusal.the-variants.{Reversed, NoRoom, UnknownSymbol, BadName, NoNameRoom, Differ, Conflict, NotNumber, NoInstrumentId, OutsideQuery, NoDate, BadStreams, Damaged, IllFormed, BadMemory}
 use Rattle.leaves.specs.Frame.{Read, whole, ended, damaged, judged, recordAt, frameAt, readFound}
 use Rattle.leaves.specs.Frame.{Mapped, other, symbol, notOne, mappingStart, ofKind, oneRecord, mappedIn, mappedOf, frameOf, mappingOf}
 use Rattle.leaves.specs.declared.frame.Frame.{Frame}
@@ -171,62 +171,12 @@ mapped-symbol n j b u f l other e = let z : _≡_ {A = ℕ} 0 1 = cc in absurd (
 mapped-symbol n j b u f l (symbol i s t) e = (cc, cc, cc)
 mapped-symbol n j b u f l (notOne r) e = let z : _≡_ {A = ℕ} 0 13 = cc in absurd (omega arith)
 
--- a refusal is not done
-pub refused-not-done : (r : Refusal) → numberOf r ≢ 0
-refused-not-done Reversed e = omega arith
-refused-not-done NoRoom e = omega arith
-refused-not-done UnknownSymbol e = omega arith
-refused-not-done BadName e = omega arith
-refused-not-done NoNameRoom e = omega arith
-refused-not-done (Differ field) e = omega arith
-refused-not-done Conflict e = omega arith
-refused-not-done NotNumber e = omega arith
-refused-not-done NoInstrumentId e = omega arith
-refused-not-done OutsideQuery e = omega arith
-refused-not-done NoDate e = omega arith
-refused-not-done BadStreams e = omega arith
-refused-not-done (Damaged stream place reason) e = omega arith
-refused-not-done IllFormed e = omega arith
-refused-not-done BadMemory e = omega arith
-
 pub mapped-refused : (n : ℕ) (m : Mapped) (r : Refusal) → refused r ≡ mappedOf n m → (reason : ℕ) × (m ≡ notOne reason)
 mapped-refused n other r e = let z : numberOf r ≡ 0 = cc in absurd (refused-not-done r z)
 mapped-refused n (symbol i s t) r e = let z : numberOf r ≡ 0 = cc in absurd (refused-not-done r z)
 mapped-refused n (notOne reason) r e = (reason, refl)
 
 -- ---- only one answer fits: an answer in the rules' numbers comes from one value alone
-
--- the refusal with a number and values
-refusalOf : ℕ → List ℕ → Refusal
-refusalOf n vs =
-    cond (eqb n 1) Reversed (cond (eqb n 2) NoRoom (cond (eqb n 3) UnknownSymbol (cond (eqb n 4) BadName (cond (eqb n 5) NoNameRoom
-    (cond (eqb n 6) (Differ (getD vs 0 0)) (cond (eqb n 7) Conflict (cond (eqb n 8) NotNumber (cond (eqb n 9) NoInstrumentId
-    (cond (eqb n 10) OutsideQuery (cond (eqb n 11) NoDate (cond (eqb n 12) BadStreams
-    (cond (eqb n 13) (Damaged (getD vs 0 0) (getD vs 1 0) (getD vs 2 0)) (cond (eqb n 14) IllFormed BadMemory)))))))))))))
-
-refusal-back : (r : Refusal) → refusalOf (numberOf r) (valuesOf r) ≡ r
-unfolding refusalOf
-refusal-back Reversed = refl
-refusal-back NoRoom = refl
-refusal-back UnknownSymbol = refl
-refusal-back BadName = refl
-refusal-back NoNameRoom = refl
-refusal-back (Differ field) = refl
-refusal-back Conflict = refl
-refusal-back NotNumber = refl
-refusal-back NoInstrumentId = refl
-refusal-back OutsideQuery = refl
-refusal-back NoDate = refl
-refusal-back BadStreams = refl
-refusal-back (Damaged stream place reason) = refl
-refusal-back IllFormed = refl
-refusal-back BadMemory = refl
-
-pub refused-one : (r q : Refusal) → refused r ≡ refused q → r ≡ q
-refused-one r q e =
-    let n : numberOf r ≡ numberOf q = cc in
-    let v : valuesOf r ≡ valuesOf q = cc in
-    sym (refusal-back r) ∙ ap₂ refusalOf n v ∙ refusal-back q
 
 pub frame-one : (x y : Frame) → frameOf x ≡ frameOf y → x ≡ y
 frame-one (Record a b c d) (Record e f g h) z = cc

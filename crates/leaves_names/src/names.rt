@@ -220,7 +220,7 @@ pub fn add_name(
 }
 
 // What becomes of the name that the text's bytes from `from` to before `to` are: its number, a new one, or 15, 14, 4, 5.
-pub fn judge_name(
+fn judge_name(
     bytes: &[u8],
     ends: &[u32],
     names: usize,

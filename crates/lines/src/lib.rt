@@ -1,5 +1,5 @@
 // Lines of text and sections of input, which the programs share.
-pub mod copy;
+mod copy;
 pub mod lines;
 pub mod parts;
 pub mod sections;

@@ -1,4 +1,4 @@
 // Two tables over time side by side (RULES, Requests, No. 1): every stretch in which they disagree.
 pub mod compare;
-pub mod stretch_bytes;
+mod stretch_bytes;
 pub mod walk;

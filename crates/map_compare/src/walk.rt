@@ -125,7 +125,7 @@ fn both(x: Interval, y: Interval) -> Turn
 }
 
 // What two heads give.
-pub fn turn_of(x: Interval, y: Interval) -> Turn
+fn turn_of(x: Interval, y: Interval) -> Turn
     ensures { λ r. ⌜ r ≡ turnOf sameValue (rowOf x) (rowOf y) ⌝ }
 {
     if is_over(x, y) {

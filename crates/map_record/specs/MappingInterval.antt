@@ -14,7 +14,8 @@ use Rattle.leaves.specs.Refusal.{refused, numberOf}
 use Rattle.leaves.specs.declared.refusal.Refusal.{Refusal}
 use Rattle.leaves.specs.declared.refusal.Refusal.the-variants.{Reversed, BadName, IllFormed, BadMemory}
 use Rattle.leaves.specs.Frame.{Mapped, other, symbol, notOne, mappedIn, mappedOf, mappingOf, nameIn}
-use Rattle.leaves.specs.FrameLaws.{mapped-other, mapped-refused, refused-not-done}
+use Rattle.leaves.specs.FrameLaws.{mapped-other, mapped-refused}
+use Rattle.leaves.specs.RefusalLaws.{refused-not-done}
 use Rattle.leaves.specs.declared.frame.Mapping.{Mapping}
 use Rattle.leaves.specs.declared.frame.Mapping.the-variants.{Other, Symbol, Refused as NotRead}
 use Rattle.leaves_names.specs.Names.{listFits, wellFormed as wellFormedNames, isName}

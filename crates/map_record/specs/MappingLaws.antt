@@ -15,7 +15,8 @@ use Rattle.leaves.specs.Refusal.{refused, numberOf}
 use Rattle.leaves.specs.declared.refusal.Refusal.the-variants.{NoRoom, NoNameRoom, BadName, IllFormed, BadMemory, Damaged}
 use Rattle.leaves.specs.declared.refusal.Refusal.{Refusal}
 use Rattle.leaves.specs.Frame.{Read, whole, ended, damaged, Mapped, other, symbol, notOne, mappingStart, ofKind, oneRecord, frameAt, mappedIn, mappedOf, mappingOf, nameIn}
-use Rattle.leaves.specs.FrameLaws.{mapped-other, mapped-symbol, mapped-refused, refused-not-done}
+use Rattle.leaves.specs.FrameLaws.{mapped-other, mapped-symbol, mapped-refused}
+use Rattle.leaves.specs.RefusalLaws.{refused-not-done}
 use Rattle.leaves.specs.declared.frame.Mapping.{Mapping}
 use Rattle.leaves.specs.declared.frame.Mapping.the-variants.{Other, Symbol, Refused as NotRead}
 use Rattle.leaves_names.specs.Names.{listFits, wellFormed as wellFormedNames, namesOf, least, isName, nameWritten, hasRoom as hasNameRoom}

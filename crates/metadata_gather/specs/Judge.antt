@@ -14,7 +14,7 @@ use Rattle.leaves_days.specs.Calendar.{isLeap, monthDays, isDate, dayNumber}
 use Rattle.leaves_days.specs.CalendarDates.{yes-date}
 use Rattle.leaves_days.specs.Days.{inRange, dayOf, dayAnswerOf}
 use Rattle.leaves.specs.Refusal.{refused, numberOf}
-use Rattle.leaves.specs.FrameLaws.{refused-not-done}
+use Rattle.leaves.specs.RefusalLaws.{refused-not-done}
 use Rattle.leaves.specs.declared.refusal.Refusal.{Refusal}
 use Rattle.leaves_days.specs.declared.days.Day.{Day}
 use Rattle.leaves_days.specs.declared.days.Day.the-variants.{Number, Refused}

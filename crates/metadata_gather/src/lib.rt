@@ -1,7 +1,7 @@
 // What a merge reads: numbers in the order of first arrival, a first metadata's mappings without its repeats, and the mappings
 // of both sides one after the other.
-pub mod arrivals;
+mod arrivals;
 pub mod judge;
-pub mod picks;
+mod picks;
 pub mod sets;
 pub mod sides;

@@ -20,7 +20,7 @@ pub struct United {
 }
 
 // The left entries and then the right ones, each entry once, at the front of `out`; answers how many.
-pub fn together(
+fn together(
     left: &[u32],
     left_count: usize,
     right: &[u32],

@@ -19,7 +19,7 @@ pub enum NamesLaid {
 }
 
 // The place i: its name's outcome where it is the name's first.
-pub fn lay_place(
+fn lay_place(
     mappings: &[u32],
     count: usize,
     intervals: &[u32],

@@ -1,3 +1,3 @@
 // Metadata: opening the first, merging one more, finishing (RULES, Merging metadata). The Rust's `MetadataMerger`.
 pub mod merger;
-pub mod outcome;
+mod outcome;

@@ -1,6 +1,6 @@
 -- The answers of the builds: two that say the same number and the same values are one answer. Assumes nothing.
 use mathlib.Core.Path.{_≡_, sym, ap}
-use Rattle.leaves.specs.FrameLaws.{refused-one}
+use Rattle.leaves.specs.RefusalLaws.{refused-one}
 use Rattle.build_time.specs.OverTime as time
 use Rattle.build_time.specs.declared.over_time.Built as time-built
 use Rattle.build_time.specs.declared.over_time.Built.the-variants as time-case

@@ -6,7 +6,7 @@ use native.Mathlib.Omega.{arith}
 use mathlib.Core.List.{List, [], _∷_}
 use Rattle.theory.specs.Answer.{answer}
 use Rattle.leaves.specs.Refusal.{numberOf, refused}
-use Rattle.leaves.specs.FrameLaws.{refused-not-done, refused-one}
+use Rattle.leaves.specs.RefusalLaws.{refused-not-done, refused-one}
 use Rattle.leaves_days.specs.Days.{dayAnswerOf, dateAnswerOf, momentAnswerOf}
 use Rattle.leaves.specs.NumberText.{readingOf}
 use Rattle.leaves_names.specs.Names.{checkedOf, namedOf, placedOf}

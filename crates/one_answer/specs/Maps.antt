@@ -2,7 +2,7 @@
 use mathlib.Core.Path.{_≡_, refl, sym, ap, ap₂, _∙_}
 use Prim.Native.Nat.{ℕ}
 use native.Mathlib.Omega.{arith}
-use Rattle.leaves.specs.FrameLaws.{refused-one}
+use Rattle.leaves.specs.RefusalLaws.{refused-one}
 use Rattle.map_time.specs.Table.{checkedOf}
 use Rattle.map_time.specs.Insert.{insertedOf}
 use Rattle.map_compare.specs.Compare.{comparedOf}
@@ -18,6 +18,8 @@ use Rattle.map_compare.specs.declared.compare.Compared.the-variants as compared
 use Rattle.map_look.specs.declared.lookup.Found.{Found}
 use Rattle.map_look.specs.declared.lookup.Found.the-variants.{Symbol, Nothing, Refused}
 use Rattle.map_look.specs.declared.lookup.Looked.{Looked}
+use Rattle.map_point.specs.declared.points.Stored.{Stored}
+use Rattle.map_point.specs.declared.points.Stored.the-variants as stored
 use Rattle.map_record.specs.declared.mapping.Recorded.{Recorded}
 use Rattle.map_record.specs.declared.mapping.Recorded.the-variants as recorded
 use Rattle.one_answer.specs.Leaves.{done-or-refused}
@@ -66,6 +68,12 @@ point-one Nothing (Refused q) e = absurd (done-or-refused q e)
 point-one (Refused r) (Symbol t) e = absurd (done-or-refused r (sym e))
 point-one (Refused r) Nothing e = absurd (done-or-refused r (sym e))
 point-one (Refused r) (Refused q) e = ap Refused (refused-one r q e)
+
+pub stored-one : (x y : Stored) → points.storedOf x ≡ points.storedOf y → x ≡ y
+stored-one (stored.Done a) (stored.Done b) e = cc
+stored-one (stored.Done a) (stored.Refused q) e = absurd (done-or-refused q e)
+stored-one (stored.Refused r) (stored.Done b) e = absurd (done-or-refused r (sym e))
+stored-one (stored.Refused r) (stored.Refused q) e = ap stored.Refused (refused-one r q e)
 
 pub recorded-one : (x y : Recorded) → recordedOf x ≡ recordedOf y → x ≡ y
 recorded-one (recorded.Done a b c) (recorded.Done d f g) e = cc

@@ -6,7 +6,7 @@ use mathlib.Core.List.{List, [], _∷_}
 use lib.Dec.{eqb}
 use lib.ListN.{getD}
 use Rattle.theory.specs.Answer.{answer}
-use Rattle.leaves.specs.FrameLaws.{refused-one}
+use Rattle.leaves.specs.RefusalLaws.{refused-one}
 use Rattle.metadata_form.specs.declared.header.Header.{Header}
 use Rattle.theory.specs.Answer.{bit}
 use Rattle.metadata_form.specs.Header.{numbersOf}

@@ -5,7 +5,7 @@ use native.Mathlib.Omega.{arith}
 use mathlib.Core.List.{[], _∷_}
 use Rattle.theory.specs.Answer.{Answer, answer}
 use Rattle.leaves.specs.Refusal.{numberOf, refused}
-use Rattle.leaves.specs.FrameLaws.{refused-not-done, refused-one}
+use Rattle.leaves.specs.RefusalLaws.{refused-not-done, refused-one}
 use Rattle.records.specs.declared.merge.Turn.{Turn}
 use Rattle.records.specs.declared.merge.Turn.the-variants as turn
 use Rattle.records.specs.declared.merge.Opening.{Opening}

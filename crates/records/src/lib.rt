@@ -1,8 +1,6 @@
-// The record merge: what is lent to it, a heap of the streams, the calls `open` and `next`, the reader of one stream, and the hint
-// that a stream's metadata gives it.
+// The record merge: what is lent to it, a heap of the streams, the calls `open` and `next`, and the hint that a stream's metadata gives it.
 pub mod heap;
 pub mod hints;
 pub mod merge;
 pub mod opening;
-pub mod reader;
 pub mod state;

@@ -19,7 +19,7 @@ use Rattle.lines.specs.LinesLaws.{lays-same}
 use Rattle.replay_text.specs.Replay.{textOf, replayText, replayAnswer, replayLaid}
 use Rattle.replay_text.specs.ReplayLaws.{linesLeft, cs-cuts, apart-text, apart-room}
 use Rattle.leaves.specs.Refusal.{numberOf}
-use Rattle.leaves.specs.FrameLaws.{refused-not-done, refused-one}
+use Rattle.leaves.specs.RefusalLaws.{refused-not-done, refused-one}
 use Rattle.replay_text.specs.declared.replay.Replayed.{Replayed}
 use Rattle.replay_text.specs.declared.replay.Replayed.the-variants.{Text, Refused}
 use Rattle.replay_text.specs.Replay.{replayedOf}

@@ -7,7 +7,7 @@ use borrow.Author.Needs.{needs}
 use types.Run.{OneOf, miss}
 use denote.Enum.Declared.{tagOf}
 use Rattle.leaves.specs.Refusal.{refused}
-use Rattle.leaves.specs.FrameLaws.{refused-not-done, refused-one}
+use Rattle.leaves.specs.RefusalLaws.{refused-not-done, refused-one}
 use Rattle.leaves.specs.declared.refusal.Refusal.{Refusal}
 use Rattle.leaves.specs.declared.refusal.Refusal.the-variants.{Damaged}
 use Rattle.leaves.proofs.refusal.Refusal.{the-type}

@@ -1,6 +1,6 @@
 -- The cuts are right, so the opening is done, and the loop starts from the machine's start. Assumes nothing.
 use mathlib.Core.Path.{sym, ap, _∙_}
-use Rattle.leaves.specs.FrameLaws.{refused-not-done}
+use Rattle.leaves.specs.RefusalLaws.{refused-not-done}
 use Rattle.records.specs.Merge.{openingOf}
 use Rattle.replay_text.specs.Telling.{opening-right, opening-held, opening-done, opened-starts, opened-ready}
 use borrow.Author.Needs.{needs}

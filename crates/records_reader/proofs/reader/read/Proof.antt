@@ -44,21 +44,21 @@ use denote.Triple.Walked.{says, Stays, stay-none, walkOf, goes-none, Walks, ends
 use denote.Exit.{yes}
 use denote.Triple.Clauses.{ensured, lasts}
 use Rattle.leaves.specs.Frame.{frameAt, frameOf, readOf}
-use Rattle.records.specs.declared.reader.Reader.{Reader}
+use Rattle.records_reader.specs.declared.reader.Reader.{Reader}
 use Rattle.theory.specs.Answer.{Answer}
 use Rattle.leaves.specs.declared.frame.Frame.{Frame}
-use Rattle.records.proofs.reader.Reader as T
-use Rattle.records.proofs.reader.Reader.Laws as T′
+use Rattle.records_reader.proofs.reader.Reader as T
+use Rattle.records_reader.proofs.reader.Reader.Laws as T′
 use Rattle.leaves.proofs.frame.Frame as S
 use Rattle.leaves.proofs.frame.Frame.Laws as S′
-use Rattle.records.proofs.reader.read_at as step
-use Rattle.records.proofs.reader.read_at.Symbol as step-def
-use Rattle.records.proofs.reader.read_at.Symbol.{name as #read-at}
-use Rattle.records.proofs.reader.read_at.Met as step-thm
-use Rattle.records.proofs.reader.read.Key.{name as #read}
-use Rattle.records.proofs.reader.read as reading
-use Rattle.records.proofs.reader.read.Statement as stated
-use Rattle.records.proofs.reader.read.Code as code
+use Rattle.records_reader.proofs.reader.read_at as step
+use Rattle.records_reader.proofs.reader.read_at.Symbol as step-def
+use Rattle.records_reader.proofs.reader.read_at.Symbol.{name as #read-at}
+use Rattle.records_reader.proofs.reader.read_at.Met as step-thm
+use Rattle.records_reader.proofs.reader.read.Key.{name as #read}
+use Rattle.records_reader.proofs.reader.read as reading
+use Rattle.records_reader.proofs.reader.read.Statement as stated
+use Rattle.records_reader.proofs.reader.read.Code as code
 
 -- the struct's type, over the signature's lifetimes
 abbrev B : Lfts 1 → RattleType
@@ -164,4 +164,4 @@ read-spec 𝓤 H 𝓜 𝓖 𝓡 =
     entered 𝓤 H (tripleOf 𝓤 H (𝓖 .A) reading.signature (reading.spec 𝓤 H (𝓖 .A) (𝓜 .mem) (𝓡 .run)))
     (tables 𝓤 H 𝓜 𝓡 code.env .C) (tables 𝓤 H 𝓜 𝓡 code.env .Λ) #read code.function (code.unfolded 𝓤 H 𝓜 𝓡)
     (read-meets 𝓤 H (𝓖 .A) (givenOf 𝓤 H 𝓜 𝓖) (𝓜 .mem) (𝓡 .run) (tablesOf 𝓤 H 𝓜 (tables 𝓤 H 𝓜 𝓡 code.env))
-    (cited 𝓤 H (ReadAt 𝓤 H (𝓖 .A) (𝓜 .mem) (𝓡 .run)) 𝓜 𝓡 code.env #read-at step-def.routine code.calls-records·reader·read-at (step-thm.met 𝓤 H 𝓜 𝓖 𝓡)))
+    (cited 𝓤 H (ReadAt 𝓤 H (𝓖 .A) (𝓜 .mem) (𝓡 .run)) 𝓜 𝓡 code.env #read-at step-def.routine code.calls-records-reader·reader·read-at (step-thm.met 𝓤 H 𝓜 𝓖 𝓡)))

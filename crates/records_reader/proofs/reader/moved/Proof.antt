@@ -34,13 +34,13 @@ use denote.Triple.Spec.{Meets, tripleOf}
 use denote.Triple.Table.{entered}
 use denote.Triple.Walked.{says, Stays, stay-none, walkOf, goes-none, Walks, ends-at, walked, walk-meets}
 use denote.Exit.{yes}
-use Rattle.records.specs.declared.reader.Reader.{Reader}
-use Rattle.records.proofs.reader.Reader as T
-use Rattle.records.proofs.reader.Reader.Laws as T′
-use Rattle.records.proofs.reader.moved.Key.{name as #moved}
-use Rattle.records.proofs.reader.moved as moved
-use Rattle.records.proofs.reader.moved.Statement as stated
-use Rattle.records.proofs.reader.moved.Code as code
+use Rattle.records_reader.specs.declared.reader.Reader.{Reader}
+use Rattle.records_reader.proofs.reader.Reader as T
+use Rattle.records_reader.proofs.reader.Reader.Laws as T′
+use Rattle.records_reader.proofs.reader.moved.Key.{name as #moved}
+use Rattle.records_reader.proofs.reader.moved as moved
+use Rattle.records_reader.proofs.reader.moved.Statement as stated
+use Rattle.records_reader.proofs.reader.moved.Code as code
 
 -- the struct's type, over the signature's lifetimes
 abbrev B : Lfts 1 → RattleType

@@ -38,29 +38,29 @@ use denote.Triple.Walked.{says, Stays, stay-none, stay-none-slice, walkOf, goes-
 use denote.Exit.{yes}
 use denote.Triple.Clauses.{ensured, lasts}
 use Rattle.leaves.specs.Frame.{frameAt, frameOf, readOf}
-use Rattle.records.specs.declared.reader.Reader.{Reader}
+use Rattle.records_reader.specs.declared.reader.Reader.{Reader}
 use Rattle.theory.specs.Answer.{Answer}
 use Rattle.leaves.specs.declared.frame.Frame.{Frame}
-use Rattle.records.proofs.reader.Reader as T
-use Rattle.records.proofs.reader.Reader.Laws as T′
+use Rattle.records_reader.proofs.reader.Reader as T
+use Rattle.records_reader.proofs.reader.Reader.Laws as T′
 use Rattle.leaves.proofs.frame.Frame as S
 use Rattle.leaves.proofs.frame.Frame.Laws as S′
-use Rattle.records.proofs.reader.new as new
-use Rattle.records.proofs.reader.new.Symbol as new-def
-use Rattle.records.proofs.reader.new.Symbol.{name as #new}
-use Rattle.records.proofs.reader.new.Met as new-thm
-use Rattle.records.proofs.reader.moved as moved
-use Rattle.records.proofs.reader.moved.Symbol as moved-def
-use Rattle.records.proofs.reader.moved.Symbol.{name as #moved}
-use Rattle.records.proofs.reader.moved.Met as moved-thm
-use Rattle.records.proofs.reader.read as reading
-use Rattle.records.proofs.reader.read.Symbol as reading-def
-use Rattle.records.proofs.reader.read.Symbol.{name as #read}
-use Rattle.records.proofs.reader.read.Met as reading-thm
-use Rattle.records.proofs.reader.read_from.Key.{name as #read-from}
-use Rattle.records.proofs.reader.read_from as read-from
-use Rattle.records.proofs.reader.read_from.Statement as stated
-use Rattle.records.proofs.reader.read_from.Code as code
+use Rattle.records_reader.proofs.reader.new as new
+use Rattle.records_reader.proofs.reader.new.Symbol as new-def
+use Rattle.records_reader.proofs.reader.new.Symbol.{name as #new}
+use Rattle.records_reader.proofs.reader.new.Met as new-thm
+use Rattle.records_reader.proofs.reader.moved as moved
+use Rattle.records_reader.proofs.reader.moved.Symbol as moved-def
+use Rattle.records_reader.proofs.reader.moved.Symbol.{name as #moved}
+use Rattle.records_reader.proofs.reader.moved.Met as moved-thm
+use Rattle.records_reader.proofs.reader.read as reading
+use Rattle.records_reader.proofs.reader.read.Symbol as reading-def
+use Rattle.records_reader.proofs.reader.read.Symbol.{name as #read}
+use Rattle.records_reader.proofs.reader.read.Met as reading-thm
+use Rattle.records_reader.proofs.reader.read_from.Key.{name as #read-from}
+use Rattle.records_reader.proofs.reader.read_from as read-from
+use Rattle.records_reader.proofs.reader.read_from.Statement as stated
+use Rattle.records_reader.proofs.reader.read_from.Code as code
 
 -- the struct's type, over the signature's lifetimes
 abbrev B : Lfts 1 → RattleType
@@ -189,6 +189,6 @@ read-from-spec 𝓤 H 𝓜 𝓖 𝓡 =
     entered 𝓤 H (tripleOf 𝓤 H (𝓖 .A) read-from.signature (read-from.spec 𝓤 H (𝓖 .A) (𝓜 .mem) (𝓡 .run)))
     (tables 𝓤 H 𝓜 𝓡 code.env .C) (tables 𝓤 H 𝓜 𝓡 code.env .Λ) #read-from code.function (code.unfolded 𝓤 H 𝓜 𝓡)
     (read-from-meets 𝓤 H (𝓖 .A) (givenOf 𝓤 H 𝓜 𝓖) (𝓜 .mem) (𝓡 .run) (tablesOf 𝓤 H 𝓜 (tables 𝓤 H 𝓜 𝓡 code.env))
-    (cited 𝓤 H (New 𝓤 H (𝓖 .A) (𝓜 .mem) (𝓡 .run)) 𝓜 𝓡 code.env #new new-def.routine code.calls-records·reader·new (new-thm.met 𝓤 H 𝓜 𝓖 𝓡))
-    (cited 𝓤 H (Moved 𝓤 H (𝓖 .A) (𝓜 .mem) (𝓡 .run)) 𝓜 𝓡 code.env #moved moved-def.routine code.calls-records·reader·moved (moved-thm.met 𝓤 H 𝓜 𝓖 𝓡))
-    (cited 𝓤 H (Reading 𝓤 H (𝓖 .A) (𝓜 .mem) (𝓡 .run)) 𝓜 𝓡 code.env #read reading-def.routine code.calls-records·reader·read (reading-thm.met 𝓤 H 𝓜 𝓖 𝓡)))
+    (cited 𝓤 H (New 𝓤 H (𝓖 .A) (𝓜 .mem) (𝓡 .run)) 𝓜 𝓡 code.env #new new-def.routine code.calls-records-reader·reader·new (new-thm.met 𝓤 H 𝓜 𝓖 𝓡))
+    (cited 𝓤 H (Moved 𝓤 H (𝓖 .A) (𝓜 .mem) (𝓡 .run)) 𝓜 𝓡 code.env #moved moved-def.routine code.calls-records-reader·reader·moved (moved-thm.met 𝓤 H 𝓜 𝓖 𝓡))
+    (cited 𝓤 H (Reading 𝓤 H (𝓖 .A) (𝓜 .mem) (𝓡 .run)) 𝓜 𝓡 code.env #read reading-def.routine code.calls-records-reader·reader·read (reading-thm.met 𝓤 H 𝓜 𝓖 𝓡)))

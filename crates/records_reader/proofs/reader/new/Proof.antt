@@ -35,13 +35,13 @@ use denote.Triple.Spec.{Meets, tripleOf}
 use denote.Triple.Table.{entered}
 use denote.Triple.Walked.{says, Stays, stay-none-slice, walkOf, goes-none-slice, Walks, ends-at, walked, walk-meets}
 use denote.Exit.{yes}
-use Rattle.records.specs.declared.reader.Reader.{Reader}
-use Rattle.records.proofs.reader.Reader as T
-use Rattle.records.proofs.reader.Reader.Laws as T′
-use Rattle.records.proofs.reader.new.Key.{name as #new}
-use Rattle.records.proofs.reader.new as new
-use Rattle.records.proofs.reader.new.Statement as stated
-use Rattle.records.proofs.reader.new.Code as code
+use Rattle.records_reader.specs.declared.reader.Reader.{Reader}
+use Rattle.records_reader.proofs.reader.Reader as T
+use Rattle.records_reader.proofs.reader.Reader.Laws as T′
+use Rattle.records_reader.proofs.reader.new.Key.{name as #new}
+use Rattle.records_reader.proofs.reader.new as new
+use Rattle.records_reader.proofs.reader.new.Statement as stated
+use Rattle.records_reader.proofs.reader.new.Code as code
 
 abbrev stayed : Stays (new.ended .signature .params) (new.ended .kept)
 stayed = (stay-none-slice (0 ∷ []) tt (plain (λ _. u8)) yes, tt)
