@@ -1,6 +1,6 @@
 // The replay program: reads a bundle from standard input and writes the records of its streams in the merge's order (RULES, Merging
 // records), by the engine that the program is built with.
-use replay_text::engine::HEAP;
+use replay_text::replay::HEAP;
 use replay_text::replay::Replayed;
 use standard::Input;
 ghost use mathlib.Core.Path.{_≡_};

@@ -11,11 +11,6 @@ ghost use Rattle.records_rules.specs.State.{rightStreams, opening};
 ghost use Rattle.records.specs.Merge.{turnOf, openingOf};
 ghost use Rattle.replay_text.specs.Engine.{Places, EngineOk, EngineSays, EngineOpened};
 
-// Whether an engine is the plain one.
-pub const HEAP: bool = false;
-
-pub const PLAIN: bool = true;
-
 // Opens the streams by an engine.
 pub fn open_by(
     plain: bool,

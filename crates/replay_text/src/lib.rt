@@ -1,4 +1,4 @@
 // A bundle (RULES, Merging records) taken apart, and the whole text of its replay, by either engine of the merge.
-pub mod engine;
+mod engine;
 pub mod replay;
 mod telling;

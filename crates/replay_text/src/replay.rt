@@ -1,5 +1,4 @@
 // The whole text of a bundle's replay (RULES, Merging records), laid in lent bytes.
-use crate::engine::HEAP;
 use crate::telling::tell_streams;
 use leaves::refusal::Refusal;
 use lines::lines::word;
@@ -20,6 +19,11 @@ const LINE: usize = 63;
 
 // The bytes that every replay's text fits.
 pub const TEXT_ROOM: usize = LINES * LINE;
+
+// Whether the engine is the plain one (RULES, Requests, No. 12).
+pub const HEAP: bool = false;
+
+pub const PLAIN: bool = true;
 
 // What a replay answers: how many bytes its text has.
 pub enum Replayed {
