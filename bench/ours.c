@@ -1,6 +1,6 @@
 /* The desk's side of the benchmark: `ours ROW STEPS` lays the row's inputs out, takes so many steps over them through the C door,
  * and prints a digest of the answers, which theirs.rs prints too. With 0 steps only the inputs are laid out. theirs.rs has the same
- * rows, save the comparison's, and makes the same inputs with the same generator: a change here is a change there. */
+ * rows, save the comparison's and the plain engine's, and makes the same inputs with the same generator: a change here is a change there. */
 #include <stdint.h>
 #include <stdio.h>
 #include <stdlib.h>
@@ -225,12 +225,16 @@ static void comparisons(uint64_t steps, size_t (*way)(void)) {
 
 /* ---- The record merge. */
 
+static uint8_t *buffer, marks[DESK_STREAMS], heap[DESK_STREAMS];
+static uint64_t *cuts, times[DESK_STREAMS], places[DESK_STREAMS], heads[DESK_STREAMS];
+
 /* So many records in all, each of a stream drawn, with times that never fall within a stream. */
-static void records(uint64_t steps, uint64_t most, size_t streams) {
+static void lay_streams(uint64_t most, size_t streams) {
     struct record {
         uint64_t stream, time, length;
     } *drawn = room(most * sizeof *drawn);
-    uint64_t *cuts = room((streams + 1) * sizeof *cuts), *ends = room(streams * sizeof *ends), time = 0;
+    uint64_t *ends = room(streams * sizeof *ends), time = 0;
+    cuts = room((streams + 1) * sizeof *cuts);
     for (uint64_t i = 0; i < most; i++) {
         drawn[i].stream = draw(streams);
         drawn[i].time = time += draw(3);
@@ -238,7 +242,7 @@ static void records(uint64_t steps, uint64_t most, size_t streams) {
         cuts[drawn[i].stream + 1] += drawn[i].length;
     }
     for (size_t s = 0; s < streams; s++) ends[s] = cuts[s + 1] += cuts[s];
-    uint8_t *buffer = room(cuts[streams]);
+    buffer = room(cuts[streams]);
     for (uint64_t i = most; i-- > 0;) {
         uint8_t *at = buffer + (ends[drawn[i].stream] -= drawn[i].length);
         put(at, drawn[i].length, 2);
@@ -246,8 +250,11 @@ static void records(uint64_t steps, uint64_t most, size_t streams) {
         put(at + 4, i, 4);
         put(at + 8, drawn[i].time, 8);
     }
-    static uint8_t marks[DESK_STREAMS], heap[DESK_STREAMS];
-    static uint64_t times[DESK_STREAMS], places[DESK_STREAMS], heads[DESK_STREAMS];
+}
+
+/* Their records, by the heap. */
+static void records(uint64_t steps, uint64_t most, size_t streams) {
+    lay_streams(most, streams);
     size_t opened, held;
     if (desk_open(buffer, cuts[streams], cuts, streams + 1, cuts, 0, marks, DESK_STREAMS, times, DESK_STREAMS, places, DESK_STREAMS,
                   heads, DESK_STREAMS, heap, DESK_STREAMS, &opened, &held) != DESK_DONE)
@@ -258,6 +265,35 @@ static void records(uint64_t steps, uint64_t most, size_t streams) {
         uint16_t length, kind;
         if (desk_next(buffer, cuts[streams], cuts, streams + 1, marks, DESK_STREAMS, times, DESK_STREAMS, places, DESK_STREAMS, heads,
                       DESK_STREAMS, heap, DESK_STREAMS, &held, &found, &stream, &place, &length, &kind, &number, &at, &reason)
+                != DESK_DONE || !found)
+            stop("a record was not handed out");
+        digest = digest * 31 + (at ^ number);
+    }
+}
+
+/* The plain engine's exports (crates/bench_plain), which are in no library and no header. */
+uint32_t plain_open(const uint8_t *buffer, size_t buffer_len, const uint64_t *cuts, size_t cuts_len, const uint64_t *hints,
+                    size_t hints_len, uint8_t *marks, size_t marks_len, uint64_t *times, size_t times_len, uint64_t *places,
+                    size_t places_len, uint64_t *heads, size_t heads_len, size_t *streams);
+
+uint32_t plain_next(const uint8_t *buffer, size_t buffer_len, const uint64_t *cuts, size_t cuts_len, size_t streams, uint8_t *marks,
+                    size_t marks_len, uint64_t *times, size_t times_len, uint64_t *places, size_t places_len, uint64_t *heads,
+                    size_t heads_len, uint32_t *found, uint64_t *stream, uint64_t *place, uint16_t *length, uint16_t *kind,
+                    uint32_t *instrument, uint64_t *time, uint64_t *reason);
+
+/* The same records by the plain engine. */
+static void plain_records(uint64_t steps, uint64_t most, size_t streams) {
+    lay_streams(most, streams);
+    size_t opened;
+    if (plain_open(buffer, cuts[streams], cuts, streams + 1, cuts, 0, marks, DESK_STREAMS, times, DESK_STREAMS, places, DESK_STREAMS,
+                   heads, DESK_STREAMS, &opened) != DESK_DONE)
+        stop("the streams were refused");
+    for (uint64_t i = 0; i < steps; i++) {
+        uint32_t found, number;
+        uint64_t stream, place, at, reason;
+        uint16_t length, kind;
+        if (plain_next(buffer, cuts[streams], cuts, streams + 1, opened, marks, DESK_STREAMS, times, DESK_STREAMS, places, DESK_STREAMS,
+                       heads, DESK_STREAMS, &found, &stream, &place, &length, &kind, &number, &at, &reason)
                 != DESK_DONE || !found)
             stop("a record was not handed out");
         digest = digest * 31 + (at ^ number);
@@ -374,6 +410,9 @@ int main(int words, char **word) {
     else if (!strcmp(row, "merge-4") || !strcmp(row, "ready-4")) records(steps, 200000, 4);
     else if (!strcmp(row, "merge-16") || !strcmp(row, "ready-16")) records(steps, 200000, 16);
     else if (!strcmp(row, "merge-256") || !strcmp(row, "ready-256")) records(steps, 200000, 256);
+    else if (!strcmp(row, "plain-4")) plain_records(steps, 200000, 4);
+    else if (!strcmp(row, "plain-16")) plain_records(steps, 200000, 16);
+    else if (!strcmp(row, "plain-256")) plain_records(steps, 200000, 256);
     else if (!strcmp(row, "metadata-copy")) merges(steps, 4096, 0, 4096);
     else if (!strcmp(row, "metadata-apart")) merges(steps, 2048, 2048, 4096);
     else if (!strcmp(row, "build")) builds(steps, 4096, 0, 0);

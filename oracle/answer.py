@@ -8,7 +8,7 @@ memory, which the Rust has not.
 import sys
 
 import model
-from model import Lent, Metadata, NameList, RecordMerge, Refused
+from model import Lent, Metadata, NameList, PlainMerge, RecordMerge, Refused
 
 
 class Case:
@@ -306,6 +306,10 @@ def streams(case):
     return " ; ".join(run(RecordMerge, case.bytes(), case.numbers(), case.numbers()))
 
 
+def plain(case):
+    return " ; ".join(run(PlainMerge, case.bytes(), case.numbers(), case.numbers()))
+
+
 def replay(case):
     return words(model.replay(case.bytes()).encode())
 
@@ -342,6 +346,7 @@ KINDS = {
     "open_metadata": open_metadata,
     "merge_metadata": merge_metadata,
     "streams": streams,
+    "plain": plain,
     "replay": replay,
     "compare_program": compare_program,
 }

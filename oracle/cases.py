@@ -1,8 +1,8 @@
 #!/usr/bin/env python3
 """Prints cases, one a line: cases.py PART SIZE [SEED].
 
-PART is `domain` (the rules' equality domain: the Rust and the model agree), `beyond` (outside it: they may not) or
-`lent` (lent memory: the model and the port alone). SIZE is `quick` or `long`. A seed that was not given is drawn, and
+PART is `domain` (the rules' equality domain: the Rust and the model agree), `beyond` (outside it: they may not),
+`lent` (lent memory: the model and the port alone) or `plain` (the plain engine: the same two). SIZE is `quick` or `long`. A seed that was not given is drawn, and
 printed on standard error. Exits with 2 for another PART, SIZE or SEED.
 """
 
@@ -258,9 +258,20 @@ def beyond(rng, long):
     yield from (build_day(rng, dates=outside) for _ in range(3_000 * times))
 
 
+def plain(rng, long):
+    """Streams for the plain engine (RULES, Requests, No. 12): any, damaged ones and wrong openings among them, and 256 of them."""
+    times = 10 if long else 1
+    for faults in (0, 0.3):
+        yield from (lent.merge_case("plain", rng, faults) for _ in range(2_000 * times))
+    for _ in range(8 * times):
+        streams = [lent.any_stream(rng, 0.2) for _ in range(rng.choice([16, 255, 256, 257]))]
+        cuts = [sum(map(len, streams[:n])) for n in range(len(streams) + 1)]
+        yield words("plain", b"".join(streams), cuts, [rng.randrange(9) for _ in streams])
+
+
 def asked(part, size, seed=None):
     """The cases that the arguments ask for."""
-    maker = {"domain": domain, "beyond": beyond, "lent": lent.cases}[part]
+    maker = {"domain": domain, "beyond": beyond, "lent": lent.cases, "plain": plain}[part]
     long = {"quick": False, "long": True}[size]
     if seed is None:
         seed = random.randrange(2**32)
@@ -272,7 +283,7 @@ if __name__ == "__main__":
     try:
         made = asked(*sys.argv[1:])
     except (KeyError, TypeError, ValueError):
-        print("cases.py domain|beyond|lent quick|long [SEED]", file=sys.stderr)
+        print("cases.py domain|beyond|lent|plain quick|long [SEED]", file=sys.stderr)
         sys.exit(2)
     for line in made:
         print(line)

@@ -202,18 +202,24 @@ def any_stream(rng, faults):
 
 
 def stream_case(rng, faults):
-    streams = [any_stream(rng, faults) for _ in range(rng.randrange(5))]
     if rng.random() < 0.3:
+        streams = [any_stream(rng, faults) for _ in range(rng.randrange(5))]
         sections = [pack("<IH", 6 + len(stream), 1) + stream for stream in streams]
         bundle = b"".join(sections)
         return words("replay", damaged(rng, bundle) if rng.random() < faults else bundle)
+    return merge_case("streams", rng, faults)
+
+
+def merge_case(kind, rng, faults):
+    """Streams for the merge by the heap (`streams`) or by the plain engine (`plain`)."""
+    streams = [any_stream(rng, faults) for _ in range(rng.randrange(5))]
     cuts = [sum(map(len, streams[:n])) for n in range(len(streams) + 1)]
     hints = [rng.randrange(9) for _ in streams] if rng.random() < 0.6 else []
     if rng.random() < faults / 4:
         cuts[rng.randrange(len(cuts))] += 1
     if rng.random() < faults / 4:
         hints.append(0)
-    return words("streams", b"".join(streams), cuts, hints)
+    return words(kind, b"".join(streams), cuts, hints)
 
 
 def short_comparisons(moments):

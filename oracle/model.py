@@ -668,6 +668,44 @@ class RecordMerge:
         return None
 
 
+class PlainMerge(RecordMerge):
+    """The same answers without a heap (No. 12): before every read and every hand-out a scan of all streams, from 0 on, for the least.
+
+    A stream is gone, waits at a time for its next read, or stands at a record; a hand-out leaves it waiting at its record's time.
+    """
+
+    def __init__(self, buffer, cuts, hints):
+        super().__init__(buffer, cuts, hints)
+        self.marks = ["waiting"] * len(self.streams)
+        self.times = [self.heads[stream] for stream in range(len(self.streams))]
+
+    def least(self):
+        """The first stream of the least time of those that are not gone; as many as there are where all are gone."""
+        best = len(self.streams)
+        for stream in range(len(self.streams)):
+            if self.marks[stream] != "gone" and (best == len(self.streams) or self.times[stream] < self.times[best]):
+                best = stream
+        return best
+
+    def next(self):
+        while True:
+            stream = self.least()
+            if stream == len(self.streams):
+                return None
+            place = self.places[stream]
+            if self.marks[stream] == "standing":
+                self.marks[stream] = "waiting"
+                self.places[stream] += self.records[stream][0]
+                return (stream, place, *self.records[stream])
+            self.marks[stream] = "gone"
+            try:
+                record = frame_at(self.streams[stream], place)
+            except Refused as refused:
+                raise Refused(13, stream, place, refused.answer[1]) from None
+            if record is not None:
+                self.marks[stream], self.records[stream], self.times[stream] = "standing", record, record[3]
+
+
 # Programs. A section is (kind, content).
 
 

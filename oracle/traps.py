@@ -387,6 +387,42 @@ def complaint_traps():
         yield name, streaming(streams, hints, *answers)
 
 
+def plain_runs():
+    """Runs of request No. 12's traps 1 to 8 and 10 to 13: streams, hints and answers to the second end."""
+    def run(trap, streams, *answers, hints=()):
+        return f"No. 12, {trap}", streams, hints, (*answers, "e", "e")
+
+    x, five = b"\0", record(5)
+    yield run(1, [five] * 2, handed(0, 0, 5), handed(1, 0, 5))
+    yield run(2, [five, record(1)], handed(0, 0, 5), handed(1, 0, 1), hints=(0, 5))
+    yield run(2, [record(1), five], handed(0, 0, 1), handed(1, 0, 5), hints=(5, 0))
+    yield run(3, [record(TOP)], handed(0, 0, TOP))
+    yield run(3, [record(TOP)] * 2, handed(0, 0, TOP), handed(1, 0, TOP))
+    yield run(3, [record(3), b""], handed(0, 0, 3), hints=(TOP, TOP))
+    yield run(4, [*[b""] * 255, record(9)], handed(255, 0, 9))
+    yield run(5, [five + x * 3, record(6)], handed(0, 0, 5), "d 0 16 1", handed(1, 0, 6))
+    yield run(6, [five + record(4), five], handed(0, 0, 5), handed(0, 16, 4), handed(1, 0, 5))
+    falling = handed(0, 0, 5), handed(0, 16, 5), handed(1, 0, 5), handed(1, 16, 4)
+    yield run(6, [five * 2, five + record(4)], *falling)
+    yield run(8, [b""])
+    yield run(10, [five, record(1)], handed(0, 0, 5), handed(1, 0, 1), hints=(0, 10))
+    yield run(10, [record(7), record(1)], handed(1, 0, 1), handed(0, 0, 7), hints=(0, 6))
+    yield run(11, [record(0)] * 3, handed(2, 0, 0), handed(1, 0, 0), handed(0, 0, 0), hints=(3, 2, 1))
+    yield run(12, [b"", five, b"", record(4)], handed(3, 0, 4), handed(1, 0, 5))
+    again = handed(0, 0, 1), "d 1 0 1", handed(2, 0, 4), handed(0, 16, 9)
+    yield run(13, [record(1) + record(9), x, record(4)], *again, hints=(0, 3, 4))
+
+
+def plain_traps():
+    """By the plain engine and by the heap's; and what both refuse to open."""
+    for name, streams, hints, answers in plain_runs():
+        case, said = streaming(streams, hints, *answers)
+        yield name, (case, said)
+        yield name, ("plain" + case.removeprefix("streams"), said)
+    for cuts, hints in [([], []), ([0], []), ([1, 16], []), ([0, 15], []), ([0, 16, 8, 16], []), ([0, 16], [1, 2]), ([0] * 257 + [16], [])]:
+        yield "No. 12, 12", (words("plain", record(5), cuts, hints), "12")
+
+
 def compare_traps():
     """Two tables side by side (RULES, Requests, No. 1)."""
 
@@ -452,7 +488,7 @@ def compare_program_traps():
 
 def traps():
     base = [examples, map_traps, name_traps, record_traps, build_traps, metadata_traps, merge_traps]
-    for part in (*base, complaint_traps, compare_traps, compare_program_traps):
+    for part in (*base, complaint_traps, plain_traps, compare_traps, compare_program_traps):
         yield from part()
 
 

@@ -1,7 +1,7 @@
 #!/usr/bin/env python3
-"""Writes the data of vectors_records: oracle/build && python3 tools/make_vectors_records.py
+"""Writes the data of vectors_records and vectors_plain: oracle/build && python3 tools/make_vectors_records.py
 
-crates/vectors_records/stdin has the cases, crates/vectors_records/stdout what the program must write. The answers come from the
+In crates/NAME/stdin stand the cases, in crates/NAME/stdout what the program must write. The answers come from the
 plain model of the rules (oracle/model.py); those of the traps and borders also stand below, by hand, and those that are headed
 `dbn` were given by dbn's own code (oracle/driver.rs).
 """
@@ -14,10 +14,9 @@ ROOT = os.path.join(os.path.dirname(os.path.abspath(__file__)), "..")
 sys.dont_write_bytecode = True
 sys.path.insert(0, os.path.join(ROOT, "oracle"))
 from make_bundle import bundle, record, section
-from model import RecordMerge, Refused, replay
-from traps import complaint_pairs
+from model import PlainMerge, RecordMerge, Refused, replay
+from traps import complaint_pairs, plain_runs
 
-HERE = os.path.join(ROOT, "crates", "vectors_records")
 LATEST = 2**64 - 1
 
 cases, written = [], []
@@ -37,10 +36,10 @@ def replayed(name, made, by_hand=None):
     written.append(text)
 
 
-def told(buffer, cuts, hints):
+def told(buffer, cuts, hints, engine=RecordMerge):
     """The answers of a merge to its first end and of one call more, a line each; or a refused opening."""
     try:
-        merge = RecordMerge(buffer, cuts, hints)
+        merge = engine(buffer, cuts, hints)
     except Refused as refused:
         return f"{refused.answer[0]}\n"
     text = ""
@@ -55,12 +54,12 @@ def told(buffer, cuts, hints):
         text += "record " + " ".join(str(number) for number in handed) + "\n"
 
 
-def merged(name, streams, hints, by_hand, cuts=None):
-    """Streams and hints, merged to the first end and asked once more; or a refused opening."""
+def merged(name, streams, hints, by_hand, cuts=None, plain=False):
+    """Streams and hints, merged to the first end and asked once more, by either engine; or a refused opening."""
     buffer = b"".join(streams)
     if cuts is None:
         cuts = [sum(len(stream) for stream in streams[:i]) for i in range(len(streams) + 1)]
-    text = told(buffer, cuts, hints)
+    text = told(buffer, cuts, hints, PlainMerge if plain else RecordMerge)
     assert by_hand == text, (name, text)
     title(name)
     numbers = [len(hints), *hints, len(cuts), *cuts]
@@ -102,12 +101,40 @@ def traps():
     replayed("and a byte more", bytes([6, 0, 0, 0, 1, 0, 9]), "bad bundle\n")
 
 
+def printed(answers):
+    """Answers of oracle/traps.py as the program prints them."""
+    said = {"r": "record", "d": "13", "e": "end"}
+    return "".join(" ".join([said[word], *rest]) + "\n" for word, *rest in map(str.split, answers))
+
+
 def pairs():
     """The runs of request No. 11's traps, as oracle/traps.py writes them."""
-    said = {"r": "record", "d": "13", "e": "end"}
     for number, (name, streams, hints, answers) in enumerate(complaint_pairs()):
-        lines = (" ".join([said[word], *rest]) for word, *rest in map(str.split, answers))
-        merged(f"{name}, run {number}", streams, list(hints), "".join(line + "\n" for line in lines))
+        merged(f"{name}, run {number}", streams, list(hints), printed(answers))
+
+
+def runs_of_plain(plain):
+    """The runs of request No. 12's traps."""
+    for number, (name, streams, hints, answers) in enumerate(plain_runs()):
+        merged(f"{name}, run {number}", streams, list(hints), printed(answers), plain=plain)
+
+
+def plains():
+    """The runs of No. 12's traps and of No. 11's, wrong openings, drawn streams and wrong memory, by the plain engine."""
+    runs_of_plain(True)
+    for number, (name, streams, hints, answers) in enumerate(complaint_pairs()):
+        merged(f"{name}, run {number}", streams, list(hints), printed(answers), plain=True)
+    for cuts, hints in [([], []), ([0], []), ([0, 15], []), ([0, 16, 8, 16], []), ([0, 16], [1, 2]), ([0] * 257 + [16], [])]:
+        merged(f"No. 12, {len(cuts)} cuts and {len(hints)} hints", [record(5, 7)], hints, "12\n", cuts, plain=True)
+    title("No. 12, 9: 255 marks, 257 streams")
+    cases.append("w")
+    written.append("15\nopened 1 1\n15\n15\nrecord 0 0 16 1 7 5\n")
+    rng = random.Random(12)
+    for i in range(40):
+        streams = [stream(rng, 5) for _ in range(rng.randrange(1, 9))]
+        cuts = [sum(len(stream) for stream in streams[:n]) for n in range(len(streams) + 1)]
+        hints = [] if i % 2 else [rng.randrange(9) for _ in streams]
+        merged(f"drawn {i}", streams, hints, told(b"".join(streams), cuts, hints), plain=True)
 
 
 def borders():
@@ -177,15 +204,25 @@ def recorded():
         merged(f"dbn {i}", [b"".join(record(time, p) for time in stream) for p, stream in enumerate(times)], hints, answered_by_dbn(times, hints))
 
 
+def write(crate):
+    """Writes what was gathered to a crate's files, and begins anew."""
+    for name, parts in [("stdin", [line + "\n" for line in cases]), ("stdout", written)]:
+        with open(os.path.join(ROOT, "crates", crate, name), "w") as file:
+            file.write("".join(parts))
+    cases.clear()
+    written.clear()
+
+
 def main():
     traps()
     pairs()
+    runs_of_plain(False)
     borders()
     drawn()
     recorded()
-    for name, parts in [("stdin", [line + "\n" for line in cases]), ("stdout", written)]:
-        with open(os.path.join(HERE, name), "w") as file:
-            file.write("".join(parts))
+    write("vectors_records")
+    plains()
+    write("vectors_plain")
 
 
 if __name__ == "__main__":

@@ -28,10 +28,10 @@ ghost use Rattle.records_rules.specs.State.{answerOf, arraysFit, Room, Untouche
 ghost use Rattle.records.specs.Merge.{turnOf, openingOf};
 
 // What a read found: the end is 0, damage its reason, a record 4.
-const RECORD: u64 = 4;
+pub const RECORD: u64 = 4;
 
 // A record's head in one number: its length in the two lowest bytes, its kind in the next two, its instrument above.
-const TWO_BYTES: u64 = 65536;
+pub const TWO_BYTES: u64 = 65536;
 
 const FOUR_BYTES: u64 = 4294967296;
 
@@ -64,10 +64,10 @@ pub enum Opening {
 }
 
 // What a read found, in numbers: the head has the record's length, kind and instrument.
-struct Got {
-    found: u64,
-    time: u64,
-    head: u64,
+pub struct Got {
+    pub found: u64,
+    pub time: u64,
+    pub head: u64,
 }
 
 // Room for marks, and for the heap: empty places.
@@ -85,7 +85,7 @@ pub fn empty_numbers() -> [u64; 256]
 }
 
 // The sum, where it fits.
-fn plus(a: u64, b: u64) -> u64
+pub fn plus(a: u64, b: u64) -> u64
     ensures { λ r. ⌜ (a + b < 2 ^ 64 → r ≡ a + b) ⌝ }
 {
     if b <= GREATEST - a {
@@ -102,7 +102,7 @@ fn pack(head: Head) -> u64
 }
 
 // What stands at a place of a stream.
-fn read_stream(buffer: &[u8], cuts: &[u64], stream: usize, place: u64) -> Got
+pub fn read_stream(buffer: &[u8], cuts: &[u64], stream: usize, place: u64) -> Got
     requires { ⌜ stream < 256 ⌝ }
     ensures { λ r. ⌜ gotOf (r .found) (r .time) (r .head) ≡ streamsOf (now (buffer .entry)) (now (cuts .entry)) stream .read place ⌝ }
 {
@@ -117,7 +117,7 @@ fn read_stream(buffer: &[u8], cuts: &[u64], stream: usize, place: u64) -> Got
 }
 
 // The answer that hands out a record.
-fn handed(stream: usize, place: u64, head: u64, time: u64) -> Turn
+pub fn handed(stream: usize, place: u64, head: u64, time: u64) -> Turn
     ensures { λ r. ⌜ turnOf r ≡ answerOf (says stream (record-at place (recIn head time))) ⌝ }
 {
     Turn::Record {
@@ -131,7 +131,7 @@ fn handed(stream: usize, place: u64, head: u64, time: u64) -> Turn
 }
 
 // The answer that reports damage.
-fn damaged(stream: usize, place: u64, reason: u64) -> Turn
+pub fn damaged(stream: usize, place: u64, reason: u64) -> Turn
     ensures { λ r. ⌜ turnOf r ≡ answerOf (says stream (damage-at place reason)) ⌝ }
 {
     let refusal = Refusal::Damaged {

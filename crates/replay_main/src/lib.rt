@@ -1,5 +1,6 @@
 // The replay program: reads a bundle from standard input and writes the records of its streams in the merge's order (RULES, Merging
-// records).
+// records), by the engine that the program is built with.
+use replay_text::replay::HEAP;
 use replay_text::replay::Replayed;
 use standard::Input;
 ghost use mathlib.Core.Path.{_≡_};
@@ -44,21 +45,21 @@ fn put(text: &[u8]) -> u8
 }
 
 // Writes a bundle's replay, which the lent bytes have room for, and answers the status.
-fn show(bundle: &[u8], text: &mut [u8]) -> u8
+fn show(plain: bool, bundle: &[u8], text: &mut [u8]) -> u8
     ensures { λ r. ⌜ Ends (now (bundle .entry)) r ⌝ }
 {
-    match replay_text::replay::replay(bundle, text) {
+    match replay_text::replay::replay_by(plain, bundle, text) {
         Replayed::Text(n) => put(&text[..n]),
         Replayed::Refused(_) => FAILED,
     }
 }
 
-// Replays standard input and answers the status.
-fn replayed() -> u8 {
+// Replays standard input by either engine, and answers the status.
+pub fn replayed_by(plain: bool) -> u8 {
     let mut input = input_space();
     let mut text = replay_text::replay::text_space();
     match standard::read_input(&mut input, b"replay: reading standard input") {
-        Input::Bytes(n) => show(&input[..n], &mut text),
+        Input::Bytes(n) => show(plain, &input[..n], &mut text),
         Input::Failed => FAILED,
     }
 }
@@ -66,5 +67,5 @@ fn replayed() -> u8 {
 // The program: replays standard input to standard output, and answers the status to end with.
 #[no_mangle]
 pub extern "C" fn replay_main() -> i32 {
-    replayed() as i32
+    replayed_by(HEAP) as i32
 }

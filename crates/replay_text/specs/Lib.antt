@@ -1,5 +1,6 @@
 pub mod Replay
 pub mod ReplayLaws
+pub mod Engine
 pub mod Telling
 pub mod ReplayCalls
 pub mod OtherLines

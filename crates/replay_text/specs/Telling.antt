@@ -4,17 +4,17 @@ use Prim.Native.Nat.{ℕ, zero, suc, _-_, _+_, _*_, _≤_, _<_}
 use native.Mathlib.Omega.{arith}
 use mathlib.Core.List.{List, [], _∷_}
 use lib.ListN.{length, replicate}
-use mathlib.Core.Bool.{Bool, true, false, _&&_}
+use mathlib.Core.Bool.{Bool, true, false}
 use lib.Dec.{T}
-use borrow.Author.Tests.{le-leb, eq-eqb}
 use Rattle.theory.specs.Answer as theory
 use Rattle.records_rules.specs.Machine.{Stream, record-at, damage-at, Status, Answer, says, end, Turn, turn, next, answer, rest, start}
 use Rattle.records_rules.specs.Bytes.{streamsOf}
 use Rattle.records_rules.specs.Kept.{total}
 use Rattle.records_rules.specs.View.{tab, statusesOf}
-use Rattle.records_rules.specs.State.{answerOf, arraysFit, rightStreams, padded, opening, StateOk, StreamsOpened}
+use Rattle.records_rules.specs.State.{answerOf, rightStreams, padded, opening}
 use Rattle.lines.specs.Lines.{recordLine, damageLine, endLine, Lays}
 use Rattle.replay_text.specs.Replay.{lineOf}
+use Rattle.replay_text.specs.Engine.{Places, EngineOk, EngineOpened}
 use Rattle.replay_text.specs.ReplayLaws.{linesLeft, left-says, Writing, writing-start, writing-says, writing-end}
 
 -- whether an answer is the last
@@ -61,38 +61,17 @@ module _ (text : List ℕ) (at r : ℕ) (text′ : List ℕ) (short : r ≤ at +
 
 -- ---- a call
 
--- the arrays have their 256 places
-pub record Places (held : ℕ) (ms ts cs hs hp : List ℕ) : Type 0 where
-  pub few : held ≤ 256
-  pub marks : length ms ≡ 256
-  pub times : length ts ≡ 256
-  pub places : length cs ≡ 256
-  pub heads : length hs ≡ 256
-  pub heap : length hp ≡ 256
-
-pub places-right : {held : ℕ} {ms ts cs hs hp : List ℕ} → Places held ms ts cs hs hp → arraysFit held (length ms) (length ts) (length cs) (length hs) (length hp) ≡ true
-unfolding arraysFit
-places-right {held} {ms} {ts} {cs} {hs} {hp} p =
-    rw (
-      le-leb held 256 (p .few),
-      eq-eqb (length ms) 256 (p .marks),
-      eq-eqb (length ts) 256 (p .times),
-      eq-eqb (length cs) 256 (p .places),
-      eq-eqb (length hs) 256 (p .heads),
-      eq-eqb (length hp) 256 (p .heap),
-    )
-
 -- a call's line is laid, and what it leaves is the machine's
-pub record Told (b : ℕ → Stream) (n : ℕ) (ms ts cs hs text : List ℕ) (at r : ℕ) (last : Bool) (held : ℕ) (ms' ts' cs' hs' hp' text' : List ℕ) : Type 0 where
+pub record Told (plain : Bool) (b : ℕ → Stream) (n : ℕ) (ms ts cs hs text : List ℕ) (at r : ℕ) (last : Bool) (held : ℕ) (ms' ts' cs' hs' hp' text' : List ℕ) : Type 0 where
   pub line : Line text at (answer (next b (statusesOf n ms ts cs hs))) r last text'
   pub leaves : statusesOf n ms' ts' cs' hs' ≡ rest (next b (statusesOf n ms ts cs hs))
-  pub sound : StateOk n held ms' ts' cs' hs' hp'
+  pub sound : EngineOk plain n held ms' ts' cs' hs' hp'
 
 -- the state is sound, and the lines to come have room
-pub record Ready (b : ℕ → Stream) (n held : ℕ) (ms ts cs hs hp text : List ℕ) : Type 0 where
+pub record Ready (plain : Bool) (b : ℕ → Stream) (n held : ℕ) (ms ts cs hs hp text : List ℕ) : Type 0 where
   pub places : Places held ms ts cs hs hp
   pub few : n ≤ 256
-  pub sound : StateOk n held ms ts cs hs hp
+  pub sound : EngineOk plain n held ms ts cs hs hp
   pub room : 63 * total b (statusesOf n ms ts cs hs) + 63 ≤ length text
 
 -- ---- call after call
@@ -118,21 +97,21 @@ module _ {b : ℕ → Stream} {whole text₀ : List ℕ} {ss : List Status} {tex
       go (turn end ss') e m = writing-end w e (m .lays)
 
 -- the loop: the state is sound, and so much is written
-pub record Stepping (b : ℕ → Stream) (n : ℕ) (whole text₀ : List ℕ) (size : ℕ) (ms ts cs hs hp text : List ℕ) (at : ℕ) : Type 0 where
+pub record Stepping (plain : Bool) (b : ℕ → Stream) (n : ℕ) (whole text₀ : List ℕ) (size : ℕ) (ms ts cs hs hp text : List ℕ) (at : ℕ) : Type 0 where
   pub places : Places size ms ts cs hs hp
-  pub sound : StateOk n size ms ts cs hs hp
+  pub sound : EngineOk plain n size ms ts cs hs hp
   pub writing : Writing b whole text₀ (statusesOf n ms ts cs hs) text at
 
-pub stepping-start : {b : ℕ → Stream} {n held : ℕ} {ms ts cs hs hp text : List ℕ} → Ready b n held ms ts cs hs hp text
-    → Stepping b n (linesLeft b (statusesOf n ms ts cs hs)) text held ms ts cs hs hp text 0
-stepping-start {b} {n} {held} {ms} {ts} {cs} {hs} {hp} {text} r =
+pub stepping-start : {plain : Bool} {b : ℕ → Stream} {n held : ℕ} {ms ts cs hs hp text : List ℕ} → Ready plain b n held ms ts cs hs hp text
+    → Stepping plain b n (linesLeft b (statusesOf n ms ts cs hs)) text held ms ts cs hs hp text 0
+stepping-start {plain} {b} {n} {held} {ms} {ts} {cs} {hs} {hp} {text} r =
     record { places = r .places; sound = r .sound; writing = writing-start b text (statusesOf n ms ts cs hs) (r .room) }
 
-module _ {b : ℕ → Stream} {n : ℕ} {whole text₀ : List ℕ} {size : ℕ} {ms ts cs hs hp text : List ℕ} {at : ℕ}
-    (s : Stepping b n whole text₀ size ms ts cs hs hp text at) {r : ℕ} {last : Bool} {held : ℕ} {ms' ts' cs' hs' hp' text' : List ℕ}
-    (t : Told b n ms ts cs hs text at r last held ms' ts' cs' hs' hp' text') where
+module _ {plain : Bool} {b : ℕ → Stream} {n : ℕ} {whole text₀ : List ℕ} {size : ℕ} {ms ts cs hs hp text : List ℕ} {at : ℕ}
+    (s : Stepping plain b n whole text₀ size ms ts cs hs hp text at) {r : ℕ} {last : Bool} {held : ℕ} {ms' ts' cs' hs' hp' text' : List ℕ}
+    (t : Told plain b n ms ts cs hs text at r last held ms' ts' cs' hs' hp' text') where
   pub stepping-more : last ≡ false → length text' ≡ length text → Places held ms' ts' cs' hs' hp'
-      → Stepping b n whole text₀ held ms' ts' cs' hs' hp' text' r × (total b (statusesOf n ms' ts' cs' hs') < total b (statusesOf n ms ts cs hs))
+      → Stepping plain b n whole text₀ held ms' ts' cs' hs' hp' text' r × (total b (statusesOf n ms' ts' cs' hs') < total b (statusesOf n ms ts cs hs))
   stepping-more d k p =
       let w = writing-more (s .writing) (t .line) d k in (
         record { places = p; sound = t .sound; writing = rw (t .leaves) (w .0) },
@@ -163,34 +142,28 @@ no-hints zero = refl
 no-hints (suc n) = ap (λ (r : List ℕ). 0 ∷ r) (no-hints n)
 
 module _ {buffer cuts ms₀ ts₀ cs₀ hs₀ hp₀ text : List ℕ} (m : Mergeable buffer cuts ms₀ ts₀ cs₀ hs₀ hp₀ text) where
-  abbrev memory : Bool
-  memory = arraysFit 0 (length ms₀) (length ts₀) (length cs₀) (length hs₀) (length hp₀)
-
   abbrev streams : Bool
   streams = rightStreams (length buffer) cuts 0
 
   -- the opening is done
-  pub opening-right : (memory && streams) ≡ true
-  opening-right = rw (places-right (m .places), m .right)
-
-  done : opening memory streams (length cuts - 1) ≡ theory.answer 0 ((length cuts - 1) ∷ (length cuts - 1) ∷ [])
+  done : opening true streams (length cuts - 1) ≡ theory.answer 0 ((length cuts - 1) ∷ (length cuts - 1) ∷ [])
   unfolding opening
-  done = rw (places-right (m .places), m .right)
+  done = rw (m .right)
 
-  pub opening-held : {n held : ℕ} → theory.answer 0 (n ∷ held ∷ []) ≡ opening memory streams (length cuts - 1) → held ≡ length cuts - 1
+  pub opening-held : {n held : ℕ} → theory.answer 0 (n ∷ held ∷ []) ≡ opening true streams (length cuts - 1) → held ≡ length cuts - 1
   opening-held e = let d = done in cc
 
-  pub opening-done : {k : ℕ} {vs : List ℕ} → theory.answer k vs ≡ opening memory streams (length cuts - 1) → k ≡ 0
+  pub opening-done : {k : ℕ} {vs : List ℕ} → theory.answer k vs ≡ opening true streams (length cuts - 1) → k ≡ 0
   opening-done e = let d = done in cc
 
   -- and what it leaves is ready to be stepped through, from the machine's start
-  module _ {ms ts cs hs hp : List ℕ} (o : StreamsOpened (length cuts - 1) [] ms ts cs hs hp) where
+  module _ {plain : Bool} {ms ts cs hs hp : List ℕ} (o : EngineOpened plain (length cuts - 1) [] ms ts cs hs hp) where
     pub opened-starts : statusesOf (length cuts - 1) ms ts cs hs ≡ start (replicate (length cuts - 1) 0)
     opened-starts = o .starts ∙ ap start (no-hints (length cuts - 1))
 
     pub opened-ready : {held : ℕ} → held ≡ length cuts - 1
         → length ms ≡ length ms₀ → length ts ≡ length ts₀ → length cs ≡ length cs₀ → length hs ≡ length hs₀ → length hp ≡ length hp₀
-        → Ready (streamsOf buffer cuts) (length cuts - 1) held ms ts cs hs hp text
+        → Ready plain (streamsOf buffer cuts) (length cuts - 1) held ms ts cs hs hp text
     opened-ready {held} e em et ec eh ep =
         let p = m .places in
         rw e (record {

@@ -20,6 +20,11 @@ const LINE: usize = 63;
 // The bytes that every replay's text fits.
 pub const TEXT_ROOM: usize = LINES * LINE;
 
+// Whether the engine is the plain one (RULES, Requests, No. 12).
+pub const HEAP: bool = false;
+
+pub const PLAIN: bool = true;
+
 // What a replay answers: how many bytes its text has.
 pub enum Replayed {
     Text(usize),
@@ -27,14 +32,20 @@ pub enum Replayed {
 }
 
 // Takes a bundle apart and writes its replay, or only the line that says that it is bad.
-fn write_replay(bundle: &[u8], buffer: &mut [u8], cuts: &mut [u64], text: &mut [u8]) -> usize
+fn write_replay(
+    plain: bool,
+    bundle: &[u8],
+    buffer: &mut [u8],
+    cuts: &mut [u64],
+    text: &mut [u8],
+) -> usize
     requires { ⌜ (60000 ≤ length (now buffer)) × (257 ≤ length (now cuts)) × (getD (now cuts) 0 0 ≡ 0) × (252441 ≤ length (now text)) ⌝ }
     ensures { λ r. ⌜ Lays (now (text .entry)) 0 (replayText (now (bundle .entry))) r (now (text .exit)) ⌝ }
 {
     match part(bundle, buffer, cuts) {
         Parted::Streams { count, bytes } => {
             let ends = count + 1;
-            tell_streams(&buffer[..bytes], &cuts[..ends], text)
+            tell_streams(plain, &buffer[..bytes], &cuts[..ends], text)
         }
         Parted::Bad => word(text, 0, b"bad bundle\n"),
     }
@@ -61,9 +72,9 @@ pub fn text_space() -> [u8; 252441]
     [0; 252441]
 }
 
-// Lays the whole text of a bundle's replay at the front of lent bytes, and answers how many bytes it has. Fewer lent bytes than
-// every text fits get 15, and are left as they were.
-pub fn replay(bundle: &[u8], text: &mut [u8]) -> Replayed
+// Lays the whole text of a bundle's replay, by either engine, at the front of lent bytes, and answers how many bytes it has. Fewer lent
+// bytes than every text fits get 15, and are left as they were. The promise names no engine: both give the same.
+pub fn replay_by(plain: bool, bundle: &[u8], text: &mut [u8]) -> Replayed
     ensures { λ r. ⌜ replayedOf r ≡ replayAnswer (now (bundle .entry)) (length (now (text .entry))) ⌝ }
     ensures { λ _. ⌜ now (text .exit) ≡ replayLaid (now (bundle .entry)) (now (text .entry)) ⌝ }
 {
@@ -73,6 +84,14 @@ pub fn replay(bundle: &[u8], text: &mut [u8]) -> Replayed
     }
     let mut buffer = bytes_space();
     let mut cuts = cuts_space();
-    let n = write_replay(bundle, &mut buffer, &mut cuts, text);
+    let n = write_replay(plain, bundle, &mut buffer, &mut cuts, text);
     Replayed::Text(n)
+}
+
+// The same by the heap engine.
+pub fn replay(bundle: &[u8], text: &mut [u8]) -> Replayed
+    ensures { λ r. ⌜ replayedOf r ≡ replayAnswer (now (bundle .entry)) (length (now (text .entry))) ⌝ }
+    ensures { λ _. ⌜ now (text .exit) ≡ replayLaid (now (bundle .entry)) (now (text .entry)) ⌝ }
+{
+    replay_by(HEAP, bundle, text)
 }

@@ -1,5 +1,7 @@
-// The merge of a buffer's streams told in lines (RULES, Merging records): it is opened with no hints and called to its end,
-// and each answer's line is laid behind the one before.
+// The merge of a buffer's streams told in lines (RULES, Merging records): it is opened with no hints and called to its end, by either
+// engine, and each answer's line is laid behind the one before.
+use crate::engine::next_by;
+use crate::engine::open_by;
 use leaves::refusal::Refusal;
 use lines::lines::damage_line;
 use lines::lines::record_line;
@@ -8,19 +10,18 @@ use records::merge::Opening;
 use records::merge::Turn;
 use records::merge::empty_bytes;
 use records::merge::empty_numbers;
-use records::merge::next;
-use records::merge::open;
 ghost use mathlib.Core.Path.{_≡_};
 ghost use Prim.Native.Nat.{ℕ, _+_, _-_, _≤_};
 ghost use lib.ListN.{length, replicate};
 ghost use Rattle.records_rules.specs.Machine as machine;
 ghost use Rattle.records_rules.specs.Bytes.{streamsOf};
 ghost use Rattle.records_rules.specs.View.{statusesOf};
-ghost use Rattle.records_rules.specs.State.{answerOf, StateOk};
+ghost use Rattle.records_rules.specs.State.{answerOf};
 ghost use Rattle.records.specs.Merge.{turnOf};
 ghost use Rattle.lines.specs.Lines.{Lays};
 ghost use Rattle.replay_text.specs.ReplayLaws.{linesLeft};
-ghost use Rattle.replay_text.specs.Telling.{Line, Places, Told, Ready, Cut, Mergeable};
+ghost use Rattle.replay_text.specs.Engine.{Places, EngineOk};
+ghost use Rattle.replay_text.specs.Telling.{Line, Told, Ready, Cut, Mergeable};
 
 // A line that was written: the place behind it, and whether it is the last.
 struct Wrote {
@@ -28,8 +29,7 @@ struct Wrote {
     last: bool,
 }
 
-// What a call of the merge answered is written: the place behind its line, whether it is the last, and the streams that the heap
-// holds.
+// What a call of the merge answered is written: the place behind its line, whether it is the last, and the streams that are held.
 struct Stepped {
     at: usize,
     last: bool,
@@ -73,6 +73,7 @@ fn line(answer: Turn, text: &mut [u8], at: usize) -> Wrote
 
 // Calls the merge once, and writes the line of its answer.
 fn step(
+    plain: bool,
     buffer: &[u8],
     cuts: &[u64],
     held: usize,
@@ -85,11 +86,11 @@ fn step(
     at: usize,
 ) -> Stepped
     requires { ⌜ Places held (now marks) (now times) (now places) (now heads) (now heap) × (at + 63 ≤ length (now text)) ⌝ }
-    ensures { λ r. ⌜ (r .held ≤ held) × ((n : ℕ) → n ≤ 256 → StateOk n held (now (marks .entry)) (now (times .entry)) (now (places .entry)) (now (heads .entry)) (now (heap .entry))
-        → Told (streamsOf (now (buffer .entry)) (now (cuts .entry))) n (now (marks .entry)) (now (times .entry)) (now (places .entry)) (now (heads .entry))
+    ensures { λ r. ⌜ (r .held ≤ held) × ((n : ℕ) → n ≤ 256 → EngineOk plain n held (now (marks .entry)) (now (times .entry)) (now (places .entry)) (now (heads .entry)) (now (heap .entry))
+        → Told plain (streamsOf (now (buffer .entry)) (now (cuts .entry))) n (now (marks .entry)) (now (times .entry)) (now (places .entry)) (now (heads .entry))
         (now (text .entry)) at (r .at) (r .last) (r .held) (now (marks .exit)) (now (times .exit)) (now (places .exit)) (now (heads .exit)) (now (heap .exit)) (now (text .exit))) ⌝ }
 {
-    let turned = next(buffer, cuts, held, marks, times, places, heads, heap);
+    let turned = next_by(plain, buffer, cuts, held, marks, times, places, heads, heap);
     let answer = turned.answer;
     let wrote = line(answer, text, at);
     Stepped {
@@ -101,6 +102,7 @@ fn step(
 
 // Calls the merge to its end, and writes a line for each of its answers.
 fn steps(
+    plain: bool,
     buffer: &[u8],
     cuts: &[u64],
     held: usize,
@@ -111,7 +113,7 @@ fn steps(
     heap: &mut [u8],
     text: &mut [u8],
 ) -> usize
-    requires { ⌜ Ready (streamsOf (now buffer) (now cuts)) (length (now cuts) - 1) held (now marks) (now times) (now places) (now heads) (now heap) (now text) ⌝ }
+    requires { ⌜ Ready plain (streamsOf (now buffer) (now cuts)) (length (now cuts) - 1) held (now marks) (now times) (now places) (now heads) (now heap) (now text) ⌝ }
     ensures { λ r. ⌜ Lays (now (text .entry)) 0 (linesLeft (streamsOf (now (buffer .entry)) (now (cuts .entry)))
         (statusesOf (length (now (cuts .entry)) - 1) (now (marks .entry)) (now (times .entry)) (now (places .entry)) (now (heads .entry)))) r (now (text .exit)) ⌝ }
 {
@@ -119,6 +121,7 @@ fn steps(
     let mut size = held;
     loop {
         let written = step(
+            plain,
             buffer,
             cuts,
             size,
@@ -140,6 +143,7 @@ fn steps(
 
 // Opens the streams, with no hints, and writes their replay.
 fn tell_opened(
+    plain: bool,
     buffer: &[u8],
     cuts: &[u64],
     marks: &mut [u8],
@@ -154,7 +158,8 @@ fn tell_opened(
 {
     let no_hint = [0u64; 1];
     let none = 0;
-    let opening = open(
+    let opening = open_by(
+        plain,
         buffer,
         cuts,
         &no_hint[..none],
@@ -166,14 +171,25 @@ fn tell_opened(
     );
     match opening {
         Opening::Opened { streams: _, held } => {
-            steps(buffer, cuts, held, marks, times, places, heads, heap, text)
+            steps(
+                plain,
+                buffer,
+                cuts,
+                held,
+                marks,
+                times,
+                places,
+                heads,
+                heap,
+                text,
+            )
         }
         Opening::Refused(_) => 0,
     }
 }
 
 // Writes the replay of the streams of a buffer between its cuts.
-pub fn tell_streams(buffer: &[u8], cuts: &[u64], text: &mut [u8]) -> usize
+pub fn tell_streams(plain: bool, buffer: &[u8], cuts: &[u64], text: &mut [u8]) -> usize
     requires { ⌜ Cut (now buffer) (now cuts) (now text) ⌝ }
     ensures { λ r. ⌜ Lays (now (text .entry)) 0 (linesLeft (streamsOf (now (buffer .entry)) (now (cuts .entry))) (machine.start (replicate (length (now (cuts .entry)) - 1) 0))) r (now (text .exit)) ⌝ }
 {
@@ -183,6 +199,7 @@ pub fn tell_streams(buffer: &[u8], cuts: &[u64], text: &mut [u8]) -> usize
     let mut heads = empty_numbers();
     let mut heap = empty_bytes();
     tell_opened(
+        plain,
         buffer,
         cuts,
         &mut marks,

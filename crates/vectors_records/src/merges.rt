@@ -1,130 +1,24 @@
 // A case that is a merge of streams with hints.
-use leaves::refusal::Refusal;
 use records::merge::Opening;
-use records::merge::Turn;
 use records::merge::empty_bytes;
 use records::merge::empty_numbers;
 use records::merge::next;
 use records::merge::open;
-ghost use mathlib.Core.Path.{_≡_};
+use vectors_merge::buffer_space;
+use vectors_merge::numbers_space;
+use vectors_merge::print_refusal;
+use vectors_merge::print_turn;
+use vectors_merge::read_numbers;
 ghost use Prim.Native.Nat.{_≤_};
 ghost use lib.ListN.{length};
 
 // No case has more calls.
 const MOST_CALLS: u64 = 1000;
 
-// Numbers read from the text: how many, and the place after them.
-struct Numbers {
-    count: usize,
-    next: usize,
-}
-
 // A call: how many streams the heap holds after it, and whether it answered the end.
 struct Called {
     held: usize,
     ended: bool,
-}
-
-// Room for a buffer.
-fn buffer_space() -> [u8; 4096]
-    ensures { λ r. ⌜ 4096 ≡ length r ⌝ }
-{
-    [0; 4096]
-}
-
-// Room for cuts, and for hints.
-fn numbers_space() -> [u64; 300]
-    ensures { λ r. ⌜ 300 ≡ length r ⌝ }
-{
-    [0; 300]
-}
-
-// Reads a count and so many numbers, as far as there is room.
-fn read_numbers(text: &[u8], at: usize, out: &mut [u64]) -> Numbers
-    ensures { λ r. ⌜ r .count ≤ length (now (out .exit)) ⌝ }
-{
-    let many = vectors_text::number_at(text, at);
-    let mut place = many.next;
-    let mut i = 0;
-    while i < out.len() {
-        if many.value <= i as u64 {
-            return Numbers {
-                count: i,
-                next: place,
-            };
-        }
-        let one = vectors_text::number_at(text, place);
-        out[i] = one.value;
-        place = one.next;
-        i += 1;
-    }
-    Numbers {
-        count: i,
-        next: place,
-    }
-}
-
-fn print_number(n: u64) {
-    io::write_all(1, b" ");
-    io::print_decimal(1, n);
-}
-
-fn print_record(stream: u64, place: u64, length: u64, kind: u64, instrument: u64, time: u64) {
-    io::write_all(1, b"record");
-    print_number(stream);
-    print_number(place);
-    print_number(length);
-    print_number(kind);
-    print_number(instrument);
-    print_number(time);
-    io::write_all(1, b"\n");
-}
-
-// Prints a refusal's number, and of damage stream, place and reason.
-fn print_refusal(refusal: Refusal) {
-    io::print_decimal(1, leaves::refusal::number(refusal) as u64);
-    if let Refusal::Damaged {
-        stream,
-        place,
-        reason,
-    } = refusal {
-        print_number(stream);
-        print_number(place);
-        print_number(reason);
-    }
-    io::write_all(1, b"\n");
-}
-
-// Prints an answer, and answers whether it is the end.
-fn print_turn(answer: Turn) -> bool {
-    match answer {
-        Turn::Record {
-            stream,
-            place,
-            length,
-            kind,
-            instrument,
-            time,
-        } => {
-            print_record(
-                stream,
-                place,
-                length as u64,
-                kind as u64,
-                instrument as u64,
-                time,
-            );
-            false
-        }
-        Turn::End => {
-            io::write_all(1, b"end\n");
-            true
-        }
-        Turn::Refused(refusal) => {
-            print_refusal(refusal);
-            false
-        }
-    }
 }
 
 // Calls the merge once, and prints its answer.

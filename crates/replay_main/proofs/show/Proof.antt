@@ -12,16 +12,16 @@ use borrow.Author.Needs.{needs}
 use Rattle.replay_main.proofs.show.Statement.{statement}
 use Rattle.replay_main.proofs.show.Tie as tie
 
-replay-requires : tie.Need-replay-requires
-replay-requires c κs = search needs
+replay-by-requires : tie.Need-replay-by-requires
+replay-by-requires c κs = search needs
 
 enum-known-n : tie.Need-enum-known-n
 enum-known-n c = search needs
 
-fits : (c : tie.After-known-told) → c .before .n .given .0 .0 ≤ length (c .before .before .before .before .before .replay .last .1 .0)
+fits : (c : tie.After-known-told) → c .before .n .given .0 .0 ≤ length (c .before .before .before .before .before .replay-by .last .1 .1 .0)
 fits c =
-    let r = c .before .before .before .before .before .replay in
-    text-fits _ _ _ _ (ap replayedOf (sym (c .before .n .given .1)) ∙ r .ensures .0) (r .ensures .1) (r .kept .1 .0)
+    let r = c .before .before .before .before .before .replay-by in
+    text-fits _ _ _ _ (ap replayedOf (sym (c .before .n .given .1)) ∙ r .ensures .0) (r .ensures .1) (r .kept .1 .1 .0)
 
 slice-reshare-prefix-put : tie.Need-slice-reshare-prefix-put
 slice-reshare-prefix-put c = fits c
@@ -40,7 +40,7 @@ same-length c = search needs
 
 returns : tie.Need-returns
 returns c = λ h.
-    let r = c .before .before .before .before .before .before .before .replay in
+    let r = c .before .before .before .before .before .before .before .replay-by in
     c .put .ensures h ∙ ap textStatus (text-taken _ _ _ _ (ap replayedOf (sym (c .before .before .before .n .given .1)) ∙ r .ensures .0) (r .ensures .1))
     ∙ text-status _
 
@@ -54,7 +54,7 @@ pub show-spec : {M : Type 1} → statement M
 show-spec =
     tie.close
     (tie.spec
-    replay-requires
+    replay-by-requires
     enum-known-n
     slice-reshare-prefix-put
     slice-aggregate-put

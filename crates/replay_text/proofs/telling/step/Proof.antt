@@ -1,11 +1,10 @@
 -- The answer is the machine's, so its line is that answer's. Assumes nothing.
-use Rattle.replay_text.specs.Telling.{places-right}
 use borrow.Author.Needs.{needs}
 use Rattle.replay_text.proofs.telling.step.Statement.{statement}
 use Rattle.replay_text.proofs.telling.step.Tie as tie
 
-next-requires : tie.Need-next-requires
-next-requires c κs = search needs
+next-by-requires : tie.Need-next-by-requires
+next-by-requires c κs = search needs
 
 line-requires : tie.Need-line-requires
 line-requires c κs = search needs
@@ -30,10 +29,10 @@ same-length-6 c = search needs
 
 returns : tie.Need-returns
 returns c =
-    let t = c .before .before .before .before .before .before .before .before .before .before .before .before .before .before .next .ensures in (
+    let t = c .before .before .before .before .before .before .before .before .before .before .before .before .before .before .next-by .ensures in (
       t .0,
       λ n few ok.
-          let s = t .1 .1 (places-right (c .before .before .before .before .before .before .before .before .before .before .before .before .before .before .before .before .before .before .before .before .before .before .before .before .before .before .before .before .pre .0)) n few ok in
+          let s = t .1 n few ok in
           record { line = c .before .before .line .ensures _ (s .heard); leaves = s .leaves; sound = s .sound },
     )
 
@@ -41,7 +40,7 @@ pub step-spec : {M : Type 1} → statement M
 step-spec =
     tie.close
     (tie.spec
-    next-requires
+    next-by-requires
     line-requires
     same-length
     same-length-2

@@ -13,12 +13,12 @@ use Rattle.replay_text.proofs.telling.steps.Statement.{statement}
 use Rattle.replay_text.proofs.telling.steps.Tie as tie
 
 abbrev Inv-loop : tie.InvT-loop
-Inv-loop buffer cuts held marks₀ times₀ places₀ heads₀ heap₀ text₀ at₀ size₀ marks times places heads heap text at size =
-    Stepping (streamsOf buffer cuts) (length cuts - 1) (linesLeft (streamsOf buffer cuts) (statusesOf (length cuts - 1) marks₀ times₀ places₀ heads₀)) text₀
+Inv-loop plain buffer cuts held marks₀ times₀ places₀ heads₀ heap₀ text₀ at₀ size₀ marks times places heads heap text at size =
+    Stepping plain (streamsOf buffer cuts) (length cuts - 1) (linesLeft (streamsOf buffer cuts) (statusesOf (length cuts - 1) marks₀ times₀ places₀ heads₀)) text₀
     size marks times places heads heap text at
 
 abbrev μ-loop : tie.MeasureT-loop
-μ-loop buffer cuts held marks₀ times₀ places₀ heads₀ heap₀ text₀ at₀ size₀ marks times places heads heap text at size =
+μ-loop plain buffer cuts held marks₀ times₀ places₀ heads₀ heap₀ text₀ at₀ size₀ marks times places heads heap text at size =
     total (streamsOf buffer cuts) (statusesOf (length cuts - 1) marks times places heads)
 
 loop-holds : tie.Need-loop-holds Inv-loop μ-loop
@@ -30,27 +30,27 @@ step-requires c κs =
 
 same-length : tie.Need-same-length Inv-loop μ-loop
 same-length c =
-    c .before .before .before .before .before .before .before .before .before .before .before .before .before .step .kept .1 .1 .1 .0 ∙ c .before .before .before .before .before .before .before .before .before .before .before .before .before .before .before .before .before .before .before .before .loop .inv .places .marks ∙ sym (c .before .before .before .before .before .before .before .before .before .before .before .before .before .before .before .before .before .before .before .before .before .before .before .before .before .before .before .before .before .pre .places .marks)
+    c .before .before .before .before .before .before .before .before .before .before .before .before .before .step .kept .1 .1 .1 .1 .0 ∙ c .before .before .before .before .before .before .before .before .before .before .before .before .before .before .before .before .before .before .before .before .loop .inv .places .marks ∙ sym (c .before .before .before .before .before .before .before .before .before .before .before .before .before .before .before .before .before .before .before .before .before .before .before .before .before .before .before .before .before .pre .places .marks)
 
 same-length-2 : tie.Need-same-length-2 Inv-loop μ-loop
 same-length-2 c =
-    c .before .before .before .before .before .before .before .before .before .before .before .before .before .step .kept .1 .1 .1 .1 .0 ∙ c .before .before .before .before .before .before .before .before .before .before .before .before .before .before .before .before .before .before .before .before .loop .inv .places .times ∙ sym (c .before .before .before .before .before .before .before .before .before .before .before .before .before .before .before .before .before .before .before .before .before .before .before .before .before .before .before .before .before .pre .places .times)
+    c .before .before .before .before .before .before .before .before .before .before .before .before .before .step .kept .1 .1 .1 .1 .1 .0 ∙ c .before .before .before .before .before .before .before .before .before .before .before .before .before .before .before .before .before .before .before .before .loop .inv .places .times ∙ sym (c .before .before .before .before .before .before .before .before .before .before .before .before .before .before .before .before .before .before .before .before .before .before .before .before .before .before .before .before .before .pre .places .times)
 
 same-length-3 : tie.Need-same-length-3 Inv-loop μ-loop
 same-length-3 c =
-    c .before .before .before .before .before .before .before .before .before .before .before .before .before .step .kept .1 .1 .1 .1 .1 .0 ∙ c .before .before .before .before .before .before .before .before .before .before .before .before .before .before .before .before .before .before .before .before .loop .inv .places .places ∙ sym (c .before .before .before .before .before .before .before .before .before .before .before .before .before .before .before .before .before .before .before .before .before .before .before .before .before .before .before .before .before .pre .places .places)
+    c .before .before .before .before .before .before .before .before .before .before .before .before .before .step .kept .1 .1 .1 .1 .1 .1 .0 ∙ c .before .before .before .before .before .before .before .before .before .before .before .before .before .before .before .before .before .before .before .before .loop .inv .places .places ∙ sym (c .before .before .before .before .before .before .before .before .before .before .before .before .before .before .before .before .before .before .before .before .before .before .before .before .before .before .before .before .before .pre .places .places)
 
 same-length-4 : tie.Need-same-length-4 Inv-loop μ-loop
 same-length-4 c =
-    c .before .before .before .before .before .before .before .before .before .before .before .before .before .step .kept .1 .1 .1 .1 .1 .1 .0 ∙ c .before .before .before .before .before .before .before .before .before .before .before .before .before .before .before .before .before .before .before .before .loop .inv .places .heads ∙ sym (c .before .before .before .before .before .before .before .before .before .before .before .before .before .before .before .before .before .before .before .before .before .before .before .before .before .before .before .before .before .pre .places .heads)
+    c .before .before .before .before .before .before .before .before .before .before .before .before .before .step .kept .1 .1 .1 .1 .1 .1 .1 .0 ∙ c .before .before .before .before .before .before .before .before .before .before .before .before .before .before .before .before .before .before .before .before .loop .inv .places .heads ∙ sym (c .before .before .before .before .before .before .before .before .before .before .before .before .before .before .before .before .before .before .before .before .before .before .before .before .before .before .before .before .before .pre .places .heads)
 
 same-length-5 : tie.Need-same-length-5 Inv-loop μ-loop
 same-length-5 c =
-    c .before .before .before .before .before .before .before .before .before .before .before .before .before .step .kept .1 .1 .1 .1 .1 .1 .1 .0 ∙ c .before .before .before .before .before .before .before .before .before .before .before .before .before .before .before .before .before .before .before .before .loop .inv .places .heap ∙ sym (c .before .before .before .before .before .before .before .before .before .before .before .before .before .before .before .before .before .before .before .before .before .before .before .before .before .before .before .before .before .pre .places .heap)
+    c .before .before .before .before .before .before .before .before .before .before .before .before .before .step .kept .1 .1 .1 .1 .1 .1 .1 .1 .0 ∙ c .before .before .before .before .before .before .before .before .before .before .before .before .before .before .before .before .before .before .before .before .loop .inv .places .heap ∙ sym (c .before .before .before .before .before .before .before .before .before .before .before .before .before .before .before .before .before .before .before .before .before .before .before .before .before .before .before .before .before .pre .places .heap)
 
 same-length-6 : tie.Need-same-length-6 Inv-loop μ-loop
 same-length-6 c =
-    c .before .before .before .before .before .before .before .before .before .before .before .before .before .step .kept .1 .1 .1 .1 .1 .1 .1 .1 .0 ∙ c .before .before .before .before .before .before .before .before .before .before .before .before .before .before .before .before .before .before .before .before .loop .inv .writing .long
+    c .before .before .before .before .before .before .before .before .before .before .before .before .before .step .kept .1 .1 .1 .1 .1 .1 .1 .1 .1 .0 ∙ c .before .before .before .before .before .before .before .before .before .before .before .before .before .before .before .before .before .before .before .before .loop .inv .writing .long
 
 returns : tie.Need-returns Inv-loop μ-loop
 returns c =
@@ -62,13 +62,13 @@ loop-less c =
     let i = c .before .before .before .before .before .before .before .before .before .before .before .before .before .before .before .before .before .before .before .before .loop .inv in
     let s = c .before .before .before .before .before .before .before .before .before .before .before .before .before .step in
     let p = i .places in
-    stepping-more i (s .ensures .1 _ (c .before .before .before .before .before .before .before .before .before .before .before .before .before .before .before .before .before .before .before .before .before .before .before .before .before .before .before .before .before .pre .few) (i .sound)) (c .if1 .left) (s .kept .1 .1 .1 .1 .1 .1 .1 .1 .0) (record {
+    stepping-more i (s .ensures .1 _ (c .before .before .before .before .before .before .before .before .before .before .before .before .before .before .before .before .before .before .before .before .before .before .before .before .before .before .before .before .before .pre .few) (i .sound)) (c .if1 .left) (s .kept .1 .1 .1 .1 .1 .1 .1 .1 .1 .0) (record {
       few = omega (arith, s .ensures .0, p .few);
-      marks = s .kept .1 .1 .1 .0 ∙ p .marks;
-      times = s .kept .1 .1 .1 .1 .0 ∙ p .times;
-      places = s .kept .1 .1 .1 .1 .1 .0 ∙ p .places;
-      heads = s .kept .1 .1 .1 .1 .1 .1 .0 ∙ p .heads;
-      heap = s .kept .1 .1 .1 .1 .1 .1 .1 .0 ∙ p .heap;
+      marks = s .kept .1 .1 .1 .1 .0 ∙ p .marks;
+      times = s .kept .1 .1 .1 .1 .1 .0 ∙ p .times;
+      places = s .kept .1 .1 .1 .1 .1 .1 .0 ∙ p .places;
+      heads = s .kept .1 .1 .1 .1 .1 .1 .1 .0 ∙ p .heads;
+      heap = s .kept .1 .1 .1 .1 .1 .1 .1 .1 .0 ∙ p .heap;
     }) .1
 
 loop-again : tie.Need-loop-again Inv-loop μ-loop
@@ -76,13 +76,13 @@ loop-again c =
     let i = c .before .before .before .before .before .before .before .before .before .before .before .before .before .before .before .before .before .before .before .before .loop .inv in
     let s = c .before .before .before .before .before .before .before .before .before .before .before .before .before .step in
     let p = i .places in
-    stepping-more i (s .ensures .1 _ (c .before .before .before .before .before .before .before .before .before .before .before .before .before .before .before .before .before .before .before .before .before .before .before .before .before .before .before .before .before .pre .few) (i .sound)) (c .if1 .left) (s .kept .1 .1 .1 .1 .1 .1 .1 .1 .0) (record {
+    stepping-more i (s .ensures .1 _ (c .before .before .before .before .before .before .before .before .before .before .before .before .before .before .before .before .before .before .before .before .before .before .before .before .before .before .before .before .before .pre .few) (i .sound)) (c .if1 .left) (s .kept .1 .1 .1 .1 .1 .1 .1 .1 .1 .0) (record {
       few = omega (arith, s .ensures .0, p .few);
-      marks = s .kept .1 .1 .1 .0 ∙ p .marks;
-      times = s .kept .1 .1 .1 .1 .0 ∙ p .times;
-      places = s .kept .1 .1 .1 .1 .1 .0 ∙ p .places;
-      heads = s .kept .1 .1 .1 .1 .1 .1 .0 ∙ p .heads;
-      heap = s .kept .1 .1 .1 .1 .1 .1 .1 .0 ∙ p .heap;
+      marks = s .kept .1 .1 .1 .1 .0 ∙ p .marks;
+      times = s .kept .1 .1 .1 .1 .1 .0 ∙ p .times;
+      places = s .kept .1 .1 .1 .1 .1 .1 .0 ∙ p .places;
+      heads = s .kept .1 .1 .1 .1 .1 .1 .1 .0 ∙ p .heads;
+      heap = s .kept .1 .1 .1 .1 .1 .1 .1 .1 .0 ∙ p .heap;
     }) .0
 
 pub steps-spec : {M : Type 1} → statement M

@@ -2,7 +2,7 @@
 use mathlib.Core.Path.{sym, ap, _∙_}
 use Rattle.leaves.specs.RefusalLaws.{refused-not-done}
 use Rattle.records.specs.Merge.{openingOf}
-use Rattle.replay_text.specs.Telling.{opening-right, opening-held, opening-done, opened-starts, opened-ready}
+use Rattle.replay_text.specs.Telling.{opening-held, opening-done, opened-starts, opened-ready}
 use borrow.Author.Needs.{needs}
 use Rattle.replay_text.proofs.telling.tell_opened.Statement.{statement}
 use Rattle.replay_text.proofs.telling.tell_opened.Tie as tie
@@ -10,21 +10,21 @@ use Rattle.replay_text.proofs.telling.tell_opened.Tie as tie
 array-share-prefix-no-hint : tie.Need-array-share-prefix-no-hint
 array-share-prefix-no-hint c = search needs
 
-slice-aggregate-open : tie.Need-slice-aggregate-open
-slice-aggregate-open c = search needs
+slice-aggregate-open-by : tie.Need-slice-aggregate-open-by
+slice-aggregate-open-by c = search needs
 
-open-requires : tie.Need-open-requires
-open-requires c κs = search needs
+open-by-requires : tie.Need-open-by-requires
+open-by-requires c κs = search needs
 
 enum-known-opening : tie.Need-enum-known-opening
 enum-known-opening c = search needs
 
 steps-requires : tie.Need-steps-requires
 steps-requires c κs =
-    let o = c .before .before .before .before .before .before .before .before .before .before .before .before .before .before .before .before .before .before .before .«open» in
+    let o = c .before .before .before .before .before .before .before .before .before .before .before .before .before .before .before .before .before .before .before .open-by in
     let m = c .before .before .before .before .before .before .before .before .before .before .before .before .before .before .before .before .before .before .before .before .before .before .before .before .before .before .before .before .before .before .before .before .before .before .pre in
     let e = opening-held m (ap openingOf (sym (c .before .before .before .before .before .before .before .opening .given .1)) ∙ o .ensures .0) in
-    opened-ready m (o .ensures .1 .1 (opening-right m)) e (o .kept .1 .1 .1 .0) (o .kept .1 .1 .1 .1 .0) (o .kept .1 .1 .1 .1 .1 .0) (o .kept .1 .1 .1 .1 .1 .1 .0) (o .kept .1 .1 .1 .1 .1 .1 .1 .0)
+    opened-ready m (o .ensures .1 (m .right)) e (o .kept .1 .1 .1 .1 .0) (o .kept .1 .1 .1 .1 .1 .0) (o .kept .1 .1 .1 .1 .1 .1 .0) (o .kept .1 .1 .1 .1 .1 .1 .1 .0) (o .kept .1 .1 .1 .1 .1 .1 .1 .1 .0)
 
 enum-told : tie.Need-enum-told
 enum-told c = search needs
@@ -50,7 +50,7 @@ same-length-6 c = search needs
 returns : tie.Need-returns
 returns c =
     let m = c .before .before .before .before .before .before .before .before .before .before .before .before .before .before .before .before .before .before .before .before .before .before .before .before .before .before .before .before .before .before .before .before .before .before .before .before .before .before .before .before .before .before .before .before .before .before .before .pre in
-    rw (sym (opened-starts m (c .before .before .before .before .before .before .before .before .before .before .before .before .before .before .before .before .before .before .before .before .before .before .before .before .before .before .before .before .before .before .before .before .«open» .ensures .1 .1 (opening-right m)))) (c .before .before .before .before .before .before .before .before .before .before .before .before .steps .ensures)
+    rw (sym (opened-starts m (c .before .before .before .before .before .before .before .before .before .before .before .before .before .before .before .before .before .before .before .before .before .before .before .before .before .before .before .before .before .before .before .before .open-by .ensures .1 (m .right)))) (c .before .before .before .before .before .before .before .before .before .before .before .before .steps .ensures)
 
 same-length-7 : tie.Need-same-length-7
 same-length-7 c = search needs
@@ -70,15 +70,15 @@ same-length-11 c = search needs
 returns-2 : tie.Need-returns-2
 returns-2 c =
     let m = c .before .before .before .before .before .before .before .before .before .before .before .before .before .before .before .before .before .before .before .before .before .before .before .before .before .before .before .pre in
-    absurd (refused-not-done (c .enum-told .given .0 .0) (opening-done m (ap openingOf (sym (c .enum-told .given .1)) ∙ c .before .before .before .before .before .before .before .before .before .before .before .before .«open» .ensures .0)))
+    absurd (refused-not-done (c .enum-told .given .0 .0) (opening-done m (ap openingOf (sym (c .enum-told .given .1)) ∙ c .before .before .before .before .before .before .before .before .before .before .before .before .open-by .ensures .0)))
 
 pub tell-opened-spec : {M : Type 1} → statement M
 tell-opened-spec =
     tie.close
     (tie.spec
     array-share-prefix-no-hint
-    slice-aggregate-open
-    open-requires
+    slice-aggregate-open-by
+    open-by-requires
     enum-known-opening
     steps-requires
     enum-told

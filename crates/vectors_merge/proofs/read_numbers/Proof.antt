@@ -4,8 +4,8 @@ use mathlib.Core.Path.{_≡_}
 use Prim.Native.Nat.{_≤_, _-_}
 use lib.ListN.{length, length-set}
 use borrow.Author.Needs.{needs}
-use Rattle.vectors_records.proofs.merges.read_numbers.Statement.{statement}
-use Rattle.vectors_records.proofs.merges.read_numbers.Tie as tie
+use Rattle.vectors_merge.proofs.read_numbers.Statement.{statement}
+use Rattle.vectors_merge.proofs.read_numbers.Tie as tie
 
 abbrev Inv-loop : tie.InvT-loop
 Inv-loop text at out₀ many place₀ i₀ out place i = (i ≤ length out) × (length out ≡ length out₀)

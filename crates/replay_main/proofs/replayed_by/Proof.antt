@@ -3,8 +3,8 @@ use mathlib.Core.Path.{sym}
 use lib.Seq.{length-take-le}
 use Rattle.standard.specs.InputLaws.{bytes-within}
 use borrow.Author.Needs.{needs}
-use Rattle.replay_main.proofs.replayed.Statement.{statement}
-use Rattle.replay_main.proofs.replayed.Tie as tie
+use Rattle.replay_main.proofs.replayed_by.Statement.{statement}
+use Rattle.replay_main.proofs.replayed_by.Tie as tie
 
 input-space-requires : tie.Need-input-space-requires
 input-space-requires c κs = search needs
@@ -46,8 +46,8 @@ returns c = search needs
 returns-2 : tie.Need-returns-2
 returns-2 c = search needs
 
-pub replayed-spec : {M : Type 1} → statement M
-replayed-spec =
+pub replayed-by-spec : {M : Type 1} → statement M
+replayed-by-spec =
     tie.close
     (tie.spec
     input-space-requires

@@ -1,8 +1,8 @@
 -- Too few bytes are refused; in the others the text is laid. Assumes nothing.
 use Rattle.replay_text.specs.ReplayCalls.{replay-short, replay-laid}
 use borrow.Author.Needs.{needs}
-use Rattle.replay_text.proofs.replay.replay.Statement.{statement}
-use Rattle.replay_text.proofs.replay.replay.Tie as tie
+use Rattle.replay_text.proofs.replay.replay_by.Statement.{statement}
+use Rattle.replay_text.proofs.replay.replay_by.Tie as tie
 
 returns : tie.Need-returns
 returns c = replay-short _ _ (c .if1 .taken)
@@ -28,8 +28,8 @@ same-length c = search needs
 returns-2 : tie.Need-returns-2
 returns-2 c = replay-laid _ (c .before .before .before .before .before .before .before .before .before .before .if1 .left) (c .before .before .before .before .write-replay .ensures)
 
-pub replay-spec : {M : Type 1} → statement M
-replay-spec =
+pub replay-by-spec : {M : Type 1} → statement M
+replay-by-spec =
     tie.close
     (tie.spec
     returns

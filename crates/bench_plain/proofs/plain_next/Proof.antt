@@ -1,0 +1,152 @@
+-- Each arm of the match is what its case says. Assumes nothing.
+use mathlib.Core.Path.{refl}
+use Rattle.records.specs.Merge.{turnOf}
+use Rattle.door_answers.specs.AnswersLaws.{answer-same}
+use Rattle.door_records.specs.MergeLaws.{handed-record, handed-end, handed-not}
+use borrow.Author.Needs.{needs}
+use Rattle.bench_plain.proofs.plain_next.Statement.{statement}
+use Rattle.bench_plain.proofs.plain_next.Tie as tie
+
+next-requires : tie.Need-next-requires
+next-requires c κs = search needs
+
+enum-known-answer : tie.Need-enum-known-answer
+enum-known-answer c = search needs
+
+enum-told : tie.Need-enum-told
+enum-told c = search needs
+
+enum-known-answer-2 : tie.Need-enum-known-answer-2
+enum-known-answer-2 c = search needs
+
+stream-in-requires : tie.Need-stream-in-requires
+stream-in-requires c κs = search needs
+
+place-in-requires : tie.Need-place-in-requires
+place-in-requires c κs = search needs
+
+reason-in-requires : tie.Need-reason-in-requires
+reason-in-requires c κs = search needs
+
+number-requires : tie.Need-number-requires
+number-requires c κs = search needs
+
+same-length : tie.Need-same-length
+same-length c = search needs
+
+same-length-2 : tie.Need-same-length-2
+same-length-2 c = search needs
+
+same-length-3 : tie.Need-same-length-3
+same-length-3 c = search needs
+
+same-length-4 : tie.Need-same-length-4
+same-length-4 c = search needs
+
+returns : tie.Need-returns
+returns c =
+    let call = c .before .before .before .before .before .before .before .before .before .before .before in
+    let x = call .next .ensures in
+    let a = call .before .before .before .before .before .before .before .before .before .before .before .args in (
+      λ w. (
+        handed-record (a .found .now) (a .stream .now) (a .place .now) (a .long .now) (a .kind .now) (a .instrument .now) (a .time .now) (a .reason .now)
+            (answer-same turnOf (x .refused w .0) (c .before .answer .given .1)),
+        x .refused w .1,
+      ),
+      λ w s.
+          let y = x .told w s in (
+            handed-record (a .found .now) (a .stream .now) (a .place .now) (a .long .now) (a .kind .now) (a .instrument .now) (a .time .now) (a .reason .now)
+                (answer-same turnOf (y .heard) (c .before .answer .given .1)),
+            record { heard = refl; leaves = y .leaves; small = y .small },
+          ),
+    )
+
+same-length-5 : tie.Need-same-length-5
+same-length-5 c = search needs
+
+same-length-6 : tie.Need-same-length-6
+same-length-6 c = search needs
+
+same-length-7 : tie.Need-same-length-7
+same-length-7 c = search needs
+
+same-length-8 : tie.Need-same-length-8
+same-length-8 c = search needs
+
+returns-2 : tie.Need-returns-2
+returns-2 c =
+    let call = c .before .before .before .before .before .before .before .before .before .before in
+    let x = call .next .ensures in
+    let a = call .before .before .before .before .before .before .before .before .before .before .before .args in (
+      λ w. (
+        handed-end (a .found .now) (a .stream .now) (a .place .now) (a .long .now) (a .kind .now) (a .instrument .now) (a .time .now) (a .reason .now)
+            (answer-same turnOf (x .refused w .0) (c .enum-told .given .1)),
+        x .refused w .1,
+      ),
+      λ w s.
+          let y = x .told w s in (
+            handed-end (a .found .now) (a .stream .now) (a .place .now) (a .long .now) (a .kind .now) (a .instrument .now) (a .time .now) (a .reason .now)
+                (answer-same turnOf (y .heard) (c .enum-told .given .1)),
+            record { heard = refl; leaves = y .leaves; small = y .small },
+          ),
+    )
+
+same-length-9 : tie.Need-same-length-9
+same-length-9 c = search needs
+
+same-length-10 : tie.Need-same-length-10
+same-length-10 c = search needs
+
+same-length-11 : tie.Need-same-length-11
+same-length-11 c = search needs
+
+same-length-12 : tie.Need-same-length-12
+same-length-12 c = search needs
+
+returns-3 : tie.Need-returns-3
+returns-3 c =
+    let call = c .before .before .before .before .before .before .before .before .before .before .before .before .before .before .before .before .before .before in
+    let x = call .next .ensures in
+    let a = call .before .before .before .before .before .before .before .before .before .before .before .args in (
+      λ w. (
+        handed-not (a .found .now) (a .stream .now) (a .place .now) (a .long .now) (a .kind .now) (a .instrument .now) (a .time .now) (a .reason .now)
+            (c .before .before .before .before .before .before .before .before .answer2 .given .0 .0) (c .number .ensures) (c .before .before .before .before .before .stream-in .ensures) (c .before .before .before .place-in .ensures) (c .before .reason-in .ensures)
+            (answer-same turnOf (x .refused w .0) (c .before .before .before .before .before .before .before .before .answer2 .given .1)),
+        x .refused w .1,
+      ),
+      λ w s.
+          let y = x .told w s in (
+            handed-not (a .found .now) (a .stream .now) (a .place .now) (a .long .now) (a .kind .now) (a .instrument .now) (a .time .now) (a .reason .now)
+                (c .before .before .before .before .before .before .before .before .answer2 .given .0 .0) (c .number .ensures) (c .before .before .before .before .before .stream-in .ensures) (c .before .before .before .place-in .ensures) (c .before .reason-in .ensures)
+                (answer-same turnOf (y .heard) (c .before .before .before .before .before .before .before .before .answer2 .given .1)),
+            record { heard = refl; leaves = y .leaves; small = y .small },
+          ),
+    )
+
+pub plain-next-spec : {M : Type 1} → statement M
+plain-next-spec =
+    tie.close
+    (tie.spec
+    next-requires
+    enum-known-answer
+    enum-told
+    enum-known-answer-2
+    stream-in-requires
+    place-in-requires
+    reason-in-requires
+    number-requires
+    same-length
+    same-length-2
+    same-length-3
+    same-length-4
+    returns
+    same-length-5
+    same-length-6
+    same-length-7
+    same-length-8
+    returns-2
+    same-length-9
+    same-length-10
+    same-length-11
+    same-length-12
+    returns-3)

@@ -1,0 +1,4 @@
+pub mod Plain
+pub mod Scan
+pub mod PlainSteps
+pub mod Engines

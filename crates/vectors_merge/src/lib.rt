@@ -1,0 +1,114 @@
+// What the programs over merges of streams share: streams and hints read from a case, and answers printed.
+use leaves::refusal::Refusal;
+use records::merge::Turn;
+ghost use mathlib.Core.Path.{_≡_};
+ghost use Prim.Native.Nat.{_≤_};
+ghost use lib.ListN.{length};
+
+// Numbers read from the text: how many, and the place after them.
+pub struct Numbers {
+    pub count: usize,
+    pub next: usize,
+}
+
+// Room for a buffer.
+pub fn buffer_space() -> [u8; 4096]
+    ensures { λ r. ⌜ 4096 ≡ length r ⌝ }
+{
+    [0; 4096]
+}
+
+// Room for cuts, and for hints.
+pub fn numbers_space() -> [u64; 300]
+    ensures { λ r. ⌜ 300 ≡ length r ⌝ }
+{
+    [0; 300]
+}
+
+// Reads a count and so many numbers, as far as there is room.
+pub fn read_numbers(text: &[u8], at: usize, out: &mut [u64]) -> Numbers
+    ensures { λ r. ⌜ r .count ≤ length (now (out .exit)) ⌝ }
+{
+    let many = vectors_text::number_at(text, at);
+    let mut place = many.next;
+    let mut i = 0;
+    while i < out.len() {
+        if many.value <= i as u64 {
+            return Numbers {
+                count: i,
+                next: place,
+            };
+        }
+        let one = vectors_text::number_at(text, place);
+        out[i] = one.value;
+        place = one.next;
+        i += 1;
+    }
+    Numbers {
+        count: i,
+        next: place,
+    }
+}
+
+pub fn print_number(n: u64) {
+    io::write_all(1, b" ");
+    io::print_decimal(1, n);
+}
+
+fn print_record(stream: u64, place: u64, length: u64, kind: u64, instrument: u64, time: u64) {
+    io::write_all(1, b"record");
+    print_number(stream);
+    print_number(place);
+    print_number(length);
+    print_number(kind);
+    print_number(instrument);
+    print_number(time);
+    io::write_all(1, b"\n");
+}
+
+// Prints a refusal's number, and of damage stream, place and reason.
+pub fn print_refusal(refusal: Refusal) {
+    io::print_decimal(1, leaves::refusal::number(refusal) as u64);
+    if let Refusal::Damaged {
+        stream,
+        place,
+        reason,
+    } = refusal {
+        print_number(stream);
+        print_number(place);
+        print_number(reason);
+    }
+    io::write_all(1, b"\n");
+}
+
+// Prints an answer, and answers whether it is the end.
+pub fn print_turn(answer: Turn) -> bool {
+    match answer {
+        Turn::Record {
+            stream,
+            place,
+            length,
+            kind,
+            instrument,
+            time,
+        } => {
+            print_record(
+                stream,
+                place,
+                length as u64,
+                kind as u64,
+                instrument as u64,
+                time,
+            );
+            false
+        }
+        Turn::End => {
+            io::write_all(1, b"end\n");
+            true
+        }
+        Turn::Refused(refusal) => {
+            print_refusal(refusal);
+            false
+        }
+    }
+}
