@@ -11,7 +11,9 @@ reached-requires : tie.Need-reached-requires
 reached-requires c κs = search needs
 
 started-requires : tie.Need-started-requires
-started-requires c κs = (placed (c .before .before .before .before .pre) (c .before .before .beginning .ensures .1) (c .before .reached .ensures .1) (c .before .reached .ensures .0), search needs)
+started-requires c κs =
+    let r = c .before .reached .ensures in
+    (placed (c .before .before .before .before .pre) (c .before .before .beginning .ensures .1) (r .1) (r .0), search needs)
 
 not-started-requires : tie.Need-not-started-requires
 not-started-requires c κs = search needs
@@ -22,8 +24,8 @@ returns c = c .started .ensures
 returns-2 : tie.Need-returns-2
 returns-2 c =
     let d = c .before .before in
-    c .not-started .ensures _ _ (placed (d .before .before .before .pre) (d .before .beginning .ensures .1) (d .reached .ensures .1) (d .reached .ensures .0))
-    (c .before .if1 .left)
+    let r = d .reached .ensures in
+    c .not-started .ensures _ _ (placed (d .before .before .before .pre) (d .before .beginning .ensures .1) (r .1) (r .0)) (c .before .if1 .left)
 
 pub explain-checked-spec : {M : Type 1} → statement M
 explain-checked-spec =
