@@ -223,6 +223,38 @@ static void comparisons(uint64_t steps, size_t (*way)(void)) {
     }
 }
 
+/* ---- Why there is a symbol, or none: questions at random, each asked in one of three ways. */
+
+static uint32_t explain(uint32_t instrument, uint64_t moment) {
+    uint64_t index, start, end, next_start, next_end;
+    uint32_t reason, number, next_number;
+    if (desk_explain(table, table_len, used, NAMES, instrument, moment, &reason, &index, &start, &end, &number, &next_start, &next_end,
+                     &next_number) != DESK_DONE)
+        stop("an explanation was refused");
+    return reason == DESK_IN ? number : DESK_NOTHING;
+}
+
+/* The check that an explanation can't do without, and no reason. */
+static uint32_t check_once(uint32_t instrument, uint64_t moment) {
+    (void)instrument, (void)moment;
+    if (desk_check(table, table_len, used, NAMES) != DESK_DONE) stop("a check was refused");
+    return 0;
+}
+
+/* The symbol alone, of a table that is not checked, with no hint. */
+static uint32_t look_once(uint32_t instrument, uint64_t moment) {
+    uint64_t hint = UINT64_MAX;
+    return look(table, instrument, moment, &hint);
+}
+
+static void explanations(uint64_t steps, uint32_t (*way)(uint32_t, uint64_t)) {
+    lay_table(3125, 16, 0);
+    for (uint64_t i = 0; i < steps; i++) {
+        uint32_t which = instrument(draw(3125));
+        digest = digest * 31 + way(which, draw(16 * SPACING));
+    }
+}
+
 /* ---- The record merge. */
 
 static uint8_t *buffer, marks[DESK_STREAMS], heap[DESK_STREAMS];
@@ -407,6 +439,9 @@ int main(int words, char **word) {
     else if (!strcmp(row, "compare")) comparisons(steps, compare);
     else if (!strcmp(row, "compare-checks")) comparisons(steps, check_both);
     else if (!strcmp(row, "compare-lookups")) comparisons(steps, compare_by_lookups);
+    else if (!strcmp(row, "explain")) explanations(steps, explain);
+    else if (!strcmp(row, "explain-check")) explanations(steps, check_once);
+    else if (!strcmp(row, "explain-lookup")) explanations(steps, look_once);
     else if (!strcmp(row, "merge-4") || !strcmp(row, "ready-4")) records(steps, 200000, 4);
     else if (!strcmp(row, "merge-16") || !strcmp(row, "ready-16")) records(steps, 200000, 16);
     else if (!strcmp(row, "merge-256") || !strcmp(row, "ready-256")) records(steps, 200000, 256);

@@ -237,6 +237,27 @@ static void compare(int itself) {
     put_bytes(stretches, list_len);
 }
 
+/* Why there is a symbol, or none; the numbers lent for the answer hold one number before. */
+static void explain(void) {
+    size_t len;
+    const uint8_t *table = bytes(&len);
+    size_t used = number(), names = number();
+    uint32_t instrument = (uint32_t)number();
+    uint64_t moment = number(), held = number();
+    uint32_t reason = (uint32_t)held, symbol = (uint32_t)held, next_symbol = (uint32_t)held;
+    uint64_t index = held, start = held, end = held, next_start = held, next_end = held;
+    put_number(desk_explain(table, len, used, names, instrument, moment, &reason, &index, &start, &end, &symbol, &next_start,
+                            &next_end, &next_symbol));
+    put_number(reason);
+    put_number(index);
+    put_number(start);
+    put_number(end);
+    put_number(symbol);
+    put_number(next_start);
+    put_number(next_end);
+    put_number(next_symbol);
+}
+
 static void get_point(void) {
     size_t len;
     const uint8_t *table = bytes(&len);
@@ -739,6 +760,7 @@ static void answer_case(void) {
     else if (is(kind, len, "get_for_ts")) get_for_ts();
     else if (is(kind, len, "compare")) compare(0);
     else if (is(kind, len, "compare_self")) compare(1);
+    else if (is(kind, len, "explain")) explain();
     else if (is(kind, len, "check_point")) check(desk_check_points);
     else if (is(kind, len, "get_point")) get_point();
     else if (is(kind, len, "naming")) naming();

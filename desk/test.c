@@ -23,10 +23,10 @@ enum { SYMBOLS, PARTIAL, NOT_FOUND, MAPPINGS, INTERVALS, LISTS }; /* of a metada
 enum { LIST_ROOM = 24 };                                          /* words of each */
 
 static struct desk {
-    uint64_t hint, moment, reason, stream, place, time;
+    uint64_t hint, moment, reason, stream, place, time, index, from, to, next_from, next_to;
     uint64_t times[DESK_STREAMS + 1], places[DESK_STREAMS + 1], heads[DESK_STREAMS + 1];
     size_t used, points_used, names, name_bytes, first, end, streams, held, count;
-    uint32_t found, symbol, day, date, value, instrument;
+    uint32_t found, symbol, day, date, value, instrument, told, next_symbol;
     uint32_t ends[NAMES + 1];
     uint16_t length, kind;
     uint8_t table[(ROOM + 1) * DESK_INTERVAL_BYTES], points[(POINTS + 1) * DESK_POINT_BYTES], bytes[NAME_ROOM + 1];
@@ -208,6 +208,65 @@ static void test_compare(void) {
     REFUSES(DESK_ILL_FORMED, desk_compare(d.table, whole, 2, d.other, whole, 1, 2, d.stretches, 0, &d.count));
     REFUSES(DESK_ILL_FORMED, compare(3, 1, 3));
     REFUSES(DESK_ILL_FORMED, compare(2, 2, 0));
+}
+
+/* ---- Why there is a symbol, or none: d.table, 3 names. */
+
+static uint32_t explain(size_t used, uint32_t instrument, uint64_t moment) {
+    return desk_explain(d.table, whole, used, 3, instrument, moment, &d.told, &d.index, &d.from, &d.to, &d.symbol, &d.next_from, &d.next_to,
+                        &d.next_symbol);
+}
+
+/* What the call told, and the interval that it named. */
+static int tells(uint32_t told, uint64_t index, uint64_t from, uint64_t to, uint32_t symbol) {
+    return d.told == told && d.index == index && d.from == from && d.to == to && d.symbol == symbol;
+}
+
+static int tells_next(uint64_t from, uint64_t to, uint32_t symbol) {
+    return d.next_from == from && d.next_to == to && d.next_symbol == symbol;
+}
+
+static void test_explain(void) {
+    begin();
+    DONE(explain(0, 7, 15));
+    IS(tells(DESK_UNKNOWN, 0, 0, 0, 0) && tells_next(0, 0, 0));
+    DONE(desk_explain(d.table, 0, 0, 0, 7, 15, &d.told, &d.index, &d.from, &d.to, &d.symbol, &d.next_from, &d.next_to, &d.next_symbol));
+    IS(tells(DESK_UNKNOWN, 0, 0, 0, 0) && tells_next(0, 0, 0));
+    put_interval(d.table, 0, 1, 2, 5, 9);
+    put_interval(d.table, 1, 7, 0, 10, 20);
+    put_interval(d.table, 2, 7, 1, 20, 30);
+    put_interval(d.table, 3, 7, 0, 40, UINT64_MAX);
+    DONE(explain(4, 7, 9));
+    IS(tells(DESK_BEFORE, 0, 10, 20, 0) && tells_next(0, 0, 0));
+    DONE(explain(4, 7, 10));
+    IS(tells(DESK_IN, 0, 10, 20, 0) && tells_next(0, 0, 0));
+    DONE(explain(4, 7, 20));
+    IS(tells(DESK_IN, 1, 20, 30, 1) && tells_next(0, 0, 0));
+    DONE(explain(4, 7, 35));
+    IS(tells(DESK_BETWEEN, 1, 20, 30, 1) && tells_next(40, UINT64_MAX, 0));
+    DONE(explain(4, 7, UINT64_MAX));
+    IS(tells(DESK_AFTER, 2, 40, UINT64_MAX, 0) && tells_next(0, 0, 0));
+    DONE(explain(3, 7, 35)); /* what is past the number in use is not seen */
+    IS(tells(DESK_AFTER, 1, 20, 30, 1) && tells_next(0, 0, 0));
+    DONE(explain(4, 1, 9)); /* the neighbour is another instrument's */
+    IS(tells(DESK_AFTER, 0, 5, 9, 2) && tells_next(0, 0, 0));
+    DONE(explain(4, 4294967295u, 9));
+    IS(tells(DESK_UNKNOWN, 0, 0, 0, 0) && tells_next(0, 0, 0));
+    DONE(explain(4, 0, 0));
+    IS(tells(DESK_UNKNOWN, 0, 0, 0, 0));
+    memset(&d.told, 0xA5, sizeof d.told);
+    d.index = d.from = d.to = d.next_from = d.next_to = 77;
+    d.symbol = d.next_symbol = 77;
+    REFUSES(DESK_BAD_MEMORY, explain(ROOM + 1, 7, 15));
+    REFUSES(DESK_BAD_MEMORY, explain(SIZE_MAX, 7, 15));
+    REFUSES(DESK_BAD_MEMORY, desk_explain(d.table, whole - 1, 4, 3, 7, 15, &d.told, &d.index, &d.from, &d.to, &d.symbol, &d.next_from,
+                                          &d.next_to, &d.next_symbol));
+    REFUSES(DESK_BAD_MEMORY, desk_explain(d.table, whole, 4, DESK_NAMES + 1, 7, 15, &d.told, &d.index, &d.from, &d.to, &d.symbol,
+                                          &d.next_from, &d.next_to, &d.next_symbol));
+    REFUSES(DESK_ILL_FORMED, desk_explain(d.table, whole, 4, 2, 9, 15, &d.told, &d.index, &d.from, &d.to, &d.symbol, &d.next_from,
+                                          &d.next_to, &d.next_symbol));
+    put_interval(d.table, 3, 7, 1, 30, 40);
+    REFUSES(DESK_ILL_FORMED, explain(4, 9, 15));
 }
 
 static int finds(uint32_t instrument, uint64_t moment, uint64_t hint, uint32_t found, uint32_t symbol, uint64_t new_hint) {
@@ -967,8 +1026,9 @@ static struct {
 static void note(void) {
     uint64_t n = UINT64_C(0x0101010101010101) * pattern;
     d.hint = d.moment = d.reason = d.stream = d.place = d.time = n;
+    d.index = d.from = d.to = d.next_from = d.next_to = n;
     d.streams = d.first = d.end = (size_t)n;
-    d.found = d.symbol = d.day = d.date = d.value = d.instrument = d.field = (uint32_t)n;
+    d.found = d.symbol = d.day = d.date = d.value = d.instrument = d.field = d.told = d.next_symbol = (uint32_t)n;
     d.length = d.kind = (uint16_t)n;
     was = d;
     memcpy(only_read.record, record, sizeof record);
@@ -1049,6 +1109,46 @@ static void after_get_for_ts(void) {
     put_interval(d.table, 1, 1, 6, 15, 40); /* overlaps: 14 from the check, and the three say nothing */
     AFTER(DESK_DONE, look(whole, 1, 30), was.found = d.found, was.symbol = d.symbol, was.hint = d.hint);
     ANSWERED(DESK_DONE, DESK_BAD_MEMORY);
+}
+
+/* An explanation beside a lookup with a hint of 9: a symbol exactly where it is in an interval, and the new hint. */
+static void explained_as_looked(size_t used, uint32_t instrument, uint64_t moment) {
+    uint64_t hint = 9;
+    uint32_t found, symbol;
+    DONE(explain(used, instrument, moment));
+    DONE(desk_get_for_ts(d.table, whole, used, instrument, moment, &hint, &found, &symbol));
+    IS((found == 1) == (d.told == DESK_IN) && (found == 0 || symbol == d.symbol));
+    IS(hint == (d.told == DESK_UNKNOWN || d.told == DESK_BEFORE ? 9 : d.index));
+}
+
+/* The eight numbers of an answer that names one interval. */
+static void telling(uint32_t told, uint64_t index, uint64_t from, uint64_t to, uint32_t symbol) {
+    was.told = told;
+    was.index = index;
+    was.from = from;
+    was.to = to;
+    was.symbol = symbol;
+    was.next_from = was.next_to = 0;
+    was.next_symbol = 0;
+}
+
+static void after_explain(void) {
+    begin();
+    put_interval(d.table, 0, 7, 2, 10, 20);
+    put_interval(d.table, 1, 7, 1, 30, 40);
+    for (uint64_t moment = 0; moment < 50; moment++) explained_as_looked(2, 7, moment), explained_as_looked(2, 8, moment);
+    begin();
+    put_interval(d.table, 0, 7, 2, 10, 20);
+    put_interval(d.table, 1, 7, 1, 30, 40);
+    AFTER(DESK_DONE, explain(2, 7, 25), telling(DESK_BETWEEN, 0, 10, 20, 2), was.next_from = 30, was.next_to = 40, was.next_symbol = 1);
+    AFTER(DESK_DONE, explain(2, 7, 15), telling(DESK_IN, 0, 10, 20, 2));
+    AFTER(DESK_DONE, explain(2, 7, 5), telling(DESK_BEFORE, 0, 10, 20, 2));
+    AFTER(DESK_DONE, explain(2, 7, 40), telling(DESK_AFTER, 1, 30, 40, 1));
+    AFTER(DESK_DONE, explain(2, 8, 40), telling(DESK_UNKNOWN, 0, 0, 0, 0));
+    AFTER(DESK_BAD_MEMORY, explain(ROOM + 1, 7, 25), ALL_AS_BEFORE);
+    put_interval(d.table, 1, 7, 3, 30, 40);
+    AFTER(DESK_ILL_FORMED, explain(2, 7, 25), ALL_AS_BEFORE);
+    ANSWERED(DESK_DONE, DESK_BAD_MEMORY, DESK_ILL_FORMED);
 }
 
 /* A name has joined the list. */
@@ -1490,6 +1590,7 @@ static void test_afterwards(void) {
         after_check();
         after_insert();
         after_get_for_ts();
+        after_explain();
         after_on_record();
         after_check_points();
         after_get_point();
@@ -1519,6 +1620,7 @@ int main(void) {
     test_limits();
     test_insert();
     test_compare();
+    test_explain();
     test_get_for_ts();
     test_names();
     test_mapping_calls();

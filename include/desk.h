@@ -84,6 +84,15 @@ enum desk_reason {
     DESK_SHORT_BODY = 4         /* a symbol mapping with a body under 16 bytes */
 };
 
+/* What desk_explain tells of an instrument and a moment. */
+enum desk_explained {
+    DESK_IN = 1,                /* in an interval: there is a symbol */
+    DESK_UNKNOWN = 2,           /* the table has no interval of the instrument */
+    DESK_BEFORE = 3,            /* before its first interval */
+    DESK_AFTER = 4,             /* after its last */
+    DESK_BETWEEN = 5            /* in the gap between two neighbours */
+};
+
 /* ---- The map over time. A table is bytes, 24 an interval, of which `used` intervals from the front are in use. */
 
 /* Is the table well-formed? Sorted by instrument; for each instrument the intervals are non-empty, sorted by start, disjoint,
@@ -123,6 +132,17 @@ uint32_t desk_on_record(uint8_t *table, size_t table_len, size_t *used, uint8_t 
  * table; 2, judged on the whole list: room for DESK_STRETCHES(left_used, right_used) always suffices. */
 uint32_t desk_compare(const uint8_t *left, size_t left_len, size_t left_used, const uint8_t *right, size_t right_len,
                       size_t right_used, size_t names, uint8_t *stretches, size_t stretches_len, size_t *count);
+
+/* Why the instrument has a symbol at the moment, or none. 0, 15, 14: unlike a lookup it checks the table, which is linear in `used`;
+ * the rest is logarithmic.
+ * After 0: *reason is one of enum desk_explained. *index, *start, *end and *symbol are of the interval that it is in, the first, the
+ * last, or the gap's left neighbour, as stored, *index counted from 0 within the instrument, as hints count; *next_start, *next_end
+ * and *next_symbol are of the gap's right neighbour, whose index is one more. What a reason does not name is 0. desk_get_for_ts finds
+ * a symbol exactly where *reason is DESK_IN, and it is *symbol; its new hint is *index, but with DESK_UNKNOWN and DESK_BEFORE it
+ * stays. After any other answer: all as before. */
+uint32_t desk_explain(const uint8_t *table, size_t table_len, size_t used, size_t names, uint32_t instrument, uint64_t moment,
+                      uint32_t *reason, uint64_t *index, uint64_t *start, uint64_t *end, uint32_t *symbol,
+                      uint64_t *next_start, uint64_t *next_end, uint32_t *next_symbol);
 
 /* ---- The point-in-time table: bytes, 8 an entry, of which `used` entries from the front are in use. */
 

@@ -247,6 +247,16 @@ def comparison(case, *tables):
     return words(answer, count, stretches)
 
 
+def explain(case):
+    table, used, names, instrument, moment, held = case.bytes(), *(case.number() for _ in range(5))
+    answer, new = answer_of(lambda: model.explain(table, used, names, instrument, moment))
+    if new is None:
+        return words(answer, (held,) * 8)
+    reason, *intervals = new
+    first, second = [*intervals, (0,) * 4, (0,) * 4][:2]
+    return words(answer, model.REASONS[reason], first, second[1:])
+
+
 def check_point(case):
     return words(answer_of(lambda: model.check_point(case.bytes(), case.number(), case.number()))[0])
 
@@ -318,6 +328,10 @@ def compare_program(case):
     return words(model.compare_program(case.bytes()).encode())
 
 
+def explain_program(case):
+    return words(model.explain_program(case.bytes()).encode())
+
+
 KINDS = {
     "map": map_,
     "mappings": mappings,
@@ -335,6 +349,7 @@ KINDS = {
     "get_for_ts": get_for_ts,
     "compare": compare,
     "compare_self": compare_self,
+    "explain": explain,
     "check_point": check_point,
     "get_point": get_point,
     "naming": naming,
@@ -349,6 +364,7 @@ KINDS = {
     "plain": plain,
     "replay": replay,
     "compare_program": compare_program,
+    "explain_program": explain_program,
 }
 
 

@@ -150,6 +150,17 @@ def compare_case(rng, faults):
     return words("compare", *table_of(rng, left, faults / 2), *table_of(rng, right, faults / 2), *given)
 
 
+def explain_case(rng, faults):
+    """A question about a table, mostly at a start or an end of one of its intervals, or a moment beside it."""
+    names = rng.choice([0, *[3] * 12, 4096, 4097])
+    rows = any_rows(rng, min(names, 3))
+    near = [point + step for row in rows for point in row[1:3] for step in (-1, 0, 1)]
+    moment = rng.choice([point for point in near if 0 <= point <= TOP] + [0, rng.randrange(10), TOP])
+    known = rng.randrange(3) if rng.random() < faults / 2 else names
+    asked = rng.choice([0, 1, 2, 3, 300, 2**32 - 1]), moment, rng.randrange(9)
+    return words("explain", *table_of(rng, rows, faults), known, *asked)
+
+
 def point_case(rng, faults):
     names = rng.choice([0, *[3] * 12, 4097])
     table, used = any_points(rng, min(names, 3), faults)
@@ -231,12 +242,23 @@ def short_comparisons(moments):
         yield words("compare", *left, *right, 2, bytes(28 * 2 * (left[1] + right[1])), 0)
 
 
+def short_questions(moments):
+    """Every moment of all tables of one instrument over so many moments and two symbols, another's beside it or not."""
+    for given in product((None, 0, 1), repeat=moments):
+        runs = model.runs([(m, m + 1, s) for m, s in enumerate(given) if s is not None])
+        for others in ([], [1, 3]):
+            rows = sorted([(2, *run) for run in runs] + [(other, 0, moments, 0) for other in others])
+            for moment in range(moments + 1):
+                yield words("explain", model.laid(b"", 0, rows), len(rows), 2, 2, moment, 9)
+
+
 def over_limits():
     """Memory at a limit and one over it."""
     for places in (model.ROOM, model.ROOM + 1):
         yield words("check", bytes(24 * places), 0, 0)
         yield words("compare", bytes(24 * places), 0, b"", 0, 0, b"", 0)
         yield words("compare", b"", 0, bytes(24 * places), 0, 0, b"", 0)
+        yield words("explain", bytes(24 * places), 0, 0, 7, 5, 9)
         yield words("check_point", bytes(8 * places), 0, 0)
         yield words("naming", NameList(bytes(places), [0], 0, 0), b"A")
     for places in (model.NAMES, model.NAMES + 1):
@@ -250,7 +272,9 @@ def over_limits():
 def cases(rng, long):
     yield from over_limits()
     yield from short_comparisons(5 if long else 3)
-    parts = [name_case, table_case, point_case, record_case, build_case, metadata_case, stream_case, compare_case]
+    yield from short_questions(7 if long else 5)
+    parts = [name_case, table_case, point_case, record_case, build_case, metadata_case, stream_case]
+    parts += [compare_case, explain_case]
     for faults in (0, 0.3):
         for part in parts:
             for _ in range(20_000 if long else 2_000):

@@ -295,6 +295,35 @@ def compare(left, left_used, right, right_used, names, stretches):
     return written + stretches[len(written) :], len(found)
 
 
+# Why there is a symbol, or none (RULES, Requests, No. 4). A named interval is (index within the instrument, start, end,
+# symbol).
+
+IN, UNKNOWN, BEFORE, AFTER, BETWEEN = "in", "unknown", "before", "after", "between"
+REASONS = {IN: 1, UNKNOWN: 2, BEFORE: 3, AFTER: 4, BETWEEN: 5}
+
+
+def explained(rows, instrument, moment):
+    """The reason, then the intervals that it names."""
+    own = [row[1:] for row in rows if row[0] == instrument]
+    own = [(index, *interval) for index, interval in enumerate(own)]
+    if not own:
+        return (UNKNOWN,)
+    first, last = own[0], own[-1]
+    if moment < first[1]:
+        return BEFORE, first
+    if last[2] <= moment:
+        return AFTER, last
+    for interval in own:
+        if interval[1] <= moment < interval[2]:
+            return IN, interval
+    return BETWEEN, *next((a, b) for a, b in zip(own, own[1:]) if a[2] <= moment < b[1])
+
+
+def explain(table, used, names, instrument, moment):
+    check(table, used, names)
+    return explained(rows_of(table, used), instrument, moment)
+
+
 # The point-in-time table. An entry is (instrument, symbol).
 
 ENTRY = Struct("<II")
@@ -754,3 +783,25 @@ def compare_program(bundle):
         return f"refused {refused.answer[0]}\n"
     lines = (["-" if word is None else str(word) for word in stretch] for stretch in stretches)
     return "".join(" ".join(line) + "\n" for line in lines) + "end\n"
+
+
+QUESTION = Struct("<IQ")  # instrument, moment
+
+
+def explain_program(bundle):
+    """All that the explain program prints: a name count of 4 bytes, kind 2, a table, kind 3, then questions, kind 4."""
+    found = sections(bundle)
+    if found is None or [kind for kind, _ in found] != [2, 3, 4] or len(found[0][1]) != 4 or len(bundle) > 2_359_318:
+        return "bad bundle\n"
+    names, table, questions = (content for _, content in found)
+    if len(questions) % QUESTION.size or len(questions) > 65_536 * QUESTION.size:
+        return "bad bundle\n"
+    lines = []
+    for instrument, moment in QUESTION.iter_unpack(questions):
+        try:
+            asked = table, len(table) // 24, int.from_bytes(names, "little"), instrument, moment
+            reason, *intervals = explain(*asked)
+        except Refused as refused:
+            reason, intervals = "refused", [refused.answer]
+        lines.append([instrument, moment, reason, *(word for interval in intervals for word in interval)])
+    return "".join(" ".join(map(str, line)) + "\n" for line in lines)

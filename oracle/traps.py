@@ -1,5 +1,5 @@
 #!/usr/bin/env python3
-"""The printed examples M1 to M12 of the rules and the traps B1 to B45 (docs/TRAPS.md), as cases with their answers.
+"""The printed examples M1 to M12 of the rules and the traps of docs/TRAPS.md, as cases with their answers.
 
 traps.py checks the model on them, and exits with 1 where an answer is another. traps.py cases, traps.py answers print
 them for another program.
@@ -61,6 +61,21 @@ def not_comparing(left, right, number, room=8, names=3, more=b""):
     tables = table(len(left), *left), len(left), table(len(right), *right), len(right)
     lent = stretches(room) + more
     return words("compare", *tables, names, lent, 77), words(number, 77, lent)
+
+
+def explaining(rows, instrument, moment, reason, *named, names=3, room=None, used=None):
+    """Why there is a symbol, or none, in a table with these rows: a reason and the intervals that it names."""
+    index, start, end, symbol = named[0] if named else (0, 0, 0, 0)
+    told = (reason, index, start, end, symbol, *(named[1][1:] if len(named) > 1 else (0, 0, 0)))
+    lent = table(len(rows) if room is None else room, *rows)
+    return words("explain", lent, len(rows) if used is None else used, names, instrument, moment, 77), words(0, told)
+
+
+def not_explaining(rows, instrument, moment, number, names=3, used=None):
+    """The same refused: what is lent for the answer stays."""
+    used = len(rows) if used is None else used
+    asked = words("explain", table(len(rows), *rows), used, names, instrument, moment, 77)
+    return asked, words(number, (77,) * 8)
 
 
 def section(kind, content):
@@ -486,9 +501,76 @@ def compare_program_traps():
         yield "T program", (words("compare_program", bundle), words(text.encode() + b"\n"))
 
 
+def explain_traps():
+    """Why there is a symbol, or none (RULES, Requests, No. 4)."""
+    inside, unknown, before, after, between = 1, 2, 3, 4, 5
+
+    def on(*rows, instrument=7):
+        return [(instrument, *row) for row in rows]
+
+    least, greatest = 0, 2**32 - 1
+    yield "E1", explaining([], 7, 5, unknown)
+    a, b = (0, 10, 20, A), (1, 30, 40, B)
+    one, two = on((10, 20, A)), on((10, 20, A), (30, 40, B))
+    yield "E2", explaining(one, 7, 9, before, a)
+    yield "E2", explaining(one, 7, 10, inside, a)
+    yield "E2", explaining(one, 7, 19, inside, a)
+    yield "E2", explaining(one, 7, 20, after, a)
+    yield "E3", explaining(on((10, 20, A), (20, 30, B)), 7, 20, inside, (1, 20, 30, B))
+    yield "E4", explaining(two, 7, 20, between, a, b)
+    yield "E4", explaining(two, 7, 29, between, a, b)
+    yield "E4", explaining(two, 7, 30, inside, b)
+    apart = [(1, 10, 20, A), (3, 5, 8, B)]
+    yield "E5", explaining(apart, 2, 15, unknown)
+    yield "E5", explaining(apart, 1, 25, after, a)
+    yield "E5", explaining(apart, 3, 4, before, (0, 5, 8, B))
+    yield "E5", explaining(apart, 3, 5, inside, (0, 5, 8, B))
+    yield "E6", explaining(on((0, TOP, A)), 7, TOP, after, (0, 0, TOP, A))
+    yield "E7", explaining(on((0, 5, A)), 7, 0, inside, (0, 0, 5, A))
+    yield "E8", not_explaining(on((5, 5, A)), 9, 5, 14)
+    yield "E8", not_explaining(on((10, 20, 3)), 7, 15, 14)
+    yield "E8", not_explaining(one, 7, 15, 15, used=2)
+    yield "E8", not_explaining(one, 7, 15, 15, names=4097)
+    yield "E9", explaining(two, least, 15, unknown)
+    yield "E9", explaining(two, greatest, 15, unknown)
+    yield "E10", explaining(two, 7, 25, after, a, used=1)
+    yield "E11", explaining(on((10, 20, 0)), 7, 15, inside, (0, 10, 20, 0))
+    yield "E11", finding(on((10, 20, 0)), 7, 15, 0, 0, 0)
+    yield "E12", explaining(on((10, 20, A), (30, 40, A)), 7, 25, between, a, (1, 30, 40, A))
+    three = on((10, 20, A), (20, 30, B), (40, 50, C))
+    yield "E13", explaining(three, 7, 35, between, (1, 20, 30, B), (2, 40, 50, C))
+    yield "E14", explaining([(greatest, 10, 20, A)], greatest, 25, after, a)
+    yield "E14", explaining([(greatest, 10, 20, A)], greatest - 1, 5, unknown)
+    yield "E15", explaining(one, 9, 15, unknown)  # what was lent held 77; E8 has the refusals
+
+
+def explain_program_traps():
+    """The same by the program: a name count, a table and questions, a section each."""
+
+    def asked(*questions):
+        return section(4, b"".join(model.QUESTION.pack(*question) for question in questions))
+
+    count, one = section(2, b"\3\0\0\0"), section(3, table(1, (7, 10, 20, A)))
+    two, ill = section(3, table(2, (7, 10, 20, A), (7, 30, 40, B))), section(3, table(1, (7, 5, 5, A)))
+    printed = [(count + one + asked((7, 15), (7, 15)), "7 15 in 0 10 20 0\n" * 2), (count + one + asked(), "")]
+    all_five = "7 15 in 0 10 20 0\n7 5 before 0 10 20 0\n7 25 between 0 10 20 0 1 30 40 1\n"
+    all_five += "7 40 after 1 30 40 1\n9 5 unknown\n"
+    printed.append((count + two + asked((7, 15), (7, 5), (7, 25), (7, 40), (9, 5)), all_five))
+    printed.append((count + ill + asked((7, 15), (9, 5)), "7 15 refused 14\n9 5 refused 14\n"))
+    printed.append((count + section(3, bytes(25)) + asked((7, 15)), "7 15 refused 15\n"))
+    printed.append((section(2, b"\1\x10\0\0") + one + asked((7, 15)), "7 15 refused 15\n"))
+    printed.append((section(2, bytes(4)) + one + asked((7, 15)), "7 15 refused 14\n"))
+    bad = [b"", count + one, one + count + asked(), count + one + asked() * 2, count + one + asked() + b"\0"]
+    bad += [count + one + section(4, bytes(13)), section(2, b"\3\0\0") + one + asked(), count + one + section(3, b"")]
+    printed += [(bundle, "bad bundle\n") for bundle in bad]
+    for bundle, text in printed:
+        yield "E16", (words("explain_program", bundle), words(text.encode()))
+
+
 def traps():
     base = [examples, map_traps, name_traps, record_traps, build_traps, metadata_traps, merge_traps]
-    for part in (*base, complaint_traps, plain_traps, compare_traps, compare_program_traps):
+    requests = [complaint_traps, plain_traps, compare_traps, compare_program_traps, explain_traps, explain_program_traps]
+    for part in (*base, *requests):
         yield from part()
 
 

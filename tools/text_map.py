@@ -4,6 +4,8 @@
 instrument is a number text. A time is digits (nanoseconds since the start of 1970-01-01), or an ISO 8601 date or
 date-time in UTC. In a name `\\xHH` stands for a byte, and `""` alone is the empty name. Intervals that overlap are
 inserted in order: the latest decides, and touching ones with the same symbol are joined.
+
+Questions are written in the same way, one a line: instrument, moment.
 """
 
 import re
@@ -16,7 +18,10 @@ INSTRUMENT_TOP, TOP = 2**32 - 1, 2**64 - 1
 SECOND, MINUTE, HOUR, DAY = 10**9, 60 * 10**9, 3_600 * 10**9, 86_400 * 10**9
 EPOCH = date(1970, 1, 1)
 PLACE = Struct("<IIQQ")  # an interval of a table: instrument, symbol, start, end
+QUESTION = Struct("<IQ")  # instrument, moment
+QUESTIONS = 65_536  # RULES, Requests, No. 4
 FIELDS = "instrument, start, end, symbol"
+QUESTION_FIELDS = "instrument, moment"
 
 COMMENT = re.compile(rb"(?:^|[ \t])#.*", re.DOTALL)
 NUMBER = re.compile(rb"\+?([0-9]+)")
@@ -164,14 +169,21 @@ def name_of(word):
     return name
 
 
-def put_line(line, map_, names):
-    """Inserts what a line of a map says, if it says anything."""
+def words_of(line, fields):
+    """The words of a line that says so many fields, or none where it says nothing."""
     words = COMMENT.sub(b"", line, count=1).replace(b"\t", b" ").split(b" ")
     words = [word for word in words if word]
+    due = len(fields.split(", "))
+    if words and len(words) != due:
+        raise BadLine(f"{due} fields are due ({fields}) and {len(words)} are there")
+    return words
+
+
+def put_line(line, map_, names):
+    """Inserts what a line of a map says, if it says anything."""
+    words = words_of(line, FIELDS)
     if not words:
         return
-    if len(words) != 4:
-        raise BadLine(f"4 fields are due ({FIELDS}) and {len(words)} are there")
     instrument, start, end, name = instrument_of(words[0]), moment_of(words[1]), moment_of(words[2]), name_of(words[3])
     if start > end:
         raise BadLine("start comes after end")
@@ -180,18 +192,41 @@ def put_line(line, map_, names):
         names.join(name)
 
 
+def put_question(line, questions):
+    """Adds what a line of questions asks, if it asks anything."""
+    words = words_of(line, QUESTION_FIELDS)
+    if not words:
+        return
+    question = instrument_of(words[0]), moment_of(words[1])
+    if len(questions) == QUESTIONS:
+        raise BadLine(f"over {QUESTIONS:,} questions")
+    questions.append(question)
+
+
+def each_line(file, put):
+    """Hands each line of a file over; answers the bad ones: (number, reason) each."""
+    bad = []
+    for number, line in enumerate(file, 1):
+        line = line[:-1] if line.endswith(b"\n") else line
+        line = line[:-1] if line.endswith(b"\r") else line
+        try:
+            put(line)
+        except BadLine as reason:
+            bad.append((number, str(reason)))
+    return bad
+
+
 def read(path, names):
-    """The map of a file, whose names join the given ones, and its bad lines: (number, reason) each."""
-    map_, bad = TextMap(), []
+    """The map of a file, whose names join the given ones, and its bad lines."""
+    map_ = TextMap()
     with open(path, "rb") as file:
-        for number, line in enumerate(file, 1):
-            line = line[:-1] if line.endswith(b"\n") else line
-            line = line[:-1] if line.endswith(b"\r") else line
-            try:
-                put_line(line, map_, names)
-            except BadLine as reason:
-                bad.append((number, str(reason)))
-    return map_, bad
+        return map_, each_line(file, lambda line: put_line(line, map_, names))
+
+
+def read_questions(file):
+    """The questions of an open file, and its bad lines."""
+    questions = []
+    return questions, each_line(file, lambda line: put_question(line, questions))
 
 
 def written_moment(moment):

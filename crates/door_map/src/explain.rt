@@ -1,0 +1,140 @@
+// Why there is a symbol in a table over time, or none, at the C door (RULES, Requests, No. 4).
+use door_answers::DONE;
+use leaves::refusal::number;
+use map_explain::explain::Explained;
+use map_explain::explain::Named;
+ghost use mathlib.Core.Path.{_≡_};
+ghost use Rattle.map_explain.specs.Explain.{explainAnswer, explainedOf};
+ghost use Rattle.door_answers.specs.Answers.{numberIn, valueIn};
+ghost use Rattle.door_map.specs.Lent.{oneOf, Holds};
+
+// The reasons' numbers.
+const IN: u32 = 1;
+
+const UNKNOWN: u32 = 2;
+
+const BEFORE: u32 = 3;
+
+const AFTER: u32 = 4;
+
+const BETWEEN: u32 = 5;
+
+// What the lent numbers hold.
+pub struct Numbers {
+    pub reason: u32,
+    pub index: u64,
+    pub start: u64,
+    pub end: u64,
+    pub symbol: u32,
+    pub next_start: u64,
+    pub next_end: u64,
+    pub next_symbol: u32,
+}
+
+// A reason that names one interval.
+fn one(reason: u32, x: Named) -> Numbers
+    ensures { λ r. ⌜ r ≡ oneOf reason x ⌝ }
+{
+    Numbers {
+        reason,
+        index: x.index,
+        start: x.start,
+        end: x.end,
+        symbol: x.symbol,
+        next_start: 0,
+        next_end: 0,
+        next_symbol: 0,
+    }
+}
+
+// The numbers after an explanation: what the reason does not name is 0; a refusal leaves what they held.
+fn told(explained: Explained, held: Numbers) -> Numbers
+    ensures { λ r. ⌜ Holds (explainedOf explained) held r ⌝ }
+{
+    match explained {
+        Explained::In(x) => one(IN, x),
+        Explained::Unknown => Numbers {
+            reason: UNKNOWN,
+            index: 0,
+            start: 0,
+            end: 0,
+            symbol: 0,
+            next_start: 0,
+            next_end: 0,
+            next_symbol: 0,
+        },
+        Explained::Before(x) => one(BEFORE, x),
+        Explained::After(x) => one(AFTER, x),
+        Explained::Between(x, y) => Numbers {
+            reason: BETWEEN,
+            index: x.index,
+            start: x.start,
+            end: x.end,
+            symbol: x.symbol,
+            next_start: y.start,
+            next_end: y.end,
+            next_symbol: y.symbol,
+        },
+        Explained::Refused(_) => held,
+    }
+}
+
+// The number of an explanation: 0, or the refusal's.
+fn number_of(explained: Explained) -> u32
+    ensures { λ r. ⌜ r ≡ numberIn (explainedOf explained) ⌝ }
+{
+    match explained {
+        Explained::Refused(refusal) => number(refusal),
+        _ => DONE,
+    }
+}
+
+// Why the instrument has a symbol at the moment, or none: 0, 15 or 14; the numbers become the reason's and its intervals'.
+#[no_mangle]
+pub extern "C" fn desk_explain(
+    table: &[u8],
+    used: usize,
+    names: usize,
+    instrument: u32,
+    moment: u64,
+    reason: &mut u32,
+    index: &mut u64,
+    start: &mut u64,
+    end: &mut u64,
+    symbol: &mut u32,
+    next_start: &mut u64,
+    next_end: &mut u64,
+    next_symbol: &mut u32,
+) -> u32
+    ensures { λ r. ⌜ r ≡ numberIn (explainAnswer (now (table .entry)) used names instrument moment) ⌝ }
+    ensures { λ _. ⌜ now (reason .exit) ≡ valueIn (now (reason .entry)) 0 (explainAnswer (now (table .entry)) used names instrument moment) ⌝ }
+    ensures { λ _. ⌜ now (index .exit) ≡ valueIn (now (index .entry)) 1 (explainAnswer (now (table .entry)) used names instrument moment) ⌝ }
+    ensures { λ _. ⌜ now (start .exit) ≡ valueIn (now (start .entry)) 2 (explainAnswer (now (table .entry)) used names instrument moment) ⌝ }
+    ensures { λ _. ⌜ now (end .exit) ≡ valueIn (now (end .entry)) 3 (explainAnswer (now (table .entry)) used names instrument moment) ⌝ }
+    ensures { λ _. ⌜ now (symbol .exit) ≡ valueIn (now (symbol .entry)) 4 (explainAnswer (now (table .entry)) used names instrument moment) ⌝ }
+    ensures { λ _. ⌜ now («next_start» .exit) ≡ valueIn (now («next_start» .entry)) 6 (explainAnswer (now (table .entry)) used names instrument moment) ⌝ }
+    ensures { λ _. ⌜ now («next_end» .exit) ≡ valueIn (now («next_end» .entry)) 7 (explainAnswer (now (table .entry)) used names instrument moment) ⌝ }
+    ensures { λ _. ⌜ now («next_symbol» .exit) ≡ valueIn (now («next_symbol» .entry)) 8 (explainAnswer (now (table .entry)) used names instrument moment) ⌝ }
+{
+    let explained = map_explain::explain::explain(table, used, names, instrument, moment);
+    let held = Numbers {
+        reason: *reason,
+        index: *index,
+        start: *start,
+        end: *end,
+        symbol: *symbol,
+        next_start: *next_start,
+        next_end: *next_end,
+        next_symbol: *next_symbol,
+    };
+    let after = told(explained, held);
+    *reason = after.reason;
+    *index = after.index;
+    *start = after.start;
+    *end = after.end;
+    *symbol = after.symbol;
+    *next_start = after.next_start;
+    *next_end = after.next_end;
+    *next_symbol = after.next_symbol;
+    number_of(explained)
+}

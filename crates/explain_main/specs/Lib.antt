@@ -1,0 +1,5 @@
+pub mod Text
+pub mod TextLaws
+pub mod Portions
+pub mod Asked
+pub mod AskedLaws

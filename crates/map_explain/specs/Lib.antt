@@ -1,0 +1,5 @@
+pub mod Reason
+pub mod ReasonLaws
+pub mod Explain
+pub mod ExplainLaws
+pub mod Examples
