@@ -1,6 +1,7 @@
 /* The desk's side of the benchmark: `ours ROW STEPS` lays the row's inputs out, takes so many steps over them through the C door,
  * and prints a digest of the answers, which theirs.rs prints too. With 0 steps only the inputs are laid out. theirs.rs has the same
- * rows, save the comparison's and the plain engine's, and makes the same inputs with the same generator: a change here is a change there. */
+ * rows, save the comparison's and the plain engine's, and makes the same inputs with the same generator: a change here is a change
+ * there. */
 #include <stdint.h>
 #include <stdio.h>
 #include <stdlib.h>

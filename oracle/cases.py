@@ -2,8 +2,8 @@
 """Prints cases, one a line: cases.py PART SIZE [SEED].
 
 PART is `domain` (the rules' equality domain: the Rust and the model agree), `beyond` (outside it: they may not),
-`lent` (lent memory: the model and the port alone) or `plain` (the plain engine: the same two). SIZE is `quick` or `long`. A seed that was not given is drawn, and
-printed on standard error. Exits with 2 for another PART, SIZE or SEED.
+`lent` (lent memory: the model and the port alone) or `plain` (the plain engine: the same two). SIZE is `quick` or `long`.
+A seed that was not given is drawn, and printed on standard error. Exits with 2 for another PART, SIZE or SEED.
 """
 
 import random

@@ -53,7 +53,8 @@ fn turns(
 ) -> Turn
     requires { ⌜ PlainRoom streams (now marks) (now times) (now places) (now heads) ⌝ }
     ensures { λ r. ⌜ (Small streams (now (places .entry)) (now (heads .entry))
-        → PlainSays (streamsOf (now (buffer .entry)) (now (cuts .entry))) streams (now (marks .entry)) (now (times .entry)) (now (places .entry)) (now (heads .entry))
+        → PlainSays (streamsOf (now (buffer .entry)) (now (cuts .entry))) streams
+        (now (marks .entry)) (now (times .entry)) (now (places .entry)) (now (heads .entry))
         (turnOf r) (now (marks .exit)) (now (times .exit)) (now (places .exit)) (now (heads .exit))) ⌝ }
 {
     loop {
@@ -96,7 +97,8 @@ pub fn next(
     places: &mut [u64],
     heads: &mut [u64],
 ) -> Turn
-    ensures { λ r. ⌜ PlainNext (now (buffer .entry)) (now (cuts .entry)) streams (now (marks .entry)) (now (times .entry)) (now (places .entry)) (now (heads .entry))
+    ensures { λ r. ⌜ PlainNext (now (buffer .entry)) (now (cuts .entry)) streams
+        (now (marks .entry)) (now (times .entry)) (now (places .entry)) (now (heads .entry))
         (turnOf r) (now (marks .exit)) (now (times .exit)) (now (places .exit)) (now (heads .exit)) ⌝ }
 {
     if !arrays_fit(
@@ -123,7 +125,8 @@ pub fn open(
     places: &mut [u64],
     heads: &mut [u64],
 ) -> Opening
-    ensures { λ r. ⌜ PlainOpens (now (buffer .entry)) (now (cuts .entry)) (now (hints .entry)) (now (marks .entry)) (now (times .entry)) (now (places .entry)) (now (heads .entry))
+    ensures { λ r. ⌜ PlainOpens (now (buffer .entry)) (now (cuts .entry)) (now (hints .entry))
+        (now (marks .entry)) (now (times .entry)) (now (places .entry)) (now (heads .entry))
         (openingOf r) (now (marks .exit)) (now (times .exit)) (now (places .exit)) (now (heads .exit)) ⌝ }
 {
     let mut heap = empty_bytes();

@@ -23,7 +23,8 @@ pub record Places (held : ℕ) (ms ts cs hs hp : List ℕ) : Type 0 where
   pub heads : length hs ≡ 256
   pub heap : length hp ≡ 256
 
-pub places-right : {held : ℕ} {ms ts cs hs hp : List ℕ} → Places held ms ts cs hs hp → arraysFit held (length ms) (length ts) (length cs) (length hs) (length hp) ≡ true
+pub places-right : {held : ℕ} {ms ts cs hs hp : List ℕ} → Places held ms ts cs hs hp
+    → arraysFit held (length ms) (length ts) (length cs) (length hs) (length hp) ≡ true
 unfolding arraysFit
 places-right {held} {ms} {ts} {cs} {hs} {hp} p =
     rw (
@@ -47,7 +48,8 @@ pub record EngineOk (plain : Bool) (n held : ℕ) (ms ts cs hs hp : List ℕ) : 
   pub by-scan : plain ≡ true → (held ≡ n) × Small n cs hs
 
 -- the answer x and the statuses left are those of the machine's `next`, and the state left is sound
-pub record EngineSays (plain : Bool) (b : ℕ → Stream) (n : ℕ) (ms ts cs hs : List ℕ) (x : Answer) (held : ℕ) (ms' ts' cs' hs' hp' : List ℕ) : Type 0 where
+pub record EngineSays (plain : Bool) (b : ℕ → Stream) (n : ℕ) (ms ts cs hs : List ℕ) (x : Answer) (held : ℕ)
+    (ms' ts' cs' hs' hp' : List ℕ) : Type 0 where
   pub heard : x ≡ answerOf (machine.answer (machine.next b (statusesOf n ms ts cs hs)))
   pub leaves : statusesOf n ms' ts' cs' hs' ≡ machine.rest (machine.next b (statusesOf n ms ts cs hs))
   pub sound : EngineOk plain n held ms' ts' cs' hs' hp'

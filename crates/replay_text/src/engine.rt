@@ -24,9 +24,11 @@ pub fn open_by(
     heap: &mut [u8],
 ) -> Opening
     requires { ⌜ Places 0 (now marks) (now times) (now places) (now heads) (now heap) ⌝ }
-    ensures { λ r. ⌜ openingOf r ≡ opening true (rightStreams (length (now (buffer .entry))) (now (cuts .entry)) (length (now (hints .entry)))) (length (now (cuts .entry)) - 1) ⌝ }
+    ensures { λ r. ⌜ openingOf r
+        ≡ opening true (rightStreams (length (now (buffer .entry))) (now (cuts .entry)) (length (now (hints .entry)))) (length (now (cuts .entry)) - 1) ⌝ }
     ensures { λ r. ⌜ (rightStreams (length (now (buffer .entry))) (now (cuts .entry)) (length (now (hints .entry))) ≡ true
-        → EngineOpened plain (length (now (cuts .entry)) - 1) (now (hints .entry)) (now (marks .exit)) (now (times .exit)) (now (places .exit)) (now (heads .exit)) (now (heap .exit))) ⌝ }
+        → EngineOpened plain (length (now (cuts .entry)) - 1) (now (hints .entry))
+        (now (marks .exit)) (now (times .exit)) (now (places .exit)) (now (heads .exit)) (now (heap .exit))) ⌝ }
 {
     if plain {
         return records_plain::plain::open(buffer, cuts, hints, marks, times, places, heads);
@@ -47,9 +49,12 @@ pub fn next_by(
     heap: &mut [u8],
 ) -> Turned
     requires { ⌜ Places held (now marks) (now times) (now places) (now heads) (now heap) ⌝ }
-    ensures { λ r. ⌜ (r .held ≤ held) × ((n : ℕ) → n ≤ 256 → EngineOk plain n held (now (marks .entry)) (now (times .entry)) (now (places .entry)) (now (heads .entry)) (now (heap .entry))
-        → EngineSays plain (streamsOf (now (buffer .entry)) (now (cuts .entry))) n (now (marks .entry)) (now (times .entry)) (now (places .entry)) (now (heads .entry))
-        (turnOf (r .answer)) (r .held) (now (marks .exit)) (now (times .exit)) (now (places .exit)) (now (heads .exit)) (now (heap .exit))) ⌝ }
+    ensures { λ r. ⌜ (r .held ≤ held) × ((n : ℕ) → n ≤ 256
+        → EngineOk plain n held (now (marks .entry)) (now (times .entry)) (now (places .entry)) (now (heads .entry)) (now (heap .entry))
+        → EngineSays plain (streamsOf (now (buffer .entry)) (now (cuts .entry))) n
+        (now (marks .entry)) (now (times .entry)) (now (places .entry)) (now (heads .entry))
+        (turnOf (r .answer)) (r .held)
+        (now (marks .exit)) (now (times .exit)) (now (places .exit)) (now (heads .exit)) (now (heap .exit))) ⌝ }
 {
     if plain {
         let answer = records_plain::plain::next(buffer, cuts, held, marks, times, places, heads);

@@ -79,7 +79,8 @@ returns-2 c =
     let chosen = there .before .before .before .before .before in
     let at = chosen .before .before .before in
     let start = at .before .before .before .before .before .before .before in
-    rw (c .damaged .ensures) (turn-damaged (at .loop .inv) (start .pre) (chosen .least .ensures) (there .before .before .before .before .if1 .left)
+    rw (c .damaged .ensures) (turn-damaged (at .loop .inv) (start .pre) (chosen .least .ensures)
+    (there .before .before .before .before .if1 .left)
     (there .before .if2 .taken) (got .result .found) (got .result .time) (got .result .head) (got .ensures)
     (c .before .if4 .taken) (c .before .before .if3 .taken))
 
@@ -91,7 +92,8 @@ loop-less c =
     let at = chosen .before .before .before in
     let start = at .before .before .before .before .before .before .before in
     less-gone (start .args .streams) (at .loop .marks) (at .loop .times) (at .loop .places) (at .loop .heads) (chosen .least .result)
-    (omega (arith, chosen .least .ensures .within, there .before .before .before .before .if1 .left)) (omega arith) (omega arith) (omega arith) (omega arith) (there .before .if2 .taken)
+    (omega (arith, chosen .least .ensures .within, there .before .before .before .before .if1 .left))
+    (omega arith) (omega arith) (omega arith) (omega arith) (there .before .if2 .taken)
 
 loop-again : tie.Need-loop-again Inv-loop μ-loop
 loop-again c =
@@ -126,7 +128,8 @@ loop-less-2 c =
     let at = chosen .before .before .before in
     let start = at .before .before .before .before .before .before .before in
     less-stand (start .args .streams) (at .loop .marks) (at .loop .times) (at .loop .places) (at .loop .heads) (chosen .least .result)
-    (omega (arith, chosen .least .ensures .within, there .before .before .before .before .if1 .left)) (omega arith) (omega arith) (omega arith) (omega arith) _ _ (there .before .if2 .taken)
+    (omega (arith, chosen .least .ensures .within, there .before .before .before .before .if1 .left))
+    (omega arith) (omega arith) (omega arith) (omega arith) _ _ (there .before .if2 .taken)
 
 loop-again-2 : tie.Need-loop-again-2 Inv-loop μ-loop
 loop-again-2 c =
