@@ -1,52 +1,48 @@
--- What each case of an explanation leaves in the lent numbers. Assumes nothing.
-use mathlib.Core.Path.{_≡_}
-use Prim.Native.Nat.{ℕ}
-use mathlib.Core.List.{List}
-use lib.ListN.{getD}
+-- What a done explanation hands over, and that a refusal leaves what was held. Assumes nothing.
+use mathlib.Core.Path.{_≡_, refl, ap, _∙_}
+use mathlib.Core.Logic.{_≢_}
+use Prim.Native.Nat.{ℕ, zero, suc}
+use native.Mathlib.Omega.{arith}
 use Rattle.theory.specs.Answer.{Answer, answer}
-use Rattle.leaves.specs.Refusal.{refused}
-use Rattle.leaves.specs.declared.refusal.Refusal.{Refusal}
-use Rattle.door_answers.specs.AnswersLaws.{done-value, not-value}
+use Rattle.door_answers.specs.Answers.{numberIn, valueIn}
 use Rattle.door_map.specs.declared.explain.Numbers.{Numbers}
-use Rattle.door_map.specs.Lent.{Holds}
+use Rattle.door_map.specs.Lent.{numbersIn}
 
--- the numbers that values give
-abbrev pub valuesOf : List ℕ → Numbers
-valuesOf vs = record {
-  reason = getD vs 0 0;
-  index = getD vs 1 0;
-  start = getD vs 2 0;
-  end = getD vs 3 0;
-  symbol = getD vs 4 0;
-  «next_start» = getD vs 6 0;
-  «next_end» = getD vs 7 0;
-  «next_symbol» = getD vs 8 0;
+-- numbers that held anything hold these after an answer
+pub record Holds (a : Answer) (n : Numbers) : Type 0 where
+  pub reason : (held : ℕ) → n .reason ≡ valueIn held 0 a
+  pub index : (held : ℕ) → n .index ≡ valueIn held 1 a
+  pub start : (held : ℕ) → n .start ≡ valueIn held 2 a
+  pub end : (held : ℕ) → n .end ≡ valueIn held 3 a
+  pub symbol : (held : ℕ) → n .symbol ≡ valueIn held 4 a
+  pub next-start : (held : ℕ) → n .«next_start» ≡ valueIn held 6 a
+  pub next-end : (held : ℕ) → n .«next_end» ≡ valueIn held 7 a
+  pub next-symbol : (held : ℕ) → n .«next_symbol» ≡ valueIn held 8 a
+
+done-holds : (a : Answer) → numberIn a ≡ 0 → Holds a (numbersIn a)
+unfolding numberIn valueIn
+done-holds (answer zero vs) e = record {
+  reason = λ h. refl;
+  index = λ h. refl;
+  start = λ h. refl;
+  end = λ h. refl;
+  symbol = λ h. refl;
+  next-start = λ h. refl;
+  next-end = λ h. refl;
+  next-symbol = λ h. refl;
 }
+done-holds (answer (suc n) vs) e = absurd (omega arith)
 
-module _ {a : Answer} (held : Numbers) where
-  pub holds-values : {vs : List ℕ} → answer 0 vs ≡ a → Holds a held (valuesOf vs)
-  holds-values e = record {
-    reason = done-value (held .reason) 0 e;
-    index = done-value (held .index) 1 e;
-    start = done-value (held .start) 2 e;
-    end = done-value (held .end) 3 e;
-    symbol = done-value (held .symbol) 4 e;
-    next-start = done-value (held .«next_start») 6 e;
-    next-end = done-value (held .«next_end») 7 e;
-    next-symbol = done-value (held .«next_symbol») 8 e;
-  }
+pub done-told : {a b : Answer} {n : Numbers} → a ≡ b → numberIn a ≡ 0 → (numberIn a ≡ 0 → n ≡ numbersIn a) → Holds b n
+done-told {a} {n = n} e z f =
+    let h : Holds a n = rw (f z) (done-holds a z) in
+    rw e at h
 
-  pub holds-still : (r : Refusal) → refused r ≡ a → Holds a held held
-  holds-still r e = record {
-    reason = not-value r (held .reason) 0 e;
-    index = not-value r (held .index) 1 e;
-    start = not-value r (held .start) 2 e;
-    end = not-value r (held .end) 3 e;
-    symbol = not-value r (held .symbol) 4 e;
-    next-start = not-value r (held .«next_start») 6 e;
-    next-end = not-value r (held .«next_end») 7 e;
-    next-symbol = not-value r (held .«next_symbol») 8 e;
-  }
+-- a refusal leaves what was held
+still : (a : Answer) → numberIn a ≢ 0 → (held k : ℕ) → held ≡ valueIn held k a
+unfolding numberIn valueIn
+still (answer zero vs) d held k = absurd (d refl)
+still (answer (suc n) vs) d held k = refl
 
-pub holds-same : {a b : Answer} {held n : Numbers} → a ≡ b → Holds a held n → Holds b held n
-holds-same e h = rw e at h
+pub refused-still : {a b : Answer} → a ≡ b → numberIn a ≢ 0 → (held k : ℕ) → held ≡ valueIn held k b
+refused-still {a} e d held k = still a d held k ∙ ap (valueIn held k) e

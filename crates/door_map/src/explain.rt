@@ -1,12 +1,11 @@
 // Why there is a symbol in a table over time, or none, at the C door (RULES, Requests, No. 4).
 use door_answers::DONE;
-use leaves::refusal::number;
 use map_explain::explain::Explained;
 use map_explain::explain::Named;
 ghost use mathlib.Core.Path.{_≡_};
 ghost use Rattle.map_explain.specs.Explain.{explainAnswer, explainedOf};
 ghost use Rattle.door_answers.specs.Answers.{numberIn, valueIn};
-ghost use Rattle.door_map.specs.Lent.{oneOf, Holds};
+ghost use Rattle.door_map.specs.Lent.{handedOf, numbersIn};
 
 // The reasons' numbers.
 const IN: u32 = 1;
@@ -19,7 +18,7 @@ const AFTER: u32 = 4;
 
 const BETWEEN: u32 = 5;
 
-// What the lent numbers hold.
+// What an explanation hands over.
 pub struct Numbers {
     pub reason: u32,
     pub index: u64,
@@ -31,9 +30,9 @@ pub struct Numbers {
     pub next_symbol: u32,
 }
 
-// A reason that names one interval.
-fn one(reason: u32, x: Named) -> Numbers
-    ensures { λ r. ⌜ r ≡ oneOf reason x ⌝ }
+// A reason's number with the interval that it names and the next one.
+fn handed(reason: u32, x: Named, y: Named) -> Numbers
+    ensures { λ r. ⌜ r ≡ handedOf reason x y ⌝ }
 {
     Numbers {
         reason,
@@ -41,41 +40,29 @@ fn one(reason: u32, x: Named) -> Numbers
         start: x.start,
         end: x.end,
         symbol: x.symbol,
-        next_start: 0,
-        next_end: 0,
-        next_symbol: 0,
+        next_start: y.start,
+        next_end: y.end,
+        next_symbol: y.symbol,
     }
 }
 
-// The numbers after an explanation: what the reason does not name is 0; a refusal leaves what they held.
-fn told(explained: Explained, held: Numbers) -> Numbers
-    ensures { λ r. ⌜ Holds (explainedOf explained) held r ⌝ }
+// Of an explanation that is not refused, the reason's numbers; what it does not name is 0.
+fn told(explained: Explained) -> Numbers
+    ensures { λ r. ⌜ (numberIn (explainedOf explained) ≡ 0 → r ≡ numbersIn (explainedOf explained)) ⌝ }
 {
+    let none = Named {
+        index: 0,
+        start: 0,
+        end: 0,
+        symbol: 0,
+    };
     match explained {
-        Explained::In(x) => one(IN, x),
-        Explained::Unknown => Numbers {
-            reason: UNKNOWN,
-            index: 0,
-            start: 0,
-            end: 0,
-            symbol: 0,
-            next_start: 0,
-            next_end: 0,
-            next_symbol: 0,
-        },
-        Explained::Before(x) => one(BEFORE, x),
-        Explained::After(x) => one(AFTER, x),
-        Explained::Between(x, y) => Numbers {
-            reason: BETWEEN,
-            index: x.index,
-            start: x.start,
-            end: x.end,
-            symbol: x.symbol,
-            next_start: y.start,
-            next_end: y.end,
-            next_symbol: y.symbol,
-        },
-        Explained::Refused(_) => held,
+        Explained::In(x) => handed(IN, x, none),
+        Explained::Unknown => handed(UNKNOWN, none, none),
+        Explained::Before(x) => handed(BEFORE, x, none),
+        Explained::After(x) => handed(AFTER, x, none),
+        Explained::Between(x, y) => handed(BETWEEN, x, y),
+        Explained::Refused(_) => handed(0, none, none),
     }
 }
 
@@ -84,7 +71,7 @@ fn number_of(explained: Explained) -> u32
     ensures { λ r. ⌜ r ≡ numberIn (explainedOf explained) ⌝ }
 {
     match explained {
-        Explained::Refused(refusal) => number(refusal),
+        Explained::Refused(refusal) => leaves::refusal::number(refusal),
         _ => DONE,
     }
 }
@@ -117,17 +104,11 @@ pub extern "C" fn desk_explain(
     ensures { λ _. ⌜ now («next_symbol» .exit) ≡ valueIn (now («next_symbol» .entry)) 8 (explainAnswer (now (table .entry)) used names instrument moment) ⌝ }
 {
     let explained = map_explain::explain::explain(table, used, names, instrument, moment);
-    let held = Numbers {
-        reason: *reason,
-        index: *index,
-        start: *start,
-        end: *end,
-        symbol: *symbol,
-        next_start: *next_start,
-        next_end: *next_end,
-        next_symbol: *next_symbol,
-    };
-    let after = told(explained, held);
+    let number = number_of(explained);
+    if number != DONE {
+        return number;
+    }
+    let after = told(explained);
     *reason = after.reason;
     *index = after.index;
     *start = after.start;
@@ -136,5 +117,5 @@ pub extern "C" fn desk_explain(
     *next_start = after.next_start;
     *next_end = after.next_end;
     *next_symbol = after.next_symbol;
-    number_of(explained)
+    DONE
 }

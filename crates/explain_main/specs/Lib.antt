@@ -3,3 +3,4 @@ pub mod TextLaws
 pub mod Portions
 pub mod Asked
 pub mod AskedLaws
+pub mod Examples

@@ -89,3 +89,11 @@ check-answer t used names i m c e =
     go true false (Refused r) e = e
     go false f WellFormed e = absurd (let z : 0 ≡ 15 = ap numberIn e in omega arith)
     go false f (Refused r) e = e
+
+-- so the line of a question is the line of the call's answer
+pub question-call : (t : List ℕ) (used names : ℕ) (c : Checked) (b : List ℕ) (k : ℕ) → checkedOf c ≡ checkAnswer t used names
+    → questionText t used c b k
+    ≡ lineText (instrumentAt b k) (momentAt b k) (explainAnswer t used names (instrumentAt b k) (momentAt b k))
+unfolding questionText
+question-call t used names c b k e =
+    ap (lineText (instrumentAt b k) (momentAt b k)) (check-answer t used names (instrumentAt b k) (momentAt b k) c e)

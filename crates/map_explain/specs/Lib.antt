@@ -2,4 +2,5 @@ pub mod Reason
 pub mod ReasonLaws
 pub mod Explain
 pub mod ExplainLaws
+pub mod Calls
 pub mod Examples
