@@ -8,7 +8,7 @@ use map_explain::explain::explain_checked;
 use map_time::table::Checked;
 ghost use mathlib.Core.Path.{_≡_};
 ghost use mathlib.Core.List.{[], _∷_};
-ghost use Prim.Native.Nat.{_+_, _*_, _≤_, _<_};
+ghost use Prim.Native.Nat.{_+_, _*_, _≤_};
 ghost use lib.ListN.{length};
 ghost use Rattle.lines.specs.Lines.{Lays};
 ghost use Rattle.map_explain.specs.Explain.{namedOf, rowsAnswer, explainedOf};

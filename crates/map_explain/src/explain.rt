@@ -3,7 +3,7 @@
 use leaves::refusal::Refusal;
 use map_time::interval::Interval;
 ghost use mathlib.Core.Path.{_≡_};
-ghost use Prim.Native.Nat.{ℕ, _*_, _+_, _≤_, _<_};
+ghost use Prim.Native.Nat.{ℕ, _*_, _≤_, _<_};
 ghost use lib.ListN.{length};
 ghost use Rattle.map_rules.specs.Table.{intervalOf};
 ghost use Rattle.map_rules.specs.Memory.{width};
