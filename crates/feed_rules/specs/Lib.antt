@@ -4,4 +4,7 @@ pub mod Needs
 pub mod Windows
 pub mod WindowsLaws
 pub mod Portions
+pub mod Spans
+pub mod SpansLaws
+pub mod Steps
 pub mod Examples
