@@ -14,7 +14,7 @@ use Rattle.theory.specs.Answer.{Answer, answer}
 use Rattle.leaves.specs.Frame.{Read}
 use Rattle.records_rules.specs.Heap.{at}
 use Rattle.records_rules.specs.View.{statusesOf}
-use Rattle.records_rules.specs.State.{gotOf, StateOk}
+use Rattle.records_rules.specs.State.{arraysFit, gotOf, StateOk}
 use Rattle.feed_rules.specs.Windows.{Kept, Feed, nextLeaves, nextAnswer, Alike}
 
 -- ---- a span
@@ -85,10 +85,24 @@ pub record FeedOk (n held : ℕ) (ms ts cs hs hp ps : List ℕ) : Type 0 where
   pub slots : (p : ℕ) → p < n → getD ms p 0 ≢ 0 → SlotOk (getD ms p 0) (getD cs p 0) (getD hs p 0) (getD ps p 0)
   pub lone : (p : ℕ) → p < n → getD ms p 0 ≡ 1 → p ≢ at hp 0 → getD hs p 0 % 65536 ≡ 0
 
+-- the arrays have 256 places, the window 1,024 bytes a stream: where not, 15
+unfoldable pub feedFits : ℕ → ℕ → ℕ → ℕ → ℕ → ℕ → ℕ → ℕ → Bool
+unfolding arraysFit
+feedFits held marks times places heads heap spans window = arraysFit held marks times places heads heap && (eqb spans 256 && eqb window 262144)
+
 -- what the inner functions need of what is lent
 abbrev pub FeedRoom : ℕ → List ℕ → List ℕ → List ℕ → List ℕ → List ℕ → List ℕ → Type 0
 FeedRoom held ms ts cs hs hp ps =
     (held ≤ 256) × (256 ≤ length ms) × (256 ≤ length ts) × (256 ≤ length cs) × (256 ≤ length hs) × (256 ≤ length hp) × (256 ≤ length ps)
+
+-- what is lent is as at entry
+pub record FeedUntouched (ms ts cs hs hp ps ms' ts' cs' hs' hp' ps' : List ℕ) : Type 0 where
+  pub marks : ms' ≡ ms
+  pub times : ts' ≡ ts
+  pub places : cs' ≡ cs
+  pub heads : hs' ≡ hs
+  pub heap : hp' ≡ hp
+  pub spans : ps' ≡ ps
 
 -- the answer x and what is left are those of the call for the next answer, and the state left is sound
 pub record FeedSays (n : ℕ) (window ms ts cs hs ps : List ℕ) (x : Answer) (held : ℕ) (ms' ts' cs' hs' hp' ps' : List ℕ) : Type 0 where

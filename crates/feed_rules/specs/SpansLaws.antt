@@ -3,22 +3,23 @@ use mathlib.Core.Path.{_≡_, refl, sym, ap, _∙_}
 use mathlib.Core.Logic.{_≢_}
 use Prim.Native.Nat.{ℕ, zero, suc, _+_, _-_, _*_, _/_, _%_, _<_, _≤_}
 use native.Mathlib.Omega.{arith}
-use mathlib.Core.Bool.{Bool, true, false, not, cond, _||_}
+use mathlib.Core.Bool.{Bool, true, false, not, cond, _&&_, _||_}
 use mathlib.Core.Option.{Option, none, some}
 use mathlib.Core.List.{List}
 use lib.ListN.{length, getD, take, drop, length-take, length-drop}
 use lib.Seq.{slice, drop-drop}
 use lib.Dec.{T, eqb, ltb}
 use mir.Facts.{ltb-yes, ltb-no, eqb-yes, eqb-no}
-use borrow.Author.Tests.{lt-ltb, le-ltb, eq-eqb, ne-eqb}
+use borrow.Author.Tests.{lt-ltb, le-ltb, eq-eqb, ne-eqb, eqb-true}
 use Rattle.theory.specs.Fields.{field}
 use Rattle.leaves.specs.Frame.{Read, whole, ended, damaged, judged, recordAt, frameAt}
 use Rattle.leaves.specs.FrameLaws.{found-ended, found-damaged, found-whole}
 use Rattle.records_rules.specs.Least.{cond-case}
-use Rattle.records_rules.specs.State.{gotOf}
+use Rattle.records_rules.specs.State.{arraysFit, gotOf}
+use Rattle.records_rules.specs.Opening.{arrays-room}
 use Rattle.feed_rules.specs.Partial.{part, soFar, knownAt}
 use Rattle.feed_rules.specs.Windows.{Kept, from}
-use Rattle.feed_rules.specs.Spans.{dropped, counts, bytesIn, keptOf, knownBy, gotKnown}
+use Rattle.feed_rules.specs.Spans.{dropped, counts, bytesIn, keptOf, knownBy, gotKnown, feedFits, FeedRoom}
 
 -- ---- a span without its first bytes
 
@@ -27,6 +28,14 @@ less q skip h = (omega arith, omega arith)
 
 twice : (s : ℕ) → s / 65536 / 65536 ≡ s / 4294967296
 twice s = omega arith
+
+pub dropped-none : (s skip : ℕ) → s / 65536 % 65536 < skip → s ≡ dropped s skip
+unfolding dropped
+dropped-none s skip h = let e : ltb (s / 65536 % 65536) skip ≡ true = lt-ltb (s / 65536 % 65536) skip h in rw e refl
+
+pub dropped-some : (s skip : ℕ) → skip ≤ s / 65536 % 65536 → s - 65535 * skip ≡ dropped s skip
+unfolding dropped
+dropped-some s skip h = let e : ltb (s / 65536 % 65536) skip ≡ false = le-ltb (s / 65536 % 65536) skip h in rw e refl
 
 module _ (s skip : ℕ) (h : skip ≤ s / 65536 % 65536) where
   dropped-is : dropped s skip ≡ s - 65535 * skip
@@ -149,8 +158,59 @@ got-known found t h e = go (not (eqb e 0)) found
     go false (suc (suc (suc zero))) = refl
     go o (suc (suc (suc (suc k)))) = big o (suc (suc (suc (suc k)))) (omega arith)
 
+-- whether it is known, by the tests
+module _ (found ended : ℕ) where
+  pub known-record : 4 ≤ found → 4 ≡ knownBy found ended
+  unfolding knownBy
+  known-record h = let e : ltb found 4 ≡ false = le-ltb found 4 h in rw e refl
+
+  pub known-ended : found < 4 → ended ≢ 0 → found ≡ knownBy found ended
+  unfolding knownBy
+  known-ended h d = simp (lt-ltb found 4 h, ne-eqb ended 0 d)
+
+  pub known-bad : found < 4 → ended ≡ 0 → found ≡ 2 → found ≡ knownBy found ended
+  unfolding knownBy
+  known-bad h z e = simp (lt-ltb found 4 h, eq-eqb ended 0 z, eq-eqb found 2 e)
+
+  pub known-wants : found < 4 → ended ≡ 0 → found ≢ 2 → 5 ≡ knownBy found ended
+  unfolding knownBy
+  known-wants h z d = simp (lt-ltb found 4 h, eq-eqb ended 0 z, ne-eqb found 2 d)
+
 -- a read of the bytes, told in numbers, is what is known of them
 pub known-read : (bs : List ℕ) (found t h e : ℕ) → gotOf found t h ≡ frameAt bs 0
     → gotKnown (knownBy found e) t h ≡ knownAt (part bs (not (eqb e 0))) 0
 known-read bs found t h e g =
     got-known found t h e ∙ ap (λ (r : Read). cond (not (eqb e 0)) (some r) (knownOf r)) g ∙ sym (known-frame bs (not (eqb e 0)))
+
+-- ---- what is lent fits, by the tests
+
+module _ (held marks times places heads heap spans window : ℕ) where
+  abbrev fits : Bool
+  fits = arraysFit held marks times places heads heap
+
+  pub fits-none : fits ≡ false → false ≡ feedFits held marks times places heads heap spans window
+  unfolding feedFits
+  fits-none e = rw e refl
+
+  pub fits-spans : fits ≡ true → spans ≢ 256 → false ≡ feedFits held marks times places heads heap spans window
+  unfolding feedFits
+  fits-spans e d = rw (e, ne-eqb spans 256 d) refl
+
+  pub fits-window : fits ≡ true → spans ≡ 256 → eqb window 262144 ≡ feedFits held marks times places heads heap spans window
+  unfolding feedFits
+  fits-window e d = rw (e, eq-eqb spans 256 d) refl
+
+and-true : (x y : Bool) → (x && y) ≡ true → (x ≡ true) × (y ≡ true)
+and-true true y e = (refl, e)
+and-true false y e = let z : _≡_ {A = ℕ} 0 1 = cc in absurd (omega arith)
+
+-- and then there is the room
+pub fits-room : (held : ℕ) (ms ts cs hs hp ps window : List ℕ)
+    → feedFits held (length ms) (length ts) (length cs) (length hs) (length hp) (length ps) (length window) ≡ true
+    → FeedRoom held ms ts cs hs hp ps × (length window ≡ 262144)
+unfolding feedFits
+fits-room held ms ts cs hs hp ps window e =
+    let a = and-true _ _ e in
+    let b = and-true _ _ (a .1) in
+    let r = arrays-room held ms ts cs hs hp (a .0) in
+    ((r .0, r .1, r .2, r .3, r .4, r .5, omega (arith, eqb-true (length ps) 256 (b .0))), eqb-true (length window) 262144 (b .1))

@@ -85,7 +85,7 @@ pub fn empty_numbers() -> [u64; 256]
 }
 
 // The sum, where it fits.
-fn plus(a: u64, b: u64) -> u64
+pub fn plus(a: u64, b: u64) -> u64
     ensures { λ r. ⌜ (a + b < 2 ^ 64 → r ≡ a + b) ⌝ }
 {
     if b <= GREATEST - a {
