@@ -7,4 +7,6 @@ pub mod Portions
 pub mod Spans
 pub mod SpansLaws
 pub mod Steps
+pub mod Adding
+pub mod AddingLaws
 pub mod Examples

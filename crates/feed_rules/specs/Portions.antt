@@ -240,7 +240,7 @@ portioned-run n hints cs b h e = heard-run (padded n hints) (portioned n hints c
 
 -- ---- a record's bytes
 
-slice-is : (a n : ℕ) (l : List ℕ) → slice a (a + n) l ≡ take n (drop a l)
+pub slice-is : (a n : ℕ) (l : List ℕ) → slice a (a + n) l ≡ take n (drop a l)
 slice-is zero n l = ap (λ (m : ℕ). take m l) (zero-add n)
 slice-is (suc a) n [] = ap (drop (suc a)) (take-nil (suc a + n)) ∙ sym (take-nil n)
 slice-is (suc a) n (x ∷ l) = ap (λ (m : ℕ). drop (suc a) (take m (x ∷ l))) (suc-add a n) ∙ slice-is a n l

@@ -84,6 +84,8 @@ pub record FeedOk (n held : ℕ) (ms ts cs hs hp ps : List ℕ) : Type 0 where
   pub state : StateOk n held ms ts cs hs hp
   pub slots : (p : ℕ) → p < n → getD ms p 0 ≢ 0 → SlotOk (getD ms p 0) (getD cs p 0) (getD hs p 0) (getD ps p 0)
   pub lone : (p : ℕ) → p < n → getD ms p 0 ≡ 1 → p ≢ at hp 0 → getD hs p 0 % 65536 ≡ 0
+  -- the other places hold no stream
+  pub unused : (p : ℕ) → n ≤ p → getD ms p 0 ≡ 0
 
 -- the arrays have 256 places, the window 1,024 bytes a stream: where not, 15
 unfoldable pub feedFits : ℕ → ℕ → ℕ → ℕ → ℕ → ℕ → ℕ → ℕ → Bool

@@ -53,6 +53,9 @@ slots-put {ms} {cs} {hs} {ps} {ms'} {cs'} {hs'} {ps'} {p} {m} {c} {h} {s} Q a b 
     go (yes i) = rw (i, a .here, b .here, d .here, e .here) new
     go (no i) = rw (a .there q i, b .there q i, d .there q i, e .there q i) (old q i)
 
+unused-put : (n : ℕ) (ms ms' : List ℕ) (p m : ℕ) → p < n → Put ms ms' p m → ((q : ℕ) → n ≤ q → getD ms q 0 ≡ 0) → (q : ℕ) → n ≤ q → getD ms' q 0 ≡ 0
+unused-put n ms ms' p m h u k q l = u .there q (λ e. omega arith) ∙ k q l
+
 module _ (n : ℕ) (ms ts cs hs : List ℕ) (p : ℕ) where
   abbrev state : List Status
   state = statusesOf n ms ts cs hs
@@ -159,19 +162,22 @@ going-start⁺ window held ms ts cs hs hp ps =
 
 -- ---- a return
 
-not-there : (n : ℕ) (ms ts cs hs : List ℕ) (q : ℕ) → getD (statusesOf n ms ts cs hs) q gone ≢ gone → q < n
-not-there n ms ts cs hs q d = go (decLt q n)
+pub statuses-out : (n : ℕ) (ms ts cs hs : List ℕ) (q : ℕ) → n ≤ q → getD (statusesOf n ms ts cs hs) q gone ≡ gone
+statuses-out n ms ts cs hs q l = out (statusesOf n ms ts cs hs) q (omega (arith, length-statuses n ms ts cs hs))
   where
     out : (ss : List Status) (i : ℕ) → length ss ≤ i → getD ss i gone ≡ gone
     out [] i h = refl
     out (s ∷ ss) zero h = absurd (omega arith)
     out (s ∷ ss) (suc i) h = out ss i (omega arith)
 
+pub not-there : (n : ℕ) (ms ts cs hs : List ℕ) (q : ℕ) → getD (statusesOf n ms ts cs hs) q gone ≢ gone → q < n
+not-there n ms ts cs hs q d = go (decLt q n)
+  where
     go : Dec (q < n) → q < n
     go (yes h) = h
-    go (no h) = absurd (d (out (statusesOf n ms ts cs hs) q (omega (arith, h, length-statuses n ms ts cs hs))))
+    go (no h) = absurd (d (statuses-out n ms ts cs hs q (omega (arith, h))))
 
-alive : (m t a h : ℕ) → statusOf m t a h ≢ gone → m ≢ 0
+pub alive : (m t a h : ℕ) → statusOf m t a h ≢ gone → m ≢ 0
 unfolding statusOf
 alive zero t a h d = absurd (d refl)
 alive (suc m) t a h d = λ z. omega arith
@@ -241,7 +247,7 @@ slot-handed m b h s d k =
       most = omega (arith, k .most, z);
     }
 
-counts-zero : (m : ℕ) → counts m 0 ≡ 0
+pub counts-zero : (m : ℕ) → counts m 0 ≡ 0
 unfolding counts
 counts-zero m = go (eqb m 1)
   where
@@ -400,6 +406,7 @@ module _ {window : List ℕ} {held : ℕ} {ms₀ ts₀ cs₀ hs₀ hp₀ ps₀ :
             slots = slots-put (λ q m c h z. q < n → m ≢ 0 → SlotOk m c h z) u₁ u₂ u₃ u₄ (λ q i. ok .slots q)
                 (λ i j. slot-handed (getD ms p 0) b (getD hs p 0) s d sl);
             lone = slots-put (λ q m c h z. q < n → m ≡ 1 → q ≢ at hp 0 → h % 65536 ≡ 0) u₁ u₂ u₃ u₄ (λ q i. ok .lone q) (λ l m i. absurd (i e));
+            unused = unused-put n ms (set ms p 1) p 1 r u₁ (ok .unused);
           })
           (λ al. ap (λ (y : Kept). answer 0 (p ∷ b ∷ y .at ∷ sz ∷ (getD hs p 0 / 65536 % 65536) ∷ (getD hs p 0 / 4294967296) ∷ getD ts p 0 ∷ []))
           (al .kept p (λ i. let z : waiting (getD ts p 0) (b + sz) ≡ gone = sym stored ∙ i in let y : _≡_ {A = ℕ} 0 1 = cc in absurd (omega arith))))),
@@ -489,6 +496,7 @@ module _ {window : List ℕ} {held : ℕ} {ms₀ ts₀ cs₀ hs₀ hp₀ ps₀ :
               slots = slots-put (λ q m c h z. q < n → m ≢ 0 → SlotOk m c h z) u₁ u₂ u₃ u₄ (λ q i. ok .slots q)
                   (λ i j. slot-dropped (getD ms p 0) (getD cs p 0) (getD hs p 0) 0 (getD ps p 0) (slot₁ n hn x) (counts-zero (getD ms p 0)) (omega arith));
               lone = slots-put (λ q m c h z. q < n → m ≡ 1 → q ≢ at hp 0 → h % 65536 ≡ 0) u₁ u₂ u₃ u₄ (λ q i. ok .lone q) (λ i j z. refl);
+              unused = ok .unused;
             })
             (λ al. refl),
       )
@@ -511,6 +519,7 @@ module _ {window : List ℕ} {held : ℕ} {ms₀ ts₀ cs₀ hs₀ hp₀ ps₀ :
                 slots = slots-put (λ q m c h z. q < n → m ≢ 0 → SlotOk m c h z) u₁ (put-none cs p) (put-none hs p) (put-none ps p)
                     (λ q i. ok .slots q) (λ i j. absurd (j refl));
                 lone = λ q l m i. alone n hn ok q l m;
+                unused = unused-put n ms (set ms p 0) p 0 (root n hn ok) u₁ (ok .unused);
               }
             where
               alone : (n : ℕ) → n ≤ 256 → FeedOk n size ms ts cs hs hp ps → (q : ℕ) → q < n → getD (set ms p 0) q 0 ≡ 1 → getD hs q 0 % 65536 ≡ 0
@@ -623,6 +632,7 @@ module _ {window : List ℕ} {held : ℕ} {ms₀ ts₀ cs₀ hs₀ hp₀ ps₀ :
                       slots = slots-put (λ q m c h z. q < n → m ≢ 0 → SlotOk m c h z) u₁ u₂ u₃ u₄ (λ q i. ok .slots q) (λ i j. sl);
                       lone = λ q i j z. slots-put (λ q m c h z. q < n → m ≡ 1 → h % 65536 ≡ 0) u₁ u₂ u₃ u₄
                           (λ q i l m. ok .lone q l m (λ z. i (z ∙ sym e))) (λ i j. absurd (omega arith)) q i j;
+                      unused = unused-put n ms (set ms p 2) p 2 r u₁ (ok .unused);
                     };
                     same = ap (next⁺ kn) (stand-set n ms ts cs hs p r hk' ht' hc' hl' t l)
                         ∙ sym (rule-whole⁺ kn (statusesOf n ms ts cs hs) (fst .0) p (fst .1) (getD ts p 0) (getD cs p 0) (l % 65536) (l / 65536 % 65536) (l / 4294967296) t (waits-at n ms ts cs hs p r hk' ht' hc' hl' w) read)
