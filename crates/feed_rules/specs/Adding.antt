@@ -8,6 +8,7 @@ use lib.ListN.{length, getD, set, drop}
 use lib.Seq.{paste}
 use lib.Dec.{eqb, ltb, leb}
 use Rattle.theory.specs.Answer.{Answer, answer}
+use Rattle.records_rules.specs.State.{arraysFit}
 use Rattle.feed_rules.specs.Windows.{Feed, opened, closed, addAnswer, addLeaves, endAnswer, endLeaves, Alike}
 use Rattle.feed_rules.specs.Spans.{counts, feedOf, FeedOk}
 
@@ -19,6 +20,10 @@ wordFits marks spans = eqb marks 256 && eqb spans 256
 unfoldable pub portionFits : ℕ → ℕ → ℕ → ℕ → ℕ → Bool
 unfolding wordFits
 portionFits marks places heads spans window = eqb places 256 && (eqb heads 256 && (eqb window 262144 && wordFits marks spans))
+
+unfoldable pub openFits : ℕ → ℕ → ℕ → ℕ → ℕ → ℕ → Bool
+unfolding arraysFit
+openFits marks times places heads heap spans = arraysFit 0 marks times places heads heap && eqb spans 256
 
 -- ---- a portion
 

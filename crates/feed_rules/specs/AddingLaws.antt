@@ -8,20 +8,21 @@ use mathlib.Core.Bool.{Bool, true, false, not, cond, _&&_, _||_}
 use mathlib.Core.List.{List, [], _∷_, _++_, append-assoc}
 use lib.ListN.{length, getD, set, take, drop, length-take, length-drop, length-append, List·getD-append}
 use lib.Seq.{slice, slice-empty, paste, length-slice, length-paste, length-take-le, take-paste, drop-paste, take-append-le, drop-append-le, drop-at, getD-take, getD-drop, ext-getD, take-add}
-use lib.Dec.{T, eqb, ltb}
+use lib.Dec.{T, eqb, ltb, leb}
 use mir.Facts.{eqb-yes}
-use borrow.Author.Tests.{lt-ltb, le-ltb, eq-eqb, ne-eqb}
+use borrow.Author.Tests.{lt-ltb, le-ltb, eq-eqb, ne-eqb, eqb-true, leb-true}
 use Rattle.theory.specs.Answer.{Answer, answer}
 use Rattle.records_rules.specs.Machine.{Status, waiting, standing, gone}
 use Rattle.records_rules.specs.View.{statusOf, statusesOf, status-at}
-use Rattle.records_rules.specs.State.{StreamsOpened}
+use Rattle.records_rules.specs.State.{arraysFit, Room, StreamsOpened}
+use Rattle.records_rules.specs.Opening.{arrays-room}
 use Rattle.feed_rules.specs.Windows.{Kept, Feed, put, opened, isGone, closed, taking, grow, shut, addAnswer, addLeaves, endAnswer, endLeaves, Alike}
 use Rattle.feed_rules.specs.Spans.{counts, bytesIn, keptOf, feedOf, SlotOk, FeedOk}
 use Rattle.feed_rules.specs.WindowsLaws.{put-case}
-use Rattle.feed_rules.specs.SpansLaws.{kept-one}
+use Rattle.feed_rules.specs.SpansLaws.{kept-one, and-true}
 use Rattle.feed_rules.specs.Steps.{Put, put-set, put-none, slots-put, keptAt, statuses-out, not-there, alive, counts-zero}
 use Rattle.feed_rules.specs.Portions.{slice-is}
-use Rattle.feed_rules.specs.Adding.{shutAt, roomFor, laidWindow, FeedAdds, FeedEnds, FeedOpened}
+use Rattle.feed_rules.specs.Adding.{wordFits, portionFits, openFits, rightCount, shutAt, roomFor, laidWindow, FeedAdds, FeedEnds, FeedOpened}
 
 -- ---- who is closed
 
@@ -174,7 +175,7 @@ module _ {n held : ℕ} {ms ts cs hs hp ps : List ℕ} (window : List ℕ) (hn :
           go (yes h) = h
           go (no h) = absurd (live (ok .unused p (omega (arith, h))))
 
-      slot : SlotOk (getD ms p 0) (getD cs p 0) (getD hs p 0) (getD ps p 0)
+      pub slot : SlotOk (getD ms p 0) (getD cs p 0) (getD hs p 0) (getD ps p 0)
       slot = ok .slots p there live
 
       module _ (long : length window ≡ 262144) (lp : 256 ≤ length ps) where
@@ -391,3 +392,84 @@ feed-opened {n} {hints} {ms} {ts} {cs} {hs} {hp} {ps} hn long o z =
     out : (q : ℕ) → n ≤ q → Dec (q < 256) → getD ms q 0 ≡ 0
     out q l (yes h) = o .unused q l h .0
     out q l (no h) = beyond ms q (omega (arith, h))
+
+-- what is lent to an opening fits, by the tests
+module _ (marks times places heads heap spans : ℕ) where
+  pub open-none : arraysFit 0 marks times places heads heap ≡ false → false ≡ openFits marks times places heads heap spans
+  unfolding openFits
+  open-none e = rw e refl
+
+  pub open-spans : arraysFit 0 marks times places heads heap ≡ true → eqb spans 256 ≡ openFits marks times places heads heap spans
+  unfolding openFits
+  open-spans e = rw e refl
+
+-- one more place is empty
+pub emptied : (ps : List ℕ) (i : ℕ) → i < length ps → ((q : ℕ) → q < i → getD ps q 0 ≡ 0) → (q : ℕ) → q < i + 1 → getD (set ps i 0) q 0 ≡ 0
+emptied ps i h k q l = go (ℕ-discrete q i)
+  where
+    go : Dec (q ≡ i) → getD (set ps i 0) q 0 ≡ 0
+    go (yes e) = ap (λ (j : ℕ). getD (set ps i 0) j 0) e ∙ put-set ps i 0 h .here
+    go (no e) = put-set ps i 0 h .there q e ∙ k q (omega arith)
+
+-- and then there is the room
+pub word-room : (ms ps : List ℕ) → wordFits (length ms) (length ps) ≡ true → (length ms ≡ 256) × (length ps ≡ 256)
+unfolding wordFits
+word-room ms ps e = let a = and-true _ _ e in (eqb-true (length ms) 256 (a .0), eqb-true (length ps) 256 (a .1))
+
+pub record PortionRoom (ms cs hs ps window : List ℕ) : Type 0 where
+  pub marks : length ms ≡ 256
+  pub places : length cs ≡ 256
+  pub heads : length hs ≡ 256
+  pub spans : length ps ≡ 256
+  pub bytes : length window ≡ 262144
+
+pub portion-room : (ms cs hs ps window : List ℕ) → portionFits (length ms) (length cs) (length hs) (length ps) (length window) ≡ true
+    → PortionRoom ms cs hs ps window
+unfolding portionFits
+portion-room ms cs hs ps window e =
+    let a = and-true _ _ e in
+    let b = and-true _ _ (a .1) in
+    let c = and-true _ _ (b .1) in
+    let d = word-room ms ps (c .1) in
+    record {
+      marks = d .0;
+      places = eqb-true (length cs) 256 (a .0);
+      heads = eqb-true (length hs) 256 (b .0);
+      spans = d .1;
+      bytes = eqb-true (length window) 262144 (c .0);
+    }
+
+marks-256 : (held marks times places heads heap : ℕ) → arraysFit held marks times places heads heap ≡ true → marks ≡ 256
+unfolding arraysFit
+marks-256 held marks times places heads heap e =
+    let a = and-true (leb held 256) (eqb marks 256 && (eqb times 256 && (eqb places 256 && (eqb heads 256 && eqb heap 256)))) e in
+    eqb-true marks 256 (and-true (eqb marks 256) (eqb times 256 && (eqb places 256 && (eqb heads 256 && eqb heap 256))) (a .1) .0)
+
+pub open-room : (ms ts cs hs hp ps : List ℕ) → openFits (length ms) (length ts) (length cs) (length hs) (length hp) (length ps) ≡ true
+    → Room 0 ms ts cs hs hp × (length ps ≡ 256) × (length ms ≡ 256)
+unfolding openFits
+open-room ms ts cs hs hp ps e =
+    let a = and-true _ _ e in
+    (arrays-room 0 ms ts cs hs hp (a .0), eqb-true (length ps) 256 (a .1), marks-256 0 (length ms) (length ts) (length cs) (length hs) (length hp) (a .0))
+
+pub count-room : (n hints : ℕ) → rightCount n hints ≡ true → (1 ≤ n) × (n ≤ 256) × (hints ≤ n)
+unfolding rightCount
+count-room n hints e =
+    let a = and-true _ _ e in
+    let b = and-true _ _ (a .1) in
+    (leb-true 1 n (a .0), leb-true n 256 (b .0), either (eqb hints 0) refl (b .1))
+  where
+    either : (x : Bool) → eqb hints 0 ≡ x → (x || eqb hints n) ≡ true → hints ≤ n
+    either true z w = omega (arith, eqb-true hints 0 z)
+    either false z w = omega (arith, eqb-true hints n w)
+
+-- a portion is taken as far as there is room
+pub room-bounds : (size mark place head s : ℕ) → s % 65536 + s / 65536 % 65536 ≤ 1024
+    → (roomFor size mark place head s ≤ size) × (s / 65536 % 65536 + roomFor size mark place head s ≤ 1024)
+unfolding roomFor
+room-bounds size mark place head s h =
+    let e : ltb 1024 (s % 65536 + s / 65536 % 65536) ≡ false = le-ltb 1024 (s % 65536 + s / 65536 % 65536) h in
+    rw e (omega arith, omega arith)
+
+pub not-both : true ≡ false → ⊥
+not-both e = let z : _≡_ {A = ℕ} 0 1 = cc in omega arith

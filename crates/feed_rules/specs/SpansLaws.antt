@@ -200,7 +200,7 @@ module _ (held marks times places heads heap spans window : ℕ) where
   unfolding feedFits
   fits-window e d = rw (e, eq-eqb spans 256 d) refl
 
-and-true : (x y : Bool) → (x && y) ≡ true → (x ≡ true) × (y ≡ true)
+pub and-true : (x y : Bool) → (x && y) ≡ true → (x ≡ true) × (y ≡ true)
 and-true true y e = (refl, e)
 and-true false y e = let z : _≡_ {A = ℕ} 0 1 = cc in absurd (omega arith)
 
