@@ -9,4 +9,5 @@ pub mod SpansLaws
 pub mod Steps
 pub mod Adding
 pub mod AddingLaws
+pub mod History
 pub mod Examples
