@@ -735,6 +735,82 @@ class PlainMerge(RecordMerge):
                 self.marks[stream], self.records[stream], self.times[stream] = "standing", record, record[3]
 
 
+class FeedMerge:
+    """The merge of streams that arrive in portions, by the rules' words (Requests, No. 5).
+
+    Of each stream it keeps all bytes taken; those before `base` count as dropped. A record's bytes stand in the
+    stream's part of the window, from `start` on.
+    """
+
+    def __init__(self, count, hints):
+        refuse_if(not 1 <= count <= STREAMS, 12)
+        refuse_if(hints and len(hints) != count, 12)
+        self.taken = [b""] * count
+        self.before = [0] * count  # bytes that came before the first of `taken`
+        self.base = [0] * count
+        self.start = [0] * count
+        self.ended = [False] * count
+        self.places = [0] * count
+        self.records = [None] * count  # None while a stream waits
+        self.heads = {stream: hint for stream, hint in enumerate(hints or [0] * count)}
+
+    def test_stream(self, stream):
+        refuse_if(stream not in self.heads or self.ended[stream], 12)
+
+    def kept(self, stream):
+        return self.taken[stream][self.base[stream] - self.before[stream] :]
+
+    def add(self, stream, portion):
+        """How many bytes of the portion are taken."""
+        self.test_stream(stream)
+        fill = len(self.kept(stream))
+        room = max(0, min(len(portion), RECORD - fill, 2**63 - self.base[stream] - fill))
+        self.taken[stream] += portion[:room]
+        self.start[stream] = 0
+        return room
+
+    def end(self, stream):
+        self.test_stream(stream)
+        self.ended[stream] = True
+
+    def drop(self, stream):
+        self.start[stream] += self.places[stream] - self.base[stream]
+        self.base[stream] = self.places[stream]
+
+    def wants(self, stream):
+        """Whether more must come before it is known what stands at the stream's place."""
+        if self.ended[stream]:
+            return False
+        kept = self.kept(stream)
+        if len(kept) < HEAD:
+            return True
+        length = FRAME.unpack(kept[:HEAD])[0]
+        return HEAD <= length <= RECORD and len(kept) < length
+
+    def next(self):
+        """A record as (stream, place, index in the window, length, kind, instrument, time), a stream alone that more is
+        needed of, or None at the end."""
+        while self.heads:
+            stream = min(self.heads, key=lambda stream: (self.heads[stream], stream))
+            place = self.places[stream]
+            if self.records[stream] is not None:
+                record, self.records[stream] = self.records[stream], None
+                self.places[stream] += record[0]
+                return (stream, place, RECORD * stream + self.start[stream], *record)
+            self.drop(stream)
+            if self.wants(stream):
+                return (stream,)
+            self.heads.pop(stream)
+            try:
+                record = frame_at(self.kept(stream), 0)
+            except Refused as refused:
+                raise Refused(13, stream, place, refused.answer[1]) from None
+            if record is not None:
+                self.records[stream] = record
+                self.heads[stream] = record[3]
+        return None
+
+
 # Programs. A section is (kind, content).
 
 

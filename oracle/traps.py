@@ -2,9 +2,10 @@
 """The printed examples M1 to M12 of the rules and the traps of docs/TRAPS.md, as cases with their answers.
 
 traps.py checks the model on them, and exits with 1 where an answer is another. traps.py cases, traps.py answers print
-them for another program.
+them for another program; traps.py feed cases, traps.py feed answers those of streams in portions, the data of vectors_feed.
 """
 
+import random
 import sys
 
 import answer as answers
@@ -567,6 +568,165 @@ def explain_program_traps():
         yield "E16", (words("explain_program", bundle), words(text.encode()))
 
 
+# Streams in portions (docs/RULES.md, Requests, No. 5). A case is a name and its calls with what they answer, in the words of
+# vectors_feed, whose data they are: o STREAMS HINTS.. opens, a STREAM SIZE HEX is a portion of so many bytes (HEX, then 9s), e STREAM
+# says that a stream has ended, n asks for the next answer, l PLACE lays the place of stream 0, x calls on arrays that are too short.
+
+
+def feeding(name, *calls):
+    return name, [call.split(" = ") for call in calls]
+
+
+def short(time, length=16):
+    return record(time, 7, 1, length)[:16].hex()
+
+
+def fed(stream, place, at, time, length=16, last=0):
+    return f"record {stream} {place} {at} {length} 1 7 {time} {last}"
+
+
+def feed_traps():
+    nines = lambda stream, size: f"a {stream} {size} -"
+    yield feeding("F1", "o 1 0 = opened 1", "n = need 0", "a 0 0 - = taken 0", "n = need 0", "e 0 = done", "n = end", "e 0 = 12",
+        "a 0 1 00 = 12", "a 0 0 - = 12")
+    zeros = "00" * 15
+    yield feeding("F2", "o 1 0 = opened 1", f"a 0 15 {zeros} = taken 15", "n = need 0", "a 0 1 00 = taken 1", "n = 13 0 0 2",
+        "a 0 1 00 = 12", "n = end")
+    yield feeding("F3", "o 1 0 = opened 1", f"a 0 15 {zeros} = taken 15", "e 0 = done", "n = 13 0 0 1")
+    yield feeding("F3", "o 1 0 = opened 1", f"a 0 16 {short(5, 17)} = taken 16", "n = need 0", "e 0 = done", "n = 13 0 0 3")
+    yield feeding("F3", "o 1 0 = opened 1", f"a 0 16 {short(5, 1025)} = taken 16", "n = 13 0 0 2")
+    yield feeding("F3", "o 1 0 = opened 1", f"a 0 16 {short(5, 15)} = taken 16", "n = 13 0 0 2")
+    yield feeding("F3", "o 1 0 = opened 1", f"a 0 16 {short(5, 1024)} = taken 16", "n = need 0")
+    longest = short(5, 1024)
+    yield feeding("F4", "o 1 0 = opened 1", f"a 0 16 {longest} = taken 16", "n = need 0", nines(0, 2000) + " = taken 1008",
+        "n = " + fed(0, 0, 0, 5, 1024, 9), nines(0, 10) + " = taken 0", "n = need 0", nines(0, 10) + " = taken 10", "e 0 = done",
+        "n = 13 0 1024 1")
+    yield feeding("F5", "o 1 0 = opened 1", f"a 0 2000 {short(1) * 125} = taken 1024", "n = " + fed(0, 0, 0, 1),
+        f"a 0 96 {short(1) * 6} = taken 0", "n = " + fed(0, 16, 16, 1), f"a 0 96 {short(1) * 6} = taken 16")
+    yield feeding("F6", "o 1 0 = opened 1", f"a 0 1040 {short(1)}{longest} = taken 1024", "n = " + fed(0, 0, 0, 1),
+        nines(0, 16) + " = taken 0", "n = need 0", nines(0, 18) + " = taken 16", "n = " + fed(0, 16, 0, 5, 1024, 9))
+    yield feeding("F7", "o 1 0 = opened 1", f"a 0 1023 {longest} = taken 1023", "n = need 0", nines(0, 1025) + " = taken 1",
+        "n = " + fed(0, 0, 0, 5, 1024, 9), "n = need 0")
+    yield feeding("F8", "o 2 0 = opened 2", f"a 1 16 {short(5)} = taken 16", "n = need 0", f"a 0 16 {short(7)} = taken 16",
+        "n = " + fed(1, 0, 1024, 5), "n = need 1", "e 1 = done", "n = " + fed(0, 0, 0, 7), "a 1 0 - = 12", "e 1 = 12", "n = need 0")
+    yield feeding("F9", "o 2 0 = opened 2", f"a 0 16 {short(9)} = taken 16", "n = need 1", f"a 1 16 {short(3)} = taken 16",
+        "n = " + fed(1, 0, 1024, 3), "n = need 1", "e 1 = done", "n = " + fed(0, 0, 0, 9))
+    yield feeding("F10", "o 2 0 = opened 2", f"a 0 16 {short(5)} = taken 16", f"a 1 16 {short(5)} = taken 16", "n = " + fed(0, 0, 0, 5),
+        "n = need 0", f"a 0 16 {short(5)} = taken 16", "n = " + fed(0, 16, 0, 5))
+    yield feeding("F11", "o 2 2 10 0 = opened 2", "n = need 1", "e 1 = done", "n = need 0")
+    yield feeding("F11", f"o 2 2 0 {TOP} = opened 2", f"a 0 16 {short(5)} = taken 16", "n = " + fed(0, 0, 0, 5), "n = need 0",
+        "e 0 = done", "n = need 1")
+    yield feeding("F12", "o 2 0 = opened 2", "e 0 = done", "n = need 1", "a 0 1 00 = 12", "h = held 1")
+    yield feeding("F13", "o 2 0 = opened 2", f"a 1 16 {zeros}00 = taken 16", "n = need 0", "a 1 1 00 = taken 1", "e 1 = done",
+        f"a 0 16 {short(5)} = taken 16", "n = 13 1 0 2", "n = " + fed(0, 0, 0, 5))
+    yield feeding("F14", "o 1 0 = opened 1", f"a 0 32 {short(1)}{zeros}00 = taken 32", "n = " + fed(0, 0, 0, 1), "a 0 1 00 = taken 1",
+        "n = 13 0 16 2", "a 0 0 - = 12", "n = end")
+    yield feeding("F15", "o 1 0 = opened 1", f"a 0 32 {short(1)}{short(2)} = taken 32", "e 0 = done", "a 0 0 - = 12",
+        "n = " + fed(0, 0, 0, 1), "n = " + fed(0, 16, 16, 2), "n = end", "n = end")
+    yield feeding("F15", "o 1 0 = opened 1", f"a 0 1024 {longest} = taken 1024", "n = " + fed(0, 0, 0, 5, 1024, 9), "e 0 = done", "n = end")
+    yield feeding("F16", "o 2 0 = opened 2", "a 2 1 00 = 12", "a 256 0 - = 12", f"a {TOP} 0 - = 12", "e 2 = 12", "x = 15 15 15 15",
+        "o 257 0 = 12", "o 0 0 = 12", "o 2 1 5 = 12", "n = need 0")
+    top = 2**63
+    yield feeding("F17", "o 1 0 = opened 1", f"l {top - 16} = laid", f"a 0 20 {short(3)} = taken 16", "n = " + fed(0, top - 16, 0, 3),
+        "n = need 0", "a 0 1 00 = taken 0", "e 0 = done", "n = end")
+    yield feeding("F17", "o 1 0 = opened 1", f"l {top - 20} = laid", f"a 0 21 {short(3)} = taken 20", "n = " + fed(0, top - 20, 0, 3),
+        "n = need 0", "a 0 1 00 = taken 0", "n = need 0", "e 0 = done", f"n = 13 0 {top - 4} 1")
+    for size in (1, 2, 3, 7, 16, 19):
+        yield feeding("F18", *printed_portions(size))
+    yield feeding("F20", "o 2 0 = opened 2", f"a 1 48 {short(1) * 3} = taken 48", f"a 0 16 {short(9)} = taken 16",
+        "n = " + fed(1, 0, 1024, 1), "n = " + fed(1, 16, 1040, 1), f"a 0 16 {short(9)} = taken 16", "w 1 = at 1040", "a 1 0 - = taken 0",
+        "w 1 = at 1024")
+    yield feeding("F21", "o 256 0 = opened 256", nines(0, 1024) + " = taken 1024", f"a 255 16 {short(4)} = taken 16", "n = 13 0 0 2",
+        f"a 1 16 {short(8)} = taken 16", *[f"e {stream} = done" for stream in range(1, 256)], "n = " + fed(255, 0, 261120, 4),
+        "n = " + fed(1, 0, 1024, 8), "n = end")
+
+
+def printed_portions(size):
+    """The printed replay example, each stream in portions of so many bytes."""
+    calls = ["o 2 0 = opened 2"]
+    for stream, content in enumerate([bytes.fromhex(short(5)) + bytes(3), bytes.fromhex(short(6))]):
+        for at in range(0, len(content), size):
+            part = content[at : at + size]
+            calls += [f"n = need {0 if stream == 0 and at < 16 else 1}", f"a {stream} {len(part)} {part.hex()} = taken {len(part)}"]
+        calls += [f"e {stream} = done"] if stream == 0 else []
+    return calls + ["n = " + fed(0, 0, 0, 5), "n = 13 0 16 1", "n = " + fed(1, 0, 1024, 6), "n = need 1", "e 1 = done", "n = end"]
+
+
+def fed_answer(merge, call):
+    """What the model answers to a call of a feed case, and the merge after it."""
+    word, *numbers = call.split()
+    try:
+        if word == "o":
+            count, many, *hints = map(int, numbers)
+            return f"opened {count}", model.FeedMerge(count, hints)
+        if word == "a":
+            content = b"" if numbers[2] == "-" else bytes.fromhex(numbers[2])
+            size = int(numbers[1])
+            return f"taken {merge.add(int(numbers[0]), (content + bytes([9]) * size)[:size])}", merge
+        if word == "e":
+            merge.end(int(numbers[0]))
+            return "done", merge
+        if word == "h":
+            return f"held {len(merge.heads)}", merge
+        if word == "w":
+            return f"at {1024 * int(numbers[0]) + merge.start[int(numbers[0])]}", merge
+        if word == "l":
+            merge.places[0] = merge.base[0] = merge.before[0] = int(numbers[0])
+            return "laid", merge
+        if word == "x":
+            return "15 15 15 15", merge
+        said = merge.next()
+        if said is None:
+            return "end", merge
+        if len(said) == 1:
+            return f"need {said[0]}", merge
+        last = merge.kept(said[0])[said[3] - 1]
+        return " ".join(map(str, ("record", *said, last))), merge
+    except model.Refused as refused:
+        return " ".join(map(str, refused.answer)), merge
+
+
+def drawn_stream(draw):
+    content = b"".join(record(draw.randrange(6), 7, 1, draw.choice([16, 17, 40, 1024])) for _ in range(draw.randrange(4)))
+    return content + bytes(draw.choice([0, 16, 17, 15, 255, 4]) for _ in range(draw.randrange(30) if draw.random() < 0.3 else 0))
+
+
+def portions_drawn(draws):
+    """How many drawn cases answer otherwise in portions than whole, the "need more" answers struck out."""
+    draw, wrong = random.Random(5), 0
+    for _ in range(draws):
+        streams = [drawn_stream(draw) for _ in range(draw.randrange(1, 4))]
+        hints = [draw.randrange(6) for _ in streams]
+        cuts = [sum(map(len, streams[:n])) for n in range(len(streams) + 1)]
+        whole, parts = model.RecordMerge(b"".join(streams), cuts, hints), model.FeedMerge(len(streams), hints)
+        wrong += answers_to_end(lambda: whole.next()) != answers_to_end(lambda: next_drawn(parts, streams, draw))
+    return wrong
+
+
+def next_drawn(merge, streams, draw):
+    """The next answer that asks for no more, in drawn portions."""
+    while True:
+        stream = draw.randrange(len(streams))
+        if stream in merge.heads and not merge.ended[stream]:
+            merge.add(stream, streams[stream][len(merge.taken[stream]) :][: draw.choice([0, 1, 3, 15, 16, 100, 2000])])
+            if len(merge.taken[stream]) == len(streams[stream]):
+                merge.end(stream)
+        said = merge.next()
+        if said is None or len(said) > 1:
+            return said and (*said[:2], *said[3:])
+        assert len(merge.kept(said[0])) < 1024
+
+
+def answers_to_end(ask):
+    said = []
+    while not said or said[-1] is not None:
+        try:
+            said.append(ask())
+        except model.Refused as refused:
+            said.append(refused.answer)
+    return said
+
+
 def traps():
     base = [examples, map_traps, name_traps, record_traps, build_traps, metadata_traps, merge_traps]
     requests = [complaint_traps, plain_traps, compare_traps, compare_program_traps, explain_traps, explain_program_traps]
@@ -582,7 +742,22 @@ def checked():
             wrong += 1
             print(f"{name}: {case}\n  asked {said}\n  model {answers.answer(case)}")
     print(f"traps: {len(list(traps()))} cases, {wrong} wrong")
-    return wrong
+    return wrong + checked_feed()
+
+
+def checked_feed():
+    """The same of the calls on streams in portions, and of drawn portions beside the whole streams."""
+    wrong = 0
+    for name, calls in feed_traps():
+        merge = None
+        for call, said in calls:
+            answered, merge = fed_answer(merge, call)
+            if answered != said:
+                wrong += 1
+                print(f"{name}: {call}\n  asked {said}\n  model {answered}")
+    drawn = portions_drawn(2000)
+    print(f"feed: {len(list(feed_traps()))} cases, {wrong} wrong; 2000 drawn in portions, {drawn} otherwise than whole")
+    return wrong + drawn
 
 
 if __name__ == "__main__":
@@ -590,8 +765,12 @@ if __name__ == "__main__":
         print("\n".join(case for _, (case, _) in traps()))
     elif sys.argv[1:] == ["answers"]:
         print("\n".join(said for _, (_, said) in traps()))
+    elif sys.argv[1:] == ["feed", "cases"]:
+        print("\n".join(line for name, calls in feed_traps() for line in (f"= {name}", *(call for call, _ in calls))))
+    elif sys.argv[1:] == ["feed", "answers"]:
+        print("\n".join(line for name, calls in feed_traps() for line in (name, *(said for _, said in calls))))
     elif sys.argv[1:]:
-        print("traps.py [cases|answers]", file=sys.stderr)
+        print("traps.py [[feed] cases|answers]", file=sys.stderr)
         sys.exit(2)
     else:
         sys.exit(1 if checked() else 0)

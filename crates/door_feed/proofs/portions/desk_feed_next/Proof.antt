@@ -1,0 +1,194 @@
+-- Each arm of the match is what its case says. Assumes nothing.
+use mathlib.Core.Path.{refl}
+use Rattle.feed.specs.Answers.{fedOf}
+use Rattle.door_answers.specs.AnswersLaws.{answer-same}
+use Rattle.door_feed.specs.HandingLaws.{fed-record, fed-end, fed-need, fed-not}
+use borrow.Author.Needs.{needs}
+use Rattle.door_feed.proofs.portions.desk_feed_next.Statement.{statement}
+use Rattle.door_feed.proofs.portions.desk_feed_next.Tie as tie
+
+next-requires : tie.Need-next-requires
+next-requires c κs = search needs
+
+enum-known-answer : tie.Need-enum-known-answer
+enum-known-answer c = search needs
+
+enum-told : tie.Need-enum-told
+enum-told c = search needs
+
+enum-known-answer-2 : tie.Need-enum-known-answer-2
+enum-known-answer-2 c = search needs
+
+enum-known-answer-3 : tie.Need-enum-known-answer-3
+enum-known-answer-3 c = search needs
+
+stream-in-requires : tie.Need-stream-in-requires
+stream-in-requires c κs = search needs
+
+place-in-requires : tie.Need-place-in-requires
+place-in-requires c κs = search needs
+
+reason-in-requires : tie.Need-reason-in-requires
+reason-in-requires c κs = search needs
+
+number-requires : tie.Need-number-requires
+number-requires c κs = search needs
+
+same-length : tie.Need-same-length
+same-length c = search needs
+
+same-length-2 : tie.Need-same-length-2
+same-length-2 c = search needs
+
+same-length-3 : tie.Need-same-length-3
+same-length-3 c = search needs
+
+same-length-4 : tie.Need-same-length-4
+same-length-4 c = search needs
+
+same-length-5 : tie.Need-same-length-5
+same-length-5 c = search needs
+
+same-length-6 : tie.Need-same-length-6
+same-length-6 c = search needs
+
+returns : tie.Need-returns
+returns c =
+    let a = c .before .before .before .before .before .before .before .before .before .before .before .before .before .before .before .before .before .before .before .before .before .before .before .before .before .before .before .before .before .before .args in
+    let o = c .before .before .before .before .before .before .before .before .before .before .before .before .before .before .before .next .ensures .1 in
+    let g = c .before .answer .given .1 in (
+      (λ w. let x = o .0 w in (fed-record (a .found .now) (a .stream .now) (a .place .now) (a .index .now) (a .long .now) (a .kind .now) (a .instrument .now) (a .time .now) (a .reason .now) (answer-same fedOf (x .0) g), x .1, x .2)),
+      (λ w n h s. let x = o .1 w n h s in (fed-record (a .found .now) (a .stream .now) (a .place .now) (a .index .now) (a .long .now) (a .kind .now) (a .instrument .now) (a .time .now) (a .reason .now) (answer-same fedOf (x .heard) g), record { heard = refl; leaves = x .leaves; sound = x .sound })),
+    )
+
+same-length-7 : tie.Need-same-length-7
+same-length-7 c = search needs
+
+same-length-8 : tie.Need-same-length-8
+same-length-8 c = search needs
+
+same-length-9 : tie.Need-same-length-9
+same-length-9 c = search needs
+
+same-length-10 : tie.Need-same-length-10
+same-length-10 c = search needs
+
+same-length-11 : tie.Need-same-length-11
+same-length-11 c = search needs
+
+same-length-12 : tie.Need-same-length-12
+same-length-12 c = search needs
+
+returns-2 : tie.Need-returns-2
+returns-2 c =
+    let a = c .before .before .before .before .before .before .before .before .before .before .before .before .before .before .before .before .before .before .before .before .before .before .before .before .before .before .before .before .before .args in
+    let o = c .before .before .before .before .before .before .before .before .before .before .before .before .before .before .next .ensures .1 in
+    let g = c .enum-told .given .1 in (
+      (λ w. let x = o .0 w in (fed-end (a .found .now) (a .stream .now) (a .place .now) (a .index .now) (a .long .now) (a .kind .now) (a .instrument .now) (a .time .now) (a .reason .now) (answer-same fedOf (x .0) g), x .1, x .2)),
+      (λ w n h s. let x = o .1 w n h s in (fed-end (a .found .now) (a .stream .now) (a .place .now) (a .index .now) (a .long .now) (a .kind .now) (a .instrument .now) (a .time .now) (a .reason .now) (answer-same fedOf (x .heard) g), record { heard = refl; leaves = x .leaves; sound = x .sound })),
+    )
+
+same-length-13 : tie.Need-same-length-13
+same-length-13 c = search needs
+
+same-length-14 : tie.Need-same-length-14
+same-length-14 c = search needs
+
+same-length-15 : tie.Need-same-length-15
+same-length-15 c = search needs
+
+same-length-16 : tie.Need-same-length-16
+same-length-16 c = search needs
+
+same-length-17 : tie.Need-same-length-17
+same-length-17 c = search needs
+
+same-length-18 : tie.Need-same-length-18
+same-length-18 c = search needs
+
+returns-3 : tie.Need-returns-3
+returns-3 c =
+    let a = c .before .before .before .before .before .before .before .before .before .before .before .before .before .before .before .before .before .before .before .before .before .before .before .before .before .before .before .before .before .before .args in
+    let o = c .before .before .before .before .before .before .before .before .before .before .before .before .before .before .before .next .ensures .1 in
+    let g = c .before .answer2 .given .1 in (
+      (λ w. let x = o .0 w in (fed-need (a .found .now) (a .stream .now) (a .place .now) (a .index .now) (a .long .now) (a .kind .now) (a .instrument .now) (a .time .now) (a .reason .now) (answer-same fedOf (x .0) g), x .1, x .2)),
+      (λ w n h s. let x = o .1 w n h s in (fed-need (a .found .now) (a .stream .now) (a .place .now) (a .index .now) (a .long .now) (a .kind .now) (a .instrument .now) (a .time .now) (a .reason .now) (answer-same fedOf (x .heard) g), record { heard = refl; leaves = x .leaves; sound = x .sound })),
+    )
+
+same-length-19 : tie.Need-same-length-19
+same-length-19 c = search needs
+
+same-length-20 : tie.Need-same-length-20
+same-length-20 c = search needs
+
+same-length-21 : tie.Need-same-length-21
+same-length-21 c = search needs
+
+same-length-22 : tie.Need-same-length-22
+same-length-22 c = search needs
+
+same-length-23 : tie.Need-same-length-23
+same-length-23 c = search needs
+
+same-length-24 : tie.Need-same-length-24
+same-length-24 c = search needs
+
+returns-4 : tie.Need-returns-4
+returns-4 c =
+    let a = c .before .before .before .before .before .before .before .before .before .before .before .before .before .before .before .before .before .before .before .before .before .before .before .before .before .before .before .before .before .before .before .before .before .before .before .before .before .args in
+    let o = c .before .before .before .before .before .before .before .before .before .before .before .before .before .before .before .before .before .before .before .before .before .before .next .ensures .1 in
+    let g = c .before .before .before .before .before .before .before .before .answer3 .given .1 in (
+      (λ w. let x = o .0 w in (
+        fed-not (a .found .now) (a .stream .now) (a .place .now) (a .index .now) (a .long .now) (a .kind .now) (a .instrument .now) (a .time .now) (a .reason .now)
+            (c .before .before .before .before .before .before .before .before .answer3 .given .0 .0) (c .number .ensures) (c .before .before .before .before .before .stream-in .ensures) (c .before .before .before .place-in .ensures) (c .before .reason-in .ensures) (answer-same fedOf (x .0) g),
+        x .1,
+        x .2,
+      )),
+      (λ w n h s. let x = o .1 w n h s in (
+        fed-not (a .found .now) (a .stream .now) (a .place .now) (a .index .now) (a .long .now) (a .kind .now) (a .instrument .now) (a .time .now) (a .reason .now)
+            (c .before .before .before .before .before .before .before .before .answer3 .given .0 .0) (c .number .ensures) (c .before .before .before .before .before .stream-in .ensures) (c .before .before .before .place-in .ensures) (c .before .reason-in .ensures) (answer-same fedOf (x .heard) g),
+        record { heard = refl; leaves = x .leaves; sound = x .sound },
+      )),
+    )
+
+pub desk-feed-next-spec : {M : Type 1} → statement M
+desk-feed-next-spec =
+    tie.close
+    (tie.spec
+    next-requires
+    enum-known-answer
+    enum-told
+    enum-known-answer-2
+    enum-known-answer-3
+    stream-in-requires
+    place-in-requires
+    reason-in-requires
+    number-requires
+    same-length
+    same-length-2
+    same-length-3
+    same-length-4
+    same-length-5
+    same-length-6
+    returns
+    same-length-7
+    same-length-8
+    same-length-9
+    same-length-10
+    same-length-11
+    same-length-12
+    returns-2
+    same-length-13
+    same-length-14
+    same-length-15
+    same-length-16
+    same-length-17
+    same-length-18
+    returns-3
+    same-length-19
+    same-length-20
+    same-length-21
+    same-length-22
+    same-length-23
+    same-length-24
+    returns-4)

@@ -1,0 +1,90 @@
+-- Each arm of the match is what its case says. Assumes nothing.
+use Rattle.feed.specs.Answers.{openedOf}
+use Rattle.door_answers.specs.AnswersLaws.{answer-same, done-number, done-value, not-number, not-value}
+use borrow.Author.Needs.{needs}
+use Rattle.door_feed.proofs.portions.desk_feed_open.Statement.{statement}
+use Rattle.door_feed.proofs.portions.desk_feed_open.Tie as tie
+
+open-requires : tie.Need-open-requires
+open-requires c κs = search needs
+
+enum-known-opened : tie.Need-enum-known-opened
+enum-known-opened c = search needs
+
+enum-known-opened-2 : tie.Need-enum-known-opened-2
+enum-known-opened-2 c = search needs
+
+number-requires : tie.Need-number-requires
+number-requires c κs = search needs
+
+same-length : tie.Need-same-length
+same-length c = search needs
+
+same-length-2 : tie.Need-same-length-2
+same-length-2 c = search needs
+
+same-length-3 : tie.Need-same-length-3
+same-length-3 c = search needs
+
+same-length-4 : tie.Need-same-length-4
+same-length-4 c = search needs
+
+same-length-5 : tie.Need-same-length-5
+same-length-5 c = search needs
+
+same-length-6 : tie.Need-same-length-6
+same-length-6 c = search needs
+
+returns : tie.Need-returns
+returns c =
+    let o = c .before .before .before .before .before .before .before .before .before .before .before .before .before .before .before .«open» .ensures in
+    let e = answer-same openedOf (o .0) (c .before .opened .given .1) in
+    (done-number e, (done-value (c .before .before .before .before .before .before .before .before .before .before .before .before .before .before .before .before .before .before .before .before .before .before .before .before .before .before .before .before .before .args .held .now) 1 e, o .1))
+
+same-length-7 : tie.Need-same-length-7
+same-length-7 c = search needs
+
+same-length-8 : tie.Need-same-length-8
+same-length-8 c = search needs
+
+same-length-9 : tie.Need-same-length-9
+same-length-9 c = search needs
+
+same-length-10 : tie.Need-same-length-10
+same-length-10 c = search needs
+
+same-length-11 : tie.Need-same-length-11
+same-length-11 c = search needs
+
+same-length-12 : tie.Need-same-length-12
+same-length-12 c = search needs
+
+returns-2 : tie.Need-returns-2
+returns-2 c =
+    let o = c .before .before .before .before .before .before .before .before .before .before .before .before .before .before .before .before .«open» .ensures in
+    let e = answer-same openedOf (o .0) (c .before .before .opened2 .given .1) in
+    let r = c .before .before .opened2 .given .0 .0 in
+    (not-number r (c .number .ensures) e, (not-value r (c .before .before .before .before .before .before .before .before .before .before .before .before .before .before .before .before .before .before .before .before .before .before .before .before .before .before .before .before .before .before .args .held .now) 1 e, o .1))
+
+pub desk-feed-open-spec : {M : Type 1} → statement M
+desk-feed-open-spec =
+    tie.close
+    (tie.spec
+    open-requires
+    enum-known-opened
+    enum-known-opened-2
+    number-requires
+    same-length
+    same-length-2
+    same-length-3
+    same-length-4
+    same-length-5
+    same-length-6
+    returns
+    same-length-7
+    same-length-8
+    same-length-9
+    same-length-10
+    same-length-11
+    same-length-12
+    returns-2)

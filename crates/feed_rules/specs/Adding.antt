@@ -1,0 +1,75 @@
+-- What an opening, a portion and the word that a stream has ended do to the state of the code. Assumes nothing.
+use mathlib.Core.Path.{_≡_}
+use mathlib.Core.Logic.{_≢_}
+use Prim.Native.Nat.{ℕ, _+_, _-_, _*_, _/_, _%_, _<_, _≤_, _^_, min}
+use mathlib.Core.Bool.{Bool, true, false, not, cond, _&&_, _||_}
+use mathlib.Core.List.{List, [], _∷_}
+use lib.ListN.{length, getD, set, drop}
+use lib.Seq.{paste}
+use lib.Dec.{eqb, ltb, leb}
+use Rattle.theory.specs.Answer.{Answer, answer}
+use Rattle.records_rules.specs.State.{arraysFit}
+use Rattle.feed_rules.specs.Windows.{Feed, opened, closed, addAnswer, addLeaves, endAnswer, endLeaves, Alike}
+use Rattle.feed_rules.specs.Spans.{counts, feedOf, FeedOk}
+
+-- ---- what is lent: where it does not fit, 15
+
+unfoldable pub wordFits : ℕ → ℕ → Bool
+wordFits marks spans = eqb marks 256 && eqb spans 256
+
+unfoldable pub portionFits : ℕ → ℕ → ℕ → ℕ → ℕ → Bool
+unfolding wordFits
+portionFits marks places heads spans window = eqb places 256 && (eqb heads 256 && (eqb window 262144 && wordFits marks spans))
+
+unfoldable pub openFits : ℕ → ℕ → ℕ → ℕ → ℕ → ℕ → Bool
+unfolding arraysFit
+openFits marks times places heads heap spans = arraysFit 0 marks times places heads heap && eqb spans 256
+
+-- ---- a portion
+
+-- the stream p is ended, closed or not there
+unfoldable pub shutAt : ℕ → List ℕ → List ℕ → Bool
+shutAt p ms ps = cond (ltb p 256) (eqb (getD ms p 0) 0 || not (eqb (getD ps p 0 / 4294967296) 0)) true
+
+-- how many of so many bytes are taken; none where the span lies in no window
+unfoldable pub roomFor : ℕ → ℕ → ℕ → ℕ → ℕ → ℕ
+unfolding counts
+roomFor size mark place head s =
+    cond (ltb 1024 (s % 65536 + s / 65536 % 65536)) 0
+    (min size (min (1024 - s / 65536 % 65536) (2 ^ 63 - (place - counts mark head + s / 65536 % 65536))))
+
+-- the window with the kept bytes of the stream p at the front of its part, then k bytes of the portion
+abbrev pub laidWindow : List ℕ → ℕ → ℕ → List ℕ → ℕ → List ℕ
+laidWindow window p s xs k =
+    paste (paste window (1024 * p) (drop (1024 * p + s % 65536) window) (s / 65536 % 65536)) (1024 * p + s / 65536 % 65536) xs k
+
+-- the answer x to a portion xs of the stream p, and what it leaves: of the window the part of p alone, and the span of p alone; where it
+-- is refused, everything
+pub record FeedAdds (n held : ℕ) (window ms ts cs hs hp ps : List ℕ) (p : ℕ) (xs : List ℕ) (x : Answer) (window' ps' : List ℕ) : Type 0 where
+  pub heard : x ≡ addAnswer (feedOf n window ms ts cs hs ps) p xs
+  pub leaves : Alike (feedOf n window' ms ts cs hs ps') (addLeaves (feedOf n window ms ts cs hs ps) p xs)
+  pub sound : FeedOk n held ms ts cs hs hp ps'
+  pub refused : closed (feedOf n window ms ts cs hs ps) p ≡ true → (window' ≡ window) × (ps' ≡ ps)
+  pub others : (i : ℕ) → (1024 * p ≤ i → i < 1024 * p + 1024 → ⊥) → getD window' i 0 ≡ getD window i 0
+  pub spans : (q : ℕ) → q ≢ p → getD ps' q 0 ≡ getD ps q 0
+
+-- ---- the word that a stream has ended
+
+pub record FeedEnds (n held : ℕ) (window ms ts cs hs hp ps : List ℕ) (p : ℕ) (x : Answer) (ps' : List ℕ) : Type 0 where
+  pub heard : x ≡ endAnswer (feedOf n window ms ts cs hs ps) p
+  pub leaves : Alike (feedOf n window ms ts cs hs ps') (endLeaves (feedOf n window ms ts cs hs ps) p)
+  pub sound : FeedOk n held ms ts cs hs hp ps'
+  pub refused : closed (feedOf n window ms ts cs hs ps) p ≡ true → ps' ≡ ps
+  pub spans : (q : ℕ) → q ≢ p → getD ps' q 0 ≡ getD ps q 0
+
+-- ---- an opening
+
+-- "12: no stream, over 256, or hints given and not one per stream"
+unfoldable pub rightCount : ℕ → ℕ → Bool
+rightCount n hints = leb 1 n && (leb n 256 && (eqb hints 0 || eqb hints n))
+
+-- what an accepted opening leaves, whatever the window holds
+pub record FeedOpened (n : ℕ) (hints ms ts cs hs hp ps : List ℕ) : Type 0 where
+  pub starts : (window : List ℕ) → Alike (feedOf n window ms ts cs hs ps) (opened n hints)
+  pub sound : FeedOk n n ms ts cs hs hp ps
+  pub spans : (q : ℕ) → q < 256 → getD ps q 0 ≡ 0

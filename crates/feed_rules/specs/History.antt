@@ -1,0 +1,318 @@
+-- Calls of the code, one after the other: their answers are those of `Windows` on what is kept, whatever the heap's order and wherever the
+-- bytes stand; so whatever the portions, the answers without "need more" are the whole streams'. Assumes nothing.
+use mathlib.Core.Path.{_≡_, refl, sym, ap, subst, _∙_}
+use mathlib.Core.Logic.{_≢_}
+use Prim.Native.Nat.{ℕ, zero, suc, _+_, _-_, _≤_, _<_}
+use native.Mathlib.Decide.{ℕ-discrete}
+use native.Mathlib.Omega.{arith}
+use mathlib.Core.Bool.{Bool, true, false, cond, _||_}
+use mathlib.Core.Option.{Option, none, some}
+use mathlib.Core.List.{List, [], _∷_}
+use lib.ListN.{length, getD, set, take}
+use lib.Seq.{getD-set-same, getD-set-other}
+use lib.Dec.{eqb}
+use Rattle.theory.specs.Answer.{Answer, answer}
+use Rattle.leaves.specs.Frame.{Read, whole, ended, damaged}
+use Rattle.records_rules.specs.Machine.{Rec, rec, record-at, damage-at, Status, waiting, standing, gone, key, First, nobody, first, least}
+use Rattle.records_rules.specs.Machine.{says, end, done, again, afterRead, answersF, start}
+use Rattle.records_rules.specs.Machine as machine
+use Rattle.records_rules.specs.Least.{LeastOk, least-ok}
+use Rattle.records_rules.specs.Kept.{inside}
+use Rattle.records_rules.specs.Bytes.{bytesOf}
+use Rattle.records_rules.specs.State.{padded}
+use Rattle.feed_rules.specs.Partial.{Step⁺, moved, wants, found⁺, chosen⁺, stepAt⁺, step⁺, Turn⁺, replies, needs, onward⁺, nextF⁺, next⁺, rest⁺}
+use Rattle.feed_rules.specs.Windows.{Kept, knownIn, Feed, known, put, opened, isGone, closed, taking, grow, shut, addAnswer, addLeaves, endAnswer, endLeaves}
+use Rattle.feed_rules.specs.Windows.{counted, keptBy, turnIn, turnLeaves, nextLeaves, turnAnswer, nextAnswer, Alike}
+use Rattle.feed_rules.specs.Windows.{Call, portion, word, call, answerTo, leaves, answersTo, heard}
+use Rattle.feed_rules.specs.Portions.{Brought, portioned-are}
+use Rattle.feed_rules.specs.Spans.{feedOf, FeedSays}
+use Rattle.feed_rules.specs.Adding.{FeedAdds, FeedEnds, FeedOpened}
+use Rattle.feed_rules.specs.AddingLaws.{not-both}
+
+-- ---- a turn asks only of streams that wait, and wakes nobody
+
+-- whose status is not gone has one
+abbrev Alive : List Status → ℕ → Type 0
+Alive ss q = getD ss q gone ≢ gone
+
+-- who is there after the turn was there before, and a record's stream is there
+abbrev TurnAlive : List Status → Turn⁺ → Type 0
+TurnAlive ss (replies (says p (record-at a r)) ss') = ((q : ℕ) → Alive ss' q → Alive ss q) × Alive ss' p
+TurnAlive ss (replies (says p (damage-at a reason)) ss') = (q : ℕ) → Alive ss' q → Alive ss q
+TurnAlive ss (replies end ss') = (q : ℕ) → Alive ss' q → Alive ss q
+TurnAlive ss (needs p ss') = (q : ℕ) → Alive ss' q → Alive ss q
+
+abbrev StepAlive : List Status → Step⁺ → Type 0
+StepAlive ss (wants p) = Unit {0}
+StepAlive ss (moved (done x ss')) = TurnAlive ss (replies x ss')
+StepAlive ss (moved (again ss')) = (q : ℕ) → Alive ss' q → Alive ss q
+
+set-alive : (ss : List Status) (p : ℕ) (s : Status) → Alive ss p → (q : ℕ) → Alive (set ss p s) q → Alive ss q
+set-alive ss p s h q d = go (ℕ-discrete q p)
+  where
+    go : Dec (q ≡ p) → getD ss q gone ≢ gone
+    go (yes e) = rw e h
+    go (no e) = rw (← getD-set-other ss p q s gone e) d
+
+module _ (k : ℕ → ℕ → Option Read) where
+  found-alive : (ss : List Status) (p a : ℕ) → Alive ss p → (o : Option Read) → StepAlive ss (found⁺ ss p a o)
+  unfolding found⁺ afterRead
+  found-alive ss p a h none = tt
+  found-alive ss p a h (some ended) = set-alive ss p gone h
+  found-alive ss p a h (some (damaged r)) = set-alive ss p gone h
+  found-alive ss p a h (some (whole l κ ι t)) = set-alive ss p (standing a (rec l κ ι t)) h
+
+  chosen-alive : (ss : List Status) (p : ℕ) → p < length ss → (s : Status) → getD ss p gone ≡ s → StepAlive ss (chosen⁺ k ss p s)
+  unfolding chosen⁺
+  chosen-alive ss p l (waiting t a) e =
+      found-alive ss p a (λ z. let i : waiting t a ≡ gone = sym e ∙ z in let y : _≡_ {A = ℕ} 0 1 = cc in absurd (omega arith)) (k p a)
+  chosen-alive ss p l (standing a r) e =
+      let h : getD ss p gone ≢ gone = λ z. let i : standing a r ≡ gone = sym e ∙ z in let y : _≡_ {A = ℕ} 0 1 = cc in absurd (omega arith) in
+      let w = waiting (r .time) (a + r .size) in (
+        set-alive ss p w h,
+        λ z. let i : w ≡ gone = sym (getD-set-same ss p w gone l) ∙ z in let y : _≡_ {A = ℕ} 0 1 = cc in absurd (omega arith),
+      )
+  chosen-alive ss p l gone e = λ q d. d
+
+  step-alive : (ss : List Status) → StepAlive ss (step⁺ k ss)
+  unfolding step⁺ stepAt⁺
+  step-alive ss = pick (least ss) (least-ok ss)
+    where
+      pick : (r : First) → LeastOk ss r → StepAlive ss (stepAt⁺ k ss r)
+      pick nobody f = λ q d. d
+      pick (first t p) f = chosen-alive ss p (inside ss p t (f .has)) (getD ss p gone) refl
+
+  later-alive : (ss ss' : List Status) → ((q : ℕ) → Alive ss' q → Alive ss q) → (r : Turn⁺) → TurnAlive ss' r → TurnAlive ss r
+  later-alive ss ss' f (replies (says p (record-at a r)) ss″) z = ((λ q d. f q (z .0 q d)), z .1)
+  later-alive ss ss' f (replies (says p (damage-at a reason)) ss″) z = λ q d. f q (z q d)
+  later-alive ss ss' f (replies end ss″) z = λ q d. f q (z q d)
+  later-alive ss ss' f (needs p ss″) z = λ q d. f q (z q d)
+
+  turn-aliveF : (f : ℕ) (ss : List Status) → TurnAlive ss (nextF⁺ f k ss)
+  unfolding nextF⁺ onward⁺
+  turn-aliveF zero ss = λ q d. d
+  turn-aliveF (suc f) ss = go (step⁺ k ss) (step-alive ss) (λ ss'. turn-aliveF f ss')
+    where
+      go : (s : Step⁺) → StepAlive ss s → ((ss' : List Status) → TurnAlive ss' (nextF⁺ f k ss')) → TurnAlive ss (onward⁺ (λ l. nextF⁺ f k l) ss s)
+      go (wants p) z ih = λ q d. d
+      go (moved (done x ss')) z ih = z
+      go (moved (again ss')) z ih = later-alive ss ss' z (nextF⁺ f k ss') (ih ss')
+
+  turn-alive : (ss : List Status) → TurnAlive ss (next⁺ k ss)
+  unfolding next⁺
+  turn-alive ss = turn-aliveF (suc (length ss)) ss
+
+  rest-alive : (ss : List Status) (r : Turn⁺) → TurnAlive ss r → (q : ℕ) → Alive (rest⁺ r) q → Alive ss q
+  unfolding rest⁺
+  rest-alive ss (replies (says p (record-at a r)) ss') z = z .0
+  rest-alive ss (replies (says p (damage-at a reason)) ss') z = z
+  rest-alive ss (replies end ss') z = z
+  rest-alive ss (needs p ss') z = z
+
+-- what is known of other streams does not matter
+module _ (k k' : ℕ → ℕ → Option Read) where
+  agree-F : (f : ℕ) (ss : List Status) → ((p a : ℕ) → Alive ss p → k p a ≡ k' p a) → nextF⁺ f k ss ≡ nextF⁺ f k' ss
+  unfolding nextF⁺ onward⁺ step⁺ stepAt⁺ chosen⁺
+  agree-F zero ss h = refl
+  agree-F (suc f) ss h = ap (onward⁺ (λ l. nextF⁺ f k l) ss) same ∙ go (step⁺ k' ss) (step-alive k' ss) (λ ss' i. agree-F f ss' i)
+    where
+      on : (p : ℕ) (s : Status) → getD ss p gone ≡ s → chosen⁺ k ss p s ≡ chosen⁺ k' ss p s
+      on p (waiting t a) e =
+          ap (found⁺ ss p a) (h p a (λ z. let i : waiting t a ≡ gone = sym e ∙ z in let y : _≡_ {A = ℕ} 0 1 = cc in absurd (omega arith)))
+      on p (standing a r) e = refl
+      on p gone e = refl
+
+      pick : (r : First) → stepAt⁺ k ss r ≡ stepAt⁺ k' ss r
+      pick nobody = refl
+      pick (first t p) = on p (getD ss p gone) refl
+
+      same : step⁺ k ss ≡ step⁺ k' ss
+      same = pick (least ss)
+
+      go : (s : Step⁺) → StepAlive ss s → ((ss' : List Status) → ((p a : ℕ) → Alive ss' p → k p a ≡ k' p a) → nextF⁺ f k ss' ≡ nextF⁺ f k' ss')
+          → onward⁺ (λ l. nextF⁺ f k l) ss s ≡ onward⁺ (λ l. nextF⁺ f k' l) ss s
+      go (wants p) z ih = refl
+      go (moved (done x ss')) z ih = refl
+      go (moved (again ss')) z ih = ih ss' (λ p a d. h p a (z p d))
+
+  agree : (ss : List Status) → ((p a : ℕ) → Alive ss p → k p a ≡ k' p a) → next⁺ k ss ≡ next⁺ k' ss
+  unfolding next⁺
+  agree ss h = agree-F (suc (length ss)) ss h
+
+-- ---- states alike answer alike, and stay alike
+
+by-status : {X : Type 0} (s : Status) → (s ≡ gone → X) → (s ≢ gone → X) → X
+by-status (waiting t a) f g = g (λ i. let y : _≡_ {A = ℕ} 0 1 = cc in absurd (omega arith))
+by-status (standing a r) f g = g (λ i. let y : _≡_ {A = ℕ} 0 1 = cc in absurd (omega arith))
+by-status gone f g = f refl
+
+shut-gone : (F : Feed) (p : ℕ) → getD (F .statuses) p gone ≡ gone → closed F p ≡ true
+unfolding closed isGone
+shut-gone F p e = ap (λ (s : Status). isGone s || F .kept p .over) e
+
+module _ (F G : Feed) (s : Alike F G) where
+  same-turn : turnIn F ≡ turnIn G
+  same-turn =
+      ap (next⁺ (known F)) (s .statuses)
+      ∙ agree (known F) (known G) (G .statuses) (λ p a d. ap (λ (x : Kept). knownIn x a) (s .kept p d))
+
+  same-next : Alike (nextLeaves F) (nextLeaves G)
+  unfolding nextLeaves turnLeaves
+  same-next =
+      record {
+        statuses = ap rest⁺ same-turn;
+        kept = λ q d.
+            let l : getD (G .statuses) q gone ≢ gone = rest-alive (known G) (G .statuses) (turnIn G) (turn-alive (known G) (G .statuses)) q d in
+            ap (λ (r : Turn⁺). keptBy (counted q r) (getD (rest⁺ r) q gone) (F .kept q)) same-turn
+            ∙ ap (keptBy (counted q (turnIn G)) (getD (rest⁺ (turnIn G)) q gone)) (s .kept q l);
+      }
+
+  same-answer : nextAnswer F ≡ nextAnswer G
+  unfolding nextAnswer nextLeaves turnLeaves turnAnswer rest⁺
+  same-answer =
+      ap (turnAnswer (nextLeaves F .kept)) same-turn
+      ∙ go (turnIn G) (turn-alive (known G) (G .statuses)) (λ p d. same-next .kept p d) refl
+    where
+      go : (r : Turn⁺) → TurnAlive (G .statuses) r → ((p : ℕ) → getD (nextLeaves G .statuses) p gone ≢ gone → nextLeaves F .kept p ≡ nextLeaves G .kept p)
+          → turnIn G ≡ r → turnAnswer (nextLeaves F .kept) r ≡ turnAnswer (nextLeaves G .kept) r
+      go (replies (says p (record-at a r)) ss) z k e =
+          ap (λ (y : Kept). answer 0 (p ∷ a ∷ y .at ∷ r .size ∷ r .kind ∷ r .instrument ∷ r .time ∷ []))
+          (k p (λ i. z .1 (ap (λ (t : Turn⁺). getD (rest⁺ t) p gone) (sym e) ∙ i)))
+      go (replies (says p (damage-at a reason)) ss) z k e = refl
+      go (replies end ss) z k e = refl
+      go (needs p ss) z k e = refl
+
+  same-closed : (p : ℕ) → closed F p ≡ closed G p
+  unfolding closed isGone
+  same-closed p =
+      by-status (getD (G .statuses) p gone)
+      (λ e. shut-gone F p (ap (λ (l : List Status). getD l p gone) (s .statuses) ∙ e) ∙ sym (shut-gone G p e))
+      (λ d. ap (λ (l : List Status). isGone (getD l p gone) || F .kept p .over) (s .statuses)
+      ∙ ap (λ (x : Kept). isGone (getD (G .statuses) p gone) || x .over) (s .kept p d))
+
+  -- who is not closed is not gone
+  not-gone : (p : ℕ) → closed G p ≡ false → Alive (G .statuses) p
+  not-gone p e z = not-both (sym (shut-gone G p z) ∙ e)
+
+  same-put : (p q : ℕ) (f : Kept → Kept) → closed G p ≡ false → Alive (G .statuses) q → put p (f (F .kept p)) (F .kept) q ≡ put p (f (G .kept p)) (G .kept) q
+  unfolding put
+  same-put p q f e d =
+      ap (λ (x : Kept). cond (eqb q p) (f x) (F .kept q)) (s .kept p (not-gone p e))
+      ∙ ap (λ (x : Kept). cond (eqb q p) (f (G .kept p)) x) (s .kept q d)
+
+  same-add : (p : ℕ) (xs : List ℕ) → addAnswer F p xs ≡ addAnswer G p xs
+  unfolding addAnswer
+  same-add p xs = ap (λ (b : Bool). cond b (answer 12 []) (answer 0 (taking (length xs) (F .kept p) ∷ []))) (same-closed p) ∙ go (closed G p) refl
+    where
+      go : (b : Bool) → closed G p ≡ b
+          → cond b (answer 12 []) (answer 0 (taking (length xs) (F .kept p) ∷ [])) ≡ cond b (answer 12 []) (answer 0 (taking (length xs) (G .kept p) ∷ []))
+      go true e = refl
+      go false e = ap (λ (x : Kept). answer 0 (taking (length xs) x ∷ [])) (s .kept p (not-gone p e))
+
+  same-grown : (p : ℕ) (xs : List ℕ) → Alike (addLeaves F p xs) (addLeaves G p xs)
+  unfolding addLeaves
+  same-grown p xs = subst (λ (b : Bool). Alike (cond b F (more F)) (addLeaves G p xs)) (sym (same-closed p)) (go (closed G p) refl)
+    where
+      more : Feed → Feed
+      more H = record { statuses = H .statuses; kept = put p (grow p xs (H .kept p)) (H .kept) }
+
+      go : (b : Bool) → closed G p ≡ b → Alike (cond b F (more F)) (cond b G (more G))
+      go true e = s
+      go false e = record { statuses = s .statuses; kept = λ q d. same-put p q (grow p xs) e d }
+
+  same-end : (p : ℕ) → endAnswer F p ≡ endAnswer G p
+  unfolding endAnswer
+  same-end p = rw (same-closed p) refl
+
+  same-ended : (p : ℕ) → Alike (endLeaves F p) (endLeaves G p)
+  unfolding endLeaves
+  same-ended p = subst (λ (b : Bool). Alike (cond b F (over F)) (endLeaves G p)) (sym (same-closed p)) (go (closed G p) refl)
+    where
+      over : Feed → Feed
+      over H = record { statuses = H .statuses; kept = put p (shut (H .kept p)) (H .kept) }
+
+      go : (b : Bool) → closed G p ≡ b → Alike (cond b F (over F)) (cond b G (over G))
+      go true e = s
+      go false e = record { statuses = s .statuses; kept = λ q d. same-put p q shut e d }
+
+  pub same-call : (c : Call) → answerTo F c ≡ answerTo G c
+  unfolding answerTo
+  same-call (portion p xs) = same-add p xs
+  same-call (word p) = same-end p
+  same-call call = same-answer
+
+  pub same-left : (c : Call) → Alike (leaves F c) (leaves G c)
+  unfolding leaves
+  same-left (portion p xs) = same-grown p xs
+  same-left (word p) = same-ended p
+  same-left call = same-next
+
+-- states alike answer equally for ever
+pub equal-for-ever : (F G : Feed) (cs : List Call) → Alike F G → answersTo F cs ≡ answersTo G cs
+unfolding answersTo
+equal-for-ever F G [] s = refl
+equal-for-ever F G (c ∷ cs) s =
+    ap (λ (x : Answer). x ∷ answersTo (leaves F c) cs) (same-call F G s c)
+    ∙ ap (λ (xs : List Answer). answerTo G c ∷ xs) (equal-for-ever (leaves F c) (leaves G c) cs (same-left F G s c))
+
+-- ---- calls of the code
+
+-- what the caller lends, and how much of the heap is in use
+pub record FeedLent : Type 0 where
+  pub held : ℕ
+  pub window : List ℕ
+  pub marks : List ℕ
+  pub times : List ℕ
+  pub places : List ℕ
+  pub heads : List ℕ
+  pub heap : List ℕ
+  pub spans : List ℕ
+
+abbrev pub feedIn : ℕ → FeedLent → Feed
+feedIn n s = feedOf n (s .window) (s .marks) (s .times) (s .places) (s .heads) (s .spans)
+
+-- one call from the state s to the state s', and what it answered
+abbrev pub Calling : ℕ → FeedLent → Call → Answer → FeedLent → Type 0
+Calling n s (portion p xs) x s' =
+    FeedAdds n (s .held) (s .window) (s .marks) (s .times) (s .places) (s .heads) (s .heap) (s .spans) p xs x (s' .window) (s' .spans)
+    × (s' ≡ record { held = s .held; window = s' .window; marks = s .marks; times = s .times; places = s .places; heads = s .heads; heap = s .heap; spans = s' .spans })
+Calling n s (word p) x s' =
+    FeedEnds n (s .held) (s .window) (s .marks) (s .times) (s .places) (s .heads) (s .heap) (s .spans) p x (s' .spans)
+    × (s' ≡ record { held = s .held; window = s .window; marks = s .marks; times = s .times; places = s .places; heads = s .heads; heap = s .heap; spans = s' .spans })
+Calling n s call x s' =
+    FeedSays n (s .window) (s .marks) (s .times) (s .places) (s .heads) (s .spans) x (s' .held) (s' .marks) (s' .times) (s' .places) (s' .heads) (s' .heap) (s' .spans)
+    × (s' .window ≡ s .window)
+
+-- calls from the state s on, and what they answered
+pub data FeedCalls (n : ℕ) : FeedLent → List Call → List Answer → Type 0 where
+  stop : {s : FeedLent} → FeedCalls n s [] []
+  more : {s s' : FeedLent} {c : Call} {x : Answer} {cs : List Call} {xs : List Answer} → Calling n s c x s' → FeedCalls n s' cs xs
+      → FeedCalls n s (c ∷ cs) (x ∷ xs)
+
+call-answers : (n : ℕ) (s : FeedLent) (c : Call) (x : Answer) (s' : FeedLent) → Calling n s c x s'
+    → (x ≡ answerTo (feedIn n s) c) × Alike (feedIn n s') (leaves (feedIn n s) c)
+unfolding answerTo leaves
+call-answers n s (portion p xs) x s' (a, e) = (a .heard, subst (λ (t : FeedLent). Alike (feedIn n t) (addLeaves (feedIn n s) p xs)) (sym e) (a .leaves))
+call-answers n s (word p) x s' (a, e) = (a .heard, subst (λ (t : FeedLent). Alike (feedIn n t) (endLeaves (feedIn n s) p)) (sym e) (a .leaves))
+call-answers n s call x s' (a, e) = (
+  a .heard,
+  subst (λ (w : List ℕ). Alike (feedOf n w (s' .marks) (s' .times) (s' .places) (s' .heads) (s' .spans)) (nextLeaves (feedIn n s))) (sym e) (a .leaves),
+)
+
+pub feed-calls-are : {n : ℕ} {s : FeedLent} {cs : List Call} {xs : List Answer} → FeedCalls n s cs xs → xs ≡ answersTo (feedIn n s) cs
+unfolding answersTo
+feed-calls-are stop = refl
+feed-calls-are {n} {s} (more {s' = s'} {c = c} {x = x} {cs = cs} {xs = xs} told rest) =
+    let z = call-answers n s c x s' told in
+    ap (λ (y : Answer). y ∷ xs) (z .0)
+    ∙ ap (λ (ys : List Answer). answerTo (feedIn n s) c ∷ ys) (feed-calls-are rest ∙ equal-for-ever (feedIn n s') (leaves (feedIn n s) c) cs (z .1))
+
+-- THE THEOREM: an opening of n streams and then calls in any order. They are answered as on what is kept; and whatever the portions, the
+-- answers without "need more" are those of the whole streams, as many
+pub opened-fed : {n : ℕ} {hints : List ℕ} {s : FeedLent} {cs : List Call} {xs : List Answer}
+    → FeedOpened n hints (s .marks) (s .times) (s .places) (s .heads) (s .heap) (s .spans) → FeedCalls n s cs xs
+    → (xs ≡ answersTo (opened n hints) cs)
+    × ((b : ℕ → List ℕ) → ((p : ℕ) → Brought n hints cs p (b p))
+    → heard (opened n hints) cs ≡ answersF (length (heard (opened n hints) cs)) (λ p. bytesOf (b p)) (start (padded n hints)))
+opened-fed {n} {hints} {s} {cs} o x =
+    (feed-calls-are x ∙ equal-for-ever (feedIn n s) (opened n hints) cs (o .starts (s .window)), λ b h. portioned-are n hints cs b h)

@@ -1,0 +1,13 @@
+pub mod Partial
+pub mod PartialLaws
+pub mod Needs
+pub mod Windows
+pub mod WindowsLaws
+pub mod Portions
+pub mod Spans
+pub mod SpansLaws
+pub mod Steps
+pub mod Adding
+pub mod AddingLaws
+pub mod History
+pub mod Examples

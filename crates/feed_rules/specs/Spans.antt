@@ -1,0 +1,113 @@
+-- The state of the code, as arrays of numbers and the window, read as what is kept of streams; when it is sound, and what a call leaves.
+-- A span is start + 65,536 × fill + 2^32 × ended: the bytes kept of the stream p are `fill` bytes of the window from 1,024 × p + start on.
+-- Assumes nothing.
+use mathlib.Core.Path.{_≡_}
+use mathlib.Core.Logic.{_≢_}
+use Prim.Native.Nat.{ℕ, _+_, _-_, _*_, _/_, _%_, _<_, _≤_, _^_}
+use mathlib.Core.Bool.{Bool, true, false, not, cond, _&&_, _||_}
+use mathlib.Core.Option.{Option, none, some}
+use mathlib.Core.List.{List, [], _∷_}
+use lib.ListN.{length, getD}
+use lib.Seq.{slice}
+use lib.Dec.{eqb, ltb, leb}
+use Rattle.theory.specs.Answer.{Answer, answer}
+use Rattle.leaves.specs.Frame.{Read}
+use Rattle.records_rules.specs.Heap.{at}
+use Rattle.records_rules.specs.View.{statusesOf}
+use Rattle.records_rules.specs.State.{arraysFit, gotOf, StateOk}
+use Rattle.feed_rules.specs.Windows.{Kept, Feed, nextLeaves, nextAnswer, Alike}
+
+-- ---- a span
+
+abbrev pub startOf : ℕ → ℕ
+startOf s = s % 65536
+
+abbrev pub fillOf : ℕ → ℕ
+fillOf s = s / 65536 % 65536
+
+abbrev pub endedOf : ℕ → ℕ
+endedOf s = s / 4294967296
+
+-- without its first bytes: start + skip, fill - skip; where there are fewer, as it is
+unfoldable pub dropped : ℕ → ℕ → ℕ
+dropped s skip = cond (ltb (s / 65536 % 65536) skip) s (s - 65535 * skip)
+
+-- ---- what is kept
+
+-- how many bytes before the place of a stream of this mark and head still count: those of the record that it handed out last
+unfoldable pub counts : ℕ → ℕ → ℕ
+counts mark head = cond (eqb mark 1) (head % 65536) 0
+
+-- the bytes of the window that a span of the stream p names
+abbrev pub bytesIn : List ℕ → ℕ → ℕ → List ℕ
+bytesIn window p s = slice (1024 * p + s % 65536) (1024 * p + s % 65536 + s / 65536 % 65536) window
+
+unfoldable pub keptOf : List ℕ → ℕ → ℕ → ℕ → ℕ → ℕ → Kept
+unfolding counts
+keptOf window p mark place head s =
+    record { at = 1024 * p + s % 65536; base = place - counts mark head; bytes = bytesIn window p s; over = not (eqb (s / 4294967296) 0) }
+
+-- the first n streams
+unfoldable pub feedOf : ℕ → List ℕ → List ℕ → List ℕ → List ℕ → List ℕ → List ℕ → Feed
+unfolding keptOf
+feedOf n window ms ts cs hs ps =
+    record { statuses = statusesOf n ms ts cs hs; kept = λ p. keptOf window p (getD ms p 0) (getD cs p 0) (getD hs p 0) (getD ps p 0) }
+
+-- ---- a read
+
+-- whether it is known what was found: 5 where it is not; a record is 4
+unfoldable pub knownBy : ℕ → ℕ → ℕ
+knownBy found ended = cond (ltb found 4) (cond (not (eqb ended 0) || eqb found 2) found 5) 4
+
+-- a read in numbers: what was found, or nothing where more must come first
+unfoldable pub gotKnown : ℕ → ℕ → ℕ → Option Read
+gotKnown found t h = cond (eqb found 5) none (some (gotOf found t h))
+
+-- the answer that hands out a record of the stream p: its place, its span, its head and its time
+unfoldable pub handedOut : ℕ → ℕ → ℕ → ℕ → ℕ → Answer
+handedOut p place s head time =
+    answer 0 (p ∷ place ∷ (1024 * p + s % 65536) ∷ (head % 65536) ∷ (head / 65536 % 65536) ∷ (head / 4294967296) ∷ time ∷ [])
+
+-- ---- the state
+
+-- one stream's: its span lies in its part of the window, the record it stands at or handed out last lies in the span, and it has taken at
+-- most 2^63 bytes
+pub record SlotOk (mark place head s : ℕ) : Type 0 where
+  pub short : s % 65536 + s / 65536 % 65536 ≤ 1024
+  pub ends : s / 4294967296 ≤ 1
+  pub fits : head % 65536 ≤ s / 65536 % 65536
+  pub placed : counts mark head ≤ place
+  pub most : place - counts mark head + s / 65536 % 65536 ≤ 2 ^ 63
+
+-- a sound state of n streams: what the calls give and keep; only the stream at the heap's root may have handed out a record that counts
+pub record FeedOk (n held : ℕ) (ms ts cs hs hp ps : List ℕ) : Type 0 where
+  pub state : StateOk n held ms ts cs hs hp
+  pub slots : (p : ℕ) → p < n → getD ms p 0 ≢ 0 → SlotOk (getD ms p 0) (getD cs p 0) (getD hs p 0) (getD ps p 0)
+  pub lone : (p : ℕ) → p < n → getD ms p 0 ≡ 1 → p ≢ at hp 0 → getD hs p 0 % 65536 ≡ 0
+  -- the other places hold no stream
+  pub unused : (p : ℕ) → n ≤ p → getD ms p 0 ≡ 0
+
+-- the arrays have 256 places, the window 1,024 bytes a stream: where not, 15
+unfoldable pub feedFits : ℕ → ℕ → ℕ → ℕ → ℕ → ℕ → ℕ → ℕ → Bool
+unfolding arraysFit
+feedFits held marks times places heads heap spans window = arraysFit held marks times places heads heap && (eqb spans 256 && eqb window 262144)
+
+-- what the inner functions need of what is lent
+abbrev pub FeedRoom : ℕ → List ℕ → List ℕ → List ℕ → List ℕ → List ℕ → List ℕ → Type 0
+FeedRoom held ms ts cs hs hp ps =
+    (held ≤ 256) × (256 ≤ length ms) × (256 ≤ length ts) × (256 ≤ length cs) × (256 ≤ length hs) × (256 ≤ length hp) × (256 ≤ length ps)
+
+-- what is lent is as at entry
+pub record FeedUntouched (ms ts cs hs hp ps ms' ts' cs' hs' hp' ps' : List ℕ) : Type 0 where
+  pub marks : ms' ≡ ms
+  pub times : ts' ≡ ts
+  pub places : cs' ≡ cs
+  pub heads : hs' ≡ hs
+  pub heap : hp' ≡ hp
+  pub spans : ps' ≡ ps
+
+-- the answer x and what is left are those of the call for the next answer, and the state left is sound
+pub record FeedSays (n : ℕ) (window ms ts cs hs ps : List ℕ) (x : Answer) (held : ℕ) (ms' ts' cs' hs' hp' ps' : List ℕ) : Type 0 where
+  pub heard : x ≡ nextAnswer (feedOf n window ms ts cs hs ps)
+  pub leaves : Alike (feedOf n window ms' ts' cs' hs' ps') (nextLeaves (feedOf n window ms ts cs hs ps))
+  pub sound : FeedOk n held ms' ts' cs' hs' hp' ps'

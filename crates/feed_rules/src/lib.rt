@@ -1,0 +1,1 @@
+// The record merge where streams arrive in portions, as a machine: definitions and theorems that speak of no code. They stand in specs/.

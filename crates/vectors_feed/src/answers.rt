@@ -1,0 +1,166 @@
+// Answers as lines.
+use feed::opening::FeedOpening;
+use feed::portions::Added;
+use feed::portions::Ended;
+use feed::turns::Fed;
+use leaves::refusal::Refusal;
+
+fn print_number(n: u64) {
+    io::write_all(1, b" ");
+    io::print_decimal(1, n);
+}
+
+// A word and a number, on a line.
+pub fn print_word(word: &[u8], n: u64) {
+    io::write_all(1, word);
+    print_number(n);
+    io::write_all(1, b"\n");
+}
+
+// Prints a refusal's number, and of damage stream, place and reason.
+fn print_refusal(refusal: Refusal) {
+    io::print_decimal(1, leaves::refusal::number(refusal) as u64);
+    if let Refusal::Damaged {
+        stream,
+        place,
+        reason,
+    } = refusal {
+        print_number(stream);
+        print_number(place);
+        print_number(reason);
+    }
+}
+
+// Prints a refusal on a line.
+fn print_refused(refusal: Refusal) {
+    print_refusal(refusal);
+    io::write_all(1, b"\n");
+}
+
+fn wide(b: u8) -> u64 {
+    b as u64
+}
+
+// The byte of the window at an index, or 0 past its end.
+fn window_byte(window: &[u8], at: u64) -> u64 {
+    if at < window.len() as u64 {
+        let i = at as usize;
+        return wide(window[i]);
+    }
+    0
+}
+
+// The index of a record's last byte.
+fn last_of(at: u64, length: u64) -> u64 {
+    if length < 1 {
+        return at;
+    }
+    if 1000000 < at {
+        return at;
+    }
+    if 65535 < length {
+        return at;
+    }
+    at + length - 1
+}
+
+fn print_record(
+    window: &[u8],
+    stream: u64,
+    place: u64,
+    at: u64,
+    length: u64,
+    kind: u64,
+    instrument: u64,
+    time: u64,
+) {
+    io::write_all(1, b"record");
+    print_number(stream);
+    print_number(place);
+    print_number(at);
+    print_number(length);
+    print_number(kind);
+    print_number(instrument);
+    print_number(time);
+    print_number(window_byte(window, last_of(at, length)));
+    io::write_all(1, b"\n");
+}
+
+// The next answer; of a record its last byte too.
+pub fn print_fed(window: &[u8], answer: Fed) {
+    match answer {
+        Fed::Record {
+            stream,
+            place,
+            at,
+            length,
+            kind,
+            instrument,
+            time,
+        } => print_record(
+            window,
+            stream,
+            place,
+            at,
+            length as u64,
+            kind as u64,
+            instrument as u64,
+            time,
+        ),
+        Fed::End => {
+            io::write_all(1, b"end\n");
+        }
+        Fed::NeedMore(stream) => print_word(b"need", stream),
+        Fed::Refused(refusal) => print_refused(refusal),
+    }
+}
+
+pub fn print_added(answer: Added) {
+    match answer {
+        Added::Taken(n) => print_word(b"taken", n),
+        Added::Refused(refusal) => print_refused(refusal),
+    }
+}
+
+pub fn print_ended(answer: Ended) {
+    match answer {
+        Ended::Done => {
+            io::write_all(1, b"done\n");
+        }
+        Ended::Refused(refusal) => print_refused(refusal),
+    }
+}
+
+// Prints an opening, and answers how many streams the heap holds; where it is refused, as many as before.
+pub fn print_opening(answer: FeedOpening, held: usize) -> usize {
+    match answer {
+        FeedOpening::Opened { streams, held } => {
+            print_word(b"opened", streams as u64);
+            held
+        }
+        FeedOpening::Refused(refusal) => {
+            print_refused(refusal);
+            held
+        }
+    }
+}
+
+// The numbers of the four calls on arrays that are too short.
+pub fn print_short(opening: FeedOpening, added: Added, ended: Ended, fed: Fed) {
+    if let FeedOpening::Refused(refusal) = opening {
+        print_refusal(refusal);
+    }
+    io::write_all(1, b" ");
+    if let Added::Refused(refusal) = added {
+        print_refusal(refusal);
+    }
+    io::write_all(1, b" ");
+    if let Ended::Refused(refusal) = ended {
+        print_refusal(refusal);
+    }
+    io::write_all(1, b" ");
+    if let Fed::Refused(refusal) = fed {
+        print_refusal(refusal);
+    }
+    io::write_all(1, b"\n");
+}
