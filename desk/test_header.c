@@ -1,5 +1,35 @@
 /* What desk.h has beside the exports, in C and in C++: NULL with length 0, results that are not wanted, rows as structs, numbers as text,
- * names for the header's words. That each function asks its export rightly is seen by test_structs.c. */
+ * names for the header's words. That each function asks its export rightly is seen by test_structs.c. desk/run compiles it so that a null
+ * pointer handed to an export ends the program. */
+#include "desk_exports.h"
+
+#define NO_NULL(export) extern __typeof__(export) export __attribute__((nonnull))
+NO_NULL(desk_check);
+NO_NULL(desk_insert);
+NO_NULL(desk_get_for_ts);
+NO_NULL(desk_on_record);
+NO_NULL(desk_compare);
+NO_NULL(desk_explain);
+NO_NULL(desk_check_points);
+NO_NULL(desk_get_point);
+NO_NULL(desk_on_record_point);
+NO_NULL(desk_check_names);
+NO_NULL(desk_number_of);
+NO_NULL(desk_place_of_name);
+NO_NULL(desk_number_text);
+NO_NULL(desk_day_of);
+NO_NULL(desk_date_of);
+NO_NULL(desk_day_start);
+NO_NULL(desk_utf8);
+NO_NULL(desk_metadata_open);
+NO_NULL(desk_metadata_merge);
+NO_NULL(desk_metadata_finish);
+NO_NULL(desk_build);
+NO_NULL(desk_build_points);
+NO_NULL(desk_hint_of);
+NO_NULL(desk_open);
+NO_NULL(desk_next);
+
 #include "desk.h"
 
 #include <stdio.h>
@@ -176,9 +206,8 @@ static void test_unwanted(void) {
     DONE(desk_point_table_get(&points, 5, NULL));
     DONE(desk_point_table_get(&points, 5, &symbol));
     IS(symbol == 2);
-    metadata.mappings_len = SIZE_MAX / 2 + 2; /* in words 2, were it not over every limit */
+    metadata.mappings_len = SIZE_MAX / 2 + 3; /* twice that is 4 where it is not held to be over every limit */
     IS_NUMBER(DESK_BAD_MEMORY, desk_metadata_begin(&metadata));
-    metadata.mappings_len = 2, metadata.intervals_len = SIZE_MAX / 3 + 3;
     IS_NUMBER(DESK_BAD_MEMORY, desk_table_build(&table, &metadata, &names));
 
     DONE(desk_date_start(D1, NULL));
