@@ -923,14 +923,14 @@ static struct plan forward(void) {
 }
 
 static uint32_t build(struct plan p) {
-    return desk_build(d.table, p.table_len, &d.used, p.header, p.header_len, d.list[0], 0, d.list[1], 0, d.list[2], 0, p.mappings,
+    return desk_build(d.table, p.table_len, &d.used, p.header, p.header_len, d.list[0], 1, d.list[1], 2, d.list[2], 3, p.mappings,
                       p.mappings_len, p.intervals, p.intervals_len, build_bytes, sizeof build_bytes, build_ends, BUILD_NAMES,
                       p.names, p.name_bytes);
 }
 
 static uint32_t build_points(struct plan p) {
-    return desk_build_points(d.points, p.points_len, &d.points_used, p.header, p.header_len, d.list[0], 0, d.list[1], 0, d.list[2],
-                             0, p.mappings, p.mappings_len, p.intervals, p.intervals_len, build_bytes, sizeof build_bytes,
+    return desk_build_points(d.points, p.points_len, &d.points_used, p.header, p.header_len, d.list[0], 1, d.list[1], 2, d.list[2],
+                             3, p.mappings, p.mappings_len, p.intervals, p.intervals_len, build_bytes, sizeof build_bytes,
                              build_ends, BUILD_NAMES, p.names, p.name_bytes, p.date);
 }
 
@@ -970,6 +970,11 @@ static void test_builds(void) {
     DONE(desk_get_point(d.points, p.points_len, d.points_used, 5, &d.found, &d.symbol));
     IS(d.found == 1 && d.symbol == B);
 
+    for (int k = 0; k < 3; k++) p.header[DESK_SYMBOLS + k] = (uint64_t)k + 1; /* sets all in use, of which a build reads nothing */
+    DONE(build(p));
+    DONE(build_points(p));
+    IS(d.used == 2 && d.points_used == 1);
+
     p.header[DESK_STYPE_IN] = 0, p.header[DESK_STYPE_OUT] = 1; /* the other way round */
     p.header[DESK_MAPPINGS_USED] = 1, p.mappings[0] = FIVE, p.intervals[2] = A;
     DONE(build(p));
@@ -987,6 +992,9 @@ static void test_builds(void) {
     BUILDS_REFUSE(DESK_BAD_MEMORY, 0, 1, p.points_len++);
     BUILDS_REFUSE(DESK_BAD_MEMORY, 1, 1, p.header_len--);
     BUILDS_REFUSE(DESK_BAD_MEMORY, 1, 1, p.header[DESK_VERSION] = 256);
+    BUILDS_REFUSE(DESK_BAD_MEMORY, 1, 1, p.header[DESK_SYMBOLS] = 2);
+    BUILDS_REFUSE(DESK_BAD_MEMORY, 1, 1, p.header[DESK_PARTIAL] = 3);
+    BUILDS_REFUSE(DESK_BAD_MEMORY, 1, 1, p.header[DESK_NOT_FOUND] = 4);
     BUILDS_REFUSE(DESK_BAD_MEMORY, 1, 1, p.header[DESK_MAPPINGS_USED] = 3);
     BUILDS_REFUSE(DESK_BAD_MEMORY, 1, 1, p.intervals_len = 6);
     BUILDS_REFUSE(DESK_BAD_MEMORY, 1, 1, p.intervals_len = 8);

@@ -32,13 +32,13 @@ make_archive() {
         { echo 'desk: the archives were not joined'; return 1; }
 }
 
-# desk/NAME.c to target/desk/NAME
+# desk/NAME.c to target/desk/NAME, with further flags as they are given
 build_c() {
     rm -f "target/desk/$1"
     if [ "$how" = cc ]; then
-        "${compiler[@]}" -std=c99 "${strict[@]}" -o "target/desk/$1" "desk/$1.c" "$archive"
+        "${compiler[@]}" -std=c99 "${strict[@]}" "${@:2}" -o "target/desk/$1" "desk/$1.c" "$archive"
     else
-        "$toolchain/bin/clang" --target=x86_64-unknown-linux-gnu -std=c99 "${strict[@]}" -nostdinc -isystem desk/bare -fPIE \
+        "$toolchain/bin/clang" --target=x86_64-unknown-linux-gnu -std=c99 "${strict[@]}" "${@:2}" -nostdinc -isystem desk/bare -fPIE \
             -c "desk/$1.c" -o "target/desk/$1.o" || return
         "$kit/on/$machine/bin/rattle-link" --target x86_64-unknown-linux-gnu --toolchain "$toolchain" -o "target/desk/$1" \
             "target/desk/$1.o" "$archive" 2>"target/desk/$1.link.log" ||

@@ -1,343 +1,557 @@
-/* The replay desk at the C door, by the rules of docs/RULES.md.
+/* The replay desk for C99 and C++11, by the rules of docs/RULES.md. A program includes this file alone.
  *
- * Every function returns the rules' number: DESK_DONE (0) or one of the refusals below. Further results come back through
- * pointers to single numbers. Every call ends, on any content of the memory.
+ * To link: `desk/build` writes dist/, which may be moved anywhere.
+ *     cc program.c $(PKG_CONFIG_PATH=dist/lib/pkgconfig pkg-config --cflags --libs desk)
+ *     cc -Idist/include program.c dist/lib/libdesk.a
+ *     CMake, with dist in CMAKE_PREFIX_PATH: find_package(desk) and target_link_libraries(program desk::desk)
+ * The library is code for x86-64 Linux. Of the C library it needs memcpy and memset alone. It allocates nothing and keeps nothing
+ * between calls: all that the desk knows stands in memory that the program lends.
  *
- * What stands behind the pointers afterwards each function says by the number returned. "As before" is as it was at the call. What
- * is not named there is as before, and what a pointer to const leads to always is. In short: a refusal leaves all as before, but a
- * refused build leaves an empty table, 6 sets its field, 13 its reason, and 13 from desk_next its stream and place too, and it
- * moves the state of the merge on as 0 does.
+ * Every call ends, on any content of the memory, and returns a number: DESK_DONE (0), or a refusal (desk_refusal_name, and
+ * desk_refusal_text for a sentence). A refusal leaves everything as it was, with three exceptions, which the functions name again:
+ * a refused build leaves an empty table, 6 sets its field and 13 its damage, and 13 from desk_merge_next moves the merge on.
  *
- * What a caller owes. None of it can be seen from inside, so nothing tests it:
- *   - a pointer beside a length points to as many elements as the length says, one to a single number to that number;
- *   - each pointer is aligned for its type, and none is null, also where its length is 0;
- *   - nothing that a call may write overlaps anything else that the call is handed;
- *   - no other thread writes, during a call, what the call is handed; there is no state beside what is handed in, so that
- *     calls on different memory may run at the same time;
- *   - DESK_STACK bytes of stack are free; for desk_metadata_open and desk_metadata_merge the bytes named beside it.
- * Of the C library the archive needs memcpy and memset alone.
+ * What a program owes, since none of it can be seen from inside:
+ *   - lent memory is as long as the length beside it says; NULL with length 0 is fine. Results that are not wanted may be NULL, and
+ *     nothing else may;
+ *   - lent memory is aligned for its type (bytes anywhere, words of 32 bits by 4, of 64 bits by 8);
+ *   - no argument of a call overlaps another that the call may write;
+ *   - no other thread writes what a call is handed, or reads what it may write. Calls on different memory may run at once;
+ *   - DESK_STACK bytes of stack are free (4 KB), for desk_metadata_begin DESK_OPEN_STACK (1 MB), for desk_metadata_add DESK_MERGE_STACK
+ *     (5 MB). A memcpy that is bound at its first call needs the loader's stack besides.
  *
- * Lengths are in elements. Instruments, symbols and dates are 32 bits wide, moments, hints, cuts and places 64. A symbol is a
- * name's number. A moment is nanoseconds since the start of 1970-01-01. An interval holds its start and not its end. */
+ * An instrument, a symbol and a date (YYYYMMDD) have 32 bits, a moment 64: nanoseconds since the start of 1970-01-01. A symbol is a
+ * name's number. An interval holds its start and not its end. Lengths are in elements.
+ *
+ * The functions here are `static inline`, over the exports of desk_exports.h, and return the export's number. The exports themselves,
+ * on bare numbers and arrays, may be called beside them. */
 #ifndef DESK_H
 #define DESK_H
 
-#include <stddef.h>
-#include <stdint.h>
+#include "desk_exports.h"
 
-#ifdef __cplusplus
-extern "C" {
-#endif
+/* The version of this file. It is 0.x as long as requests change exports. */
+#define DESK_VERSION_MAJOR 0
+#define DESK_VERSION_MINOR 1
+#define DESK_VERSION_PATCH 0
 
-/* The numbers the desk lives by. */
-#define DESK_INTERVAL_BYTES 24    /* of a table over time: instrument 4, symbol 4, start 8, end 8, little-endian */
-#define DESK_STRETCH_BYTES 28     /* of a stretch in which two tables disagree: instrument 4, left symbol 4, right symbol 4, start 8, end 8 */
-#define DESK_NOTHING 4294967295u  /* in a stretch: no symbol on this side */
-#define DESK_STRETCHES(l, r) (2 * ((size_t)(l) + (size_t)(r))) /* the stretches of two tables with so many in use fit this room */
-#define DESK_POINT_BYTES 8        /* of a point-in-time table: instrument 4, symbol 4, little-endian */
-#define DESK_ROOM 65536           /* the most intervals, or entries, that a table's memory may hold */
-#define DESK_NAMES 4096           /* the most names of a list */
-#define DESK_NAME_LIST_BYTES 65536 /* the most bytes of all names together */
-#define DESK_NAME_BYTES 255       /* the most bytes of one name */
-#define DESK_STREAMS 256          /* the most streams of a merge, and the places of each of its arrays */
-#define DESK_RECORD_HEADER 16     /* a record's least length: whole length 2, kind 2, instrument 4, timestamp 8 */
-#define DESK_RECORD_BYTES 1024    /* a record's greatest length */
-#define DESK_SYMBOL_MAPPING 2     /* the kind of a symbol mapping record: start 8, end 8, then the name */
-#define DESK_MISSING UINT64_MAX   /* a missing start or end of a symbol mapping */
-#define DESK_LAST_DAY 213503      /* 2554-07-21 */
-#define DESK_ENTRIES 4096         /* the most entries of each of a metadata's three sets */
-#define DESK_MAPPINGS 4096        /* the most mappings of a metadata */
-#define DESK_INTERVALS 65536      /* the most intervals of a metadata, of all its mappings together */
-#define DESK_MAPPING_WORDS 2      /* of a mapping: name, number of intervals */
-#define DESK_INTERVAL_WORDS 3     /* of an interval of a metadata: start date, end date, symbol */
-#define DESK_NO_SCHEMA 65535      /* a metadata without a schema, or with several */
-#define DESK_NO_STYPE 255         /* a metadata without a stype_in */
-#define DESK_STACK 4096           /* the stack that a call needs, in bytes */
-#define DESK_OPEN_STACK 1048576   /* the stack that desk_metadata_open needs: its outcome stands there before it is laid out */
-#define DESK_MERGE_STACK 5242880  /* the stack that desk_metadata_merge needs: both sides together stand there */
+#define DESK_TEXT_OF_(n) #n
+#define DESK_TEXT_(n) DESK_TEXT_OF_(n)
 
-/* What a call returns. */
-enum desk_number {
-    DESK_DONE = 0,
-    DESK_REVERSED = 1,          /* start comes after end */
-    DESK_NO_ROOM = 2,           /* the outcome would not fit the room */
-    DESK_UNKNOWN_SYMBOL = 3,    /* symbol number never handed out */
-    DESK_BAD_NAME = 4,          /* name over 255 bytes, or not UTF-8 */
-    DESK_NO_NAME_ROOM = 5,      /* a new name would pass 4,096 names, 65,536 bytes or the room lent for names */
-    DESK_DIFFER = 6,            /* metadata differ; the field comes with it */
-    DESK_CONFLICT = 7,          /* intervals conflict */
-    DESK_NOT_NUMBER = 8,        /* text is not a u32 */
-    DESK_NO_INSTRUMENT_ID = 9,  /* neither side is instrument ID */
-    DESK_OUTSIDE_QUERY = 10,    /* date outside the query range */
-    DESK_NO_DATE = 11,          /* no such date, or outside 1970-01-01 to 2554-07-21 */
-    DESK_BAD_STREAMS = 12,      /* stream list wrong */
-    DESK_DAMAGED = 13,          /* stream or mapping record damaged, with stream, place and reason */
-    DESK_ILL_FORMED = 14,       /* table or name list is not well-formed (lookup alone doesn't test it) */
-    DESK_BAD_MEMORY = 15        /* lent memory has unequal lengths or is over a limit, or a number in use is over its room */
+/* The version as text: "0.1.0". */
+static inline const char *desk_version(void) {
+    return DESK_TEXT_(DESK_VERSION_MAJOR) "." DESK_TEXT_(DESK_VERSION_MINOR) "." DESK_TEXT_(DESK_VERSION_PATCH);
+}
+
+/* ---- Numbers as text. */
+
+/* The name of a number that a call returned: "DESK_NO_ROOM"; "DESK_?" of one that no call returns. */
+static inline const char *desk_refusal_name(uint32_t number) {
+    static const char *const names[] = {
+        "DESK_DONE",       "DESK_REVERSED",  "DESK_NO_ROOM",    "DESK_UNKNOWN_SYMBOL",   "DESK_BAD_NAME",      "DESK_NO_NAME_ROOM",
+        "DESK_DIFFER",     "DESK_CONFLICT",  "DESK_NOT_NUMBER", "DESK_NO_INSTRUMENT_ID", "DESK_OUTSIDE_QUERY", "DESK_NO_DATE",
+        "DESK_BAD_STREAMS", "DESK_DAMAGED", "DESK_ILL_FORMED", "DESK_BAD_MEMORY"};
+    return number < sizeof names / sizeof names[0] ? names[number] : "DESK_?";
+}
+
+/* What a number that a call returned says, in one sentence (RULES, Numbers the desk lives by, 2). */
+static inline const char *desk_refusal_text(uint32_t number) {
+    static const char *const texts[] = {
+        "The call is done.",
+        "The start comes after the end.",
+        "The outcome would not fit the room.",
+        "A symbol or name number was never handed out: it is not below the number of names.",
+        "A name is over 255 bytes, or not UTF-8.",
+        "A new name would pass 4,096 names, 65,536 bytes or the room lent for names.",
+        "The metadata differ in a field.",
+        "Intervals of one name conflict.",
+        "A text is not a number of 32 bits.",
+        "Neither side of the metadata is instrument ID.",
+        "The asked date is outside the query range.",
+        "There is no such date, or it is outside 1970-01-01 to 2554-07-21.",
+        "The stream list is wrong.",
+        "A stream or mapping record is damaged.",
+        "A table or name list is not well-formed.",
+        "Lent memory has unequal lengths or is over a limit, or a number in use is over its room."};
+    return number < sizeof texts / sizeof texts[0] ? texts[number] : "No call returns this number.";
+}
+
+/* Why a stream or record is damaged (enum desk_reason), in one sentence. */
+static inline const char *desk_reason_text(uint64_t reason) {
+    static const char *const texts[] = {"There is no such reason.", "Fewer than 16 bytes are left.", "The length is outside 16 to 1,024.",
+                                        "The length is past the end, or bytes are left over.",
+                                        "A symbol mapping has a body under 16 bytes."};
+    return texts[reason < sizeof texts / sizeof texts[0] ? reason : 0];
+}
+
+/* ---- What programs lend. Each struct is filled in by the program and may be copied like any value. */
+
+/* A name list: the names' bytes, one name after another, and where each ends; what is lent of both, and what is in use. It starts with
+ * names = name_bytes = 0. */
+typedef struct desk_names {
+    uint8_t *bytes;
+    size_t bytes_len; /* at most DESK_NAME_LIST_BYTES */
+    uint32_t *ends;
+    size_t ends_len; /* at most DESK_NAMES */
+    size_t names, name_bytes;
+} desk_names;
+
+/* A table over time: memory for bytes_len / DESK_INTERVAL_BYTES intervals, of which `used` are in use. It starts with used = 0. */
+typedef struct desk_table {
+    uint8_t *bytes;
+    size_t bytes_len; /* a multiple of DESK_INTERVAL_BYTES, at most DESK_ROOM of them */
+    size_t used;
+} desk_table;
+
+/* A point-in-time table: memory for bytes_len / DESK_POINT_BYTES entries, of which `used` are in use. It starts with used = 0. */
+typedef struct desk_point_table {
+    uint8_t *bytes;
+    size_t bytes_len; /* a multiple of DESK_POINT_BYTES, at most DESK_ROOM of them */
+    size_t used;
+} desk_point_table;
+
+/* The stretches of a comparison: memory for bytes_len / DESK_STRETCH_BYTES of them, and how many there are. */
+typedef struct desk_stretches {
+    uint8_t *bytes;
+    size_t bytes_len; /* a multiple of DESK_STRETCH_BYTES */
+    size_t count;
+} desk_stretches;
+
+/* The words of a metadata's header. */
+enum desk_header_word {
+    DESK_HEADER_VERSION = DESK_VERSION,                 /* 8 bits */
+    DESK_HEADER_DATASET = DESK_DATASET,                 /* 32 bits, a name's number */
+    DESK_HEADER_SCHEMA = DESK_SCHEMA,                   /* 16 bits; DESK_NO_SCHEMA for none */
+    DESK_HEADER_START = DESK_START,                     /* a moment */
+    DESK_HEADER_END = DESK_END,                         /* a moment; 0 for none */
+    DESK_HEADER_LIMIT = DESK_LIMIT,                     /* 0 for none */
+    DESK_HEADER_STYPE_IN = DESK_STYPE_IN,               /* 8 bits; DESK_INSTRUMENT_ID, DESK_NO_STYPE for none, or another */
+    DESK_HEADER_STYPE_OUT = DESK_STYPE_OUT,             /* 8 bits; DESK_INSTRUMENT_ID, or another */
+    DESK_HEADER_TS_OUT = DESK_TS_OUT,                   /* 0 or 1 */
+    DESK_HEADER_SYMBOL_CSTR_LEN = DESK_SYMBOL_CSTR_LEN,
+    DESK_HEADER_SYMBOLS = DESK_SYMBOLS,                 /* in use of `symbols` */
+    DESK_HEADER_PARTIAL = DESK_PARTIAL,                 /* in use of `partial` */
+    DESK_HEADER_NOT_FOUND = DESK_NOT_FOUND,             /* in use of `not_found` */
+    DESK_HEADER_MAPPINGS = DESK_MAPPINGS_USED           /* in use of `mappings` */
 };
+#define DESK_INSTRUMENT_ID 0 /* a stype */
 
-/* The reasons of 13. */
-enum desk_reason {
-    DESK_SHORT = 1,             /* fewer than 16 bytes left */
-    DESK_BAD_LENGTH = 2,        /* length outside 16 to 1,024 */
-    DESK_PAST_END = 3,          /* length past the end; of a single record also bytes left over */
-    DESK_SHORT_BODY = 4         /* a symbol mapping with a body under 16 bytes */
-};
+/* A mapping of a metadata: a name, and how many intervals it has. */
+typedef struct desk_mapping {
+    uint32_t name, intervals;
+} desk_mapping;
 
-/* What desk_explain tells of an instrument and a moment. */
-enum desk_explained {
-    DESK_IN = 1,                /* in an interval: there is a symbol */
-    DESK_UNKNOWN = 2,           /* the table has no interval of the instrument */
-    DESK_BEFORE = 3,            /* before its first interval */
-    DESK_AFTER = 4,             /* after its last */
-    DESK_BETWEEN = 5            /* in the gap between two neighbours */
-};
+/* An interval of a mapping: from a date to before another the name stands for the symbol, a name too. */
+typedef struct desk_dates {
+    uint32_t start, end, symbol;
+} desk_dates;
 
-/* ---- The map over time. A table is bytes, 24 an interval, of which `used` intervals from the front are in use. */
+/* A metadata: the header's words and five lists with what is lent of each. The header says how much of four of them is in use; the
+ * intervals stand mapping after mapping. A metadata all of 0 is an empty one. */
+typedef struct desk_metadata {
+    uint64_t header[DESK_HEADER_WORDS]; /* by enum desk_header_word */
+    uint32_t *symbols;                  /* names' numbers, as the next two */
+    size_t symbols_len;                 /* at most DESK_ENTRIES, as the next two */
+    uint32_t *partial;
+    size_t partial_len;
+    uint32_t *not_found;
+    size_t not_found_len;
+    desk_mapping *mappings;
+    size_t mappings_len; /* at most DESK_MAPPINGS */
+    desk_dates *intervals;
+    size_t intervals_len; /* at most DESK_INTERVALS */
+} desk_metadata;
 
-/* Is the table well-formed? Sorted by instrument; for each instrument the intervals are non-empty, sorted by start, disjoint,
- * and two that touch have different symbols; every symbol is below `names`, the number of names handed out. 0, 15, 14.
- * After any answer: all as before. */
-uint32_t desk_check(const uint8_t *table, size_t table_len, size_t used, size_t names);
+/* A merge of record streams, some 6.5 KB; desk_merge_open fills it, and no one else writes it. The streams' buffer and cuts must stay as
+ * they are until the last desk_merge_next on it. */
+typedef struct desk_merge {
+    const uint8_t *buffer;
+    size_t buffer_len;
+    const uint64_t *cuts;
+    size_t cuts_len;
+    size_t streams, held; /* opened, and not closed yet */
+    uint64_t times[DESK_STREAMS], places[DESK_STREAMS], heads[DESK_STREAMS];
+    uint8_t marks[DESK_STREAMS], heap[DESK_STREAMS];
+} desk_merge;
 
-/* From start to before end the instrument has the symbol, whatever it had. Intervals that touch with the same symbol are
- * joined. 15, 14, then 1; start = end is done and changes nothing; 3; 2, judged on the whole table after the insert.
- * After 0: *used is the new number in use, and the table's first *used places hold the intervals; places that are freed hold 0,
- * other unused ones are as before. After any other answer: all as before. */
-uint32_t desk_insert(uint8_t *table, size_t table_len, size_t *used, size_t names, uint32_t instrument, uint64_t start,
-                     uint64_t end, uint32_t symbol);
+/* ---- What functions tell. */
 
-/* The instrument's symbol at the moment. *hint may be any number; kept between lookups of one instrument it is a cursor, and starts
- * at 0. 0, 15.
- * After 0: *found is 1 and *symbol the symbol, or both are 0 where there is none; *hint is the interval arrived at, counted from 0
- * within the instrument, and as before with an unknown instrument or a moment before the first interval. On a table that
- * desk_check rejects by 14 the three say nothing. After 15: all as before. */
-uint32_t desk_get_for_ts(const uint8_t *table, size_t table_len, size_t used, uint32_t instrument, uint64_t moment,
-                         uint64_t *hint, uint32_t *found, uint32_t *symbol);
+/* An interval of a table over time. */
+typedef struct desk_interval {
+    uint32_t instrument, symbol;
+    uint64_t start, end;
+} desk_interval;
 
-/* One record's bytes: a symbol mapping inserts its interval, a missing start as 0, a missing end as 18446744073709551615; other
- * kinds are done and change nothing. A new name joins the name list only when the interval is stored. 15, 14 (table and name
- * list), 13, 4, 1; start = end is done and changes nothing; 5, 2.
- * After 0: the table and *used are as desk_insert leaves them, and the name list, *names and *name_bytes as desk_number_of does. After
- * 13: *reason is the reason, all else as before. After any other answer: all as before. */
-uint32_t desk_on_record(uint8_t *table, size_t table_len, size_t *used, uint8_t *bytes, size_t bytes_len, uint32_t *ends,
-                        size_t ends_len, size_t *names, size_t *name_bytes, const uint8_t *record, size_t record_len,
-                        uint64_t *reason);
+/* A stretch of time in which two tables disagree; a side without a symbol has DESK_NOTHING. */
+typedef struct desk_stretch {
+    uint32_t instrument, left, right;
+    uint64_t start, end;
+} desk_stretch;
 
-/* Two tables of one name list side by side: every stretch of time in which they disagree, as long as can be, sorted by instrument
- * and start, each once, 28 bytes each: instrument, the left table's symbol or DESK_NOTHING, the right one's, start and end. At
- * every moment outside them both tables give the same answer. The tables are only read, and may be the same memory. When done
- * *count is the number of stretches, which stand from the front of `stretches`; places past them keep what they held. After a
- * refusal *count and every byte of `stretches` are as they were. 15, also where stretches_len is no multiple of 28; 14 for either
- * table; 2, judged on the whole list: room for DESK_STRETCHES(left_used, right_used) always suffices. */
-uint32_t desk_compare(const uint8_t *left, size_t left_len, size_t left_used, const uint8_t *right, size_t right_len,
-                      size_t right_used, size_t names, uint8_t *stretches, size_t stretches_len, size_t *count);
+/* Why there is a symbol, or none. What `reason` does not name is 0. */
+typedef struct desk_explanation {
+    uint32_t reason; /* enum desk_explained */
+    uint32_t symbol; /* of the interval that the moment is in, the first, the last, or the one before the gap, as the next three */
+    uint64_t index;  /* counted from 0 within the instrument, as cursors count */
+    uint64_t start, end;
+    uint32_t next_symbol; /* of the interval behind the gap, as the next two */
+    uint64_t next_start, next_end;
+} desk_explanation;
 
-/* Why the instrument has a symbol at the moment, or none. 0, 15, 14: unlike a lookup it checks the table, which is linear in `used`;
- * the rest is logarithmic.
- * After 0: *reason is one of enum desk_explained. *index, *start, *end and *symbol are of the interval that it is in, the first, the
- * last, or the gap's left neighbour, as stored, *index counted from 0 within the instrument, as hints count; *next_start, *next_end
- * and *next_symbol are of the gap's right neighbour, whose index is one more. What a reason does not name is 0. desk_get_for_ts finds
- * a symbol exactly where *reason is DESK_IN, and it is *symbol; its new hint is *index, but with DESK_UNKNOWN and DESK_BEFORE it
- * stays. After any other answer: all as before. */
-uint32_t desk_explain(const uint8_t *table, size_t table_len, size_t used, size_t names, uint32_t instrument, uint64_t moment,
-                      uint32_t *reason, uint64_t *index, uint64_t *start, uint64_t *end, uint32_t *symbol,
-                      uint64_t *next_start, uint64_t *next_end, uint32_t *next_symbol);
+/* A record that a merge hands out. At the end of the merge all of it is 0, and `bytes` is NULL. */
+typedef struct desk_record {
+    uint32_t found; /* 1, and 0 at the end */
+    uint32_t instrument;
+    uint64_t stream, place, time; /* the place is counted from the stream's start */
+    uint16_t length, kind;
+    const uint8_t *bytes; /* `length` of them, in the streams' buffer */
+} desk_record;
 
-/* ---- The point-in-time table: bytes, 8 an entry, of which `used` entries from the front are in use. */
+/* A stream that broke off, and where and why. */
+typedef struct desk_damage {
+    uint64_t stream, place, reason; /* the place from the stream's start; enum desk_reason */
+} desk_damage;
 
-/* Is the table well-formed? Sorted by instrument, each once, every symbol below `names`. 0, 15, 14.
- * After any answer: all as before. */
-uint32_t desk_check_points(const uint8_t *table, size_t table_len, size_t used, size_t names);
+/* ---- For the functions below: the exports take no null pointer, so that a list without memory stands at `nothing`. */
+
+static inline uint8_t *desk_bytes_(uint8_t *lent, uint64_t *nothing) { return lent != NULL ? lent : (uint8_t *)nothing; }
+
+static inline uint32_t *desk_words_(void *lent, uint64_t *nothing) { return (uint32_t *)(lent != NULL ? lent : (void *)nothing); }
+
+static inline const uint8_t *desk_read_(const void *lent, const uint64_t *nothing) {
+    return (const uint8_t *)(lent != NULL ? lent : (const void *)nothing);
+}
+
+static inline const uint64_t *desk_longs_(const uint64_t *lent, const uint64_t *nothing) { return lent != NULL ? lent : nothing; }
+
+/* So many elements in words; where there is no such number, one over every limit. */
+static inline size_t desk_count_(size_t elements, size_t words) { return elements <= SIZE_MAX / words ? elements * words : SIZE_MAX; }
+
+static inline uint64_t desk_field_(const uint8_t *bytes, int width) {
+    uint64_t n = 0;
+    while (0 < width--) n = n << 8 | bytes[width];
+    return n;
+}
+
+/* ---- Names. Numbers run from 0 in order of first arrival and are never taken back. */
+
+/* Is the list well-formed? 0, 15, 14. After any answer: all as before. */
+static inline uint32_t desk_names_check(const desk_names *names) {
+    uint64_t nothing = 0;
+    return desk_check_names(desk_bytes_(names->bytes, &nothing), names->bytes_len, desk_words_(names->ends, &nothing), names->ends_len,
+                            names->names, names->name_bytes);
+}
+
+/* The number of a name, which joins the list if it is new. 0, 15, 14, 4, 5.
+ * After 0: *symbol is the number, and the list holds the name. After any other answer: all as before. */
+static inline uint32_t desk_names_add(desk_names *names, const char *name, size_t name_len, uint32_t *symbol) {
+    uint64_t nothing = 0;
+    uint32_t unwanted = 0;
+    return desk_number_of(desk_bytes_(names->bytes, &nothing), names->bytes_len, desk_words_(names->ends, &nothing), names->ends_len,
+                          &names->names, &names->name_bytes, desk_read_(name, &nothing), name_len, symbol != NULL ? symbol : &unwanted);
+}
+
+/* The name of a symbol. 0, 15, 14, 3.
+ * After 0: *name is its first byte, in the list's memory, and *name_len its length; no zero byte ends it. After any other answer: all
+ * as before. */
+static inline uint32_t desk_names_get(const desk_names *names, uint32_t symbol, const char **name, size_t *name_len) {
+    uint64_t nothing = 0;
+    size_t first = 0, end = 0;
+    uint32_t number = desk_place_of_name(desk_bytes_(names->bytes, &nothing), names->bytes_len, desk_words_(names->ends, &nothing),
+                                         names->ends_len, names->names, names->name_bytes, symbol, &first, &end);
+    if (number != DESK_DONE) return number;
+    if (name != NULL) *name = names->bytes != NULL ? (const char *)names->bytes + first : "";
+    if (name_len != NULL) *name_len = end - first;
+    return number;
+}
+
+/* ---- The map over time. */
+
+/* Is the table well-formed, with symbols of this name list? 0, 15, 14. After any answer: all as before. */
+static inline uint32_t desk_table_check(const desk_table *table, const desk_names *names) {
+    uint64_t nothing = 0;
+    return desk_check(desk_bytes_(table->bytes, &nothing), table->bytes_len, table->used, names->names);
+}
+
+/* From start to before end the instrument has the symbol, whatever it had. start = end is done and changes nothing. 0, 15, 14, 1, 3, 2.
+ * After 0: the table holds the outcome, and `used` counts it. After any other answer: all as before. */
+static inline uint32_t desk_table_insert(desk_table *table, const desk_names *names, uint32_t instrument, uint64_t start, uint64_t end,
+                                         uint32_t symbol) {
+    uint64_t nothing = 0;
+    return desk_insert(desk_bytes_(table->bytes, &nothing), table->bytes_len, &table->used, names->names, instrument, start, end, symbol);
+}
+
+/* The instrument's symbol at the moment. *cursor, kept between lookups of one instrument, makes the next one quick; it starts at 0, and
+ * may be any number. With NULL each lookup starts anew. 0, 15.
+ * After 0: *symbol is the symbol, DESK_NOTHING where there is none; *cursor is the interval arrived at, counted from 0 within the
+ * instrument, and as before with an unknown instrument or a moment before the first interval. On a table that desk_table_check rejects
+ * by 14 both say nothing. After 15: all as before. */
+static inline uint32_t desk_table_get(const desk_table *table, uint32_t instrument, uint64_t moment, uint64_t *cursor, uint32_t *symbol) {
+    uint64_t nothing = 0, anew = 0;
+    uint32_t found = 0, found_symbol = 0;
+    uint32_t number = desk_get_for_ts(desk_bytes_(table->bytes, &nothing), table->bytes_len, table->used, instrument, moment,
+                                      cursor != NULL ? cursor : &anew, &found, &found_symbol);
+    if (number == DESK_DONE && symbol != NULL) *symbol = found != 0 ? found_symbol : DESK_NOTHING;
+    return number;
+}
+
+/* Why the instrument has a symbol at the moment, or none. 0, 15, 14.
+ * After 0: *explanation tells. After any other answer: all as before. */
+static inline uint32_t desk_table_explain(const desk_table *table, const desk_names *names, uint32_t instrument, uint64_t moment,
+                                          desk_explanation *explanation) {
+    uint64_t nothing = 0;
+    desk_explanation told = {0, 0, 0, 0, 0, 0, 0, 0};
+    uint32_t number = desk_explain(desk_bytes_(table->bytes, &nothing), table->bytes_len, table->used, names->names, instrument, moment,
+                                   &told.reason, &told.index, &told.start, &told.end, &told.symbol, &told.next_start, &told.next_end,
+                                   &told.next_symbol);
+    if (number == DESK_DONE && explanation != NULL) *explanation = told;
+    return number;
+}
+
+/* One record's bytes: a symbol mapping inserts its interval, and a new name joins the list; other kinds are done and change nothing.
+ * 0, 15, 14, 13, 4, 1, 5, 2.
+ * After 0: table and list hold the outcome. After 13: *reason is the reason (enum desk_reason), all else as before. After any other
+ * answer: all as before. */
+static inline uint32_t desk_table_record(desk_table *table, desk_names *names, const uint8_t *record, size_t record_len,
+                                         uint64_t *reason) {
+    uint64_t nothing = 0, unwanted = 0;
+    return desk_on_record(desk_bytes_(table->bytes, &nothing), table->bytes_len, &table->used, desk_bytes_(names->bytes, &nothing),
+                          names->bytes_len, desk_words_(names->ends, &nothing), names->ends_len, &names->names, &names->name_bytes,
+                          desk_read_(record, &nothing), record_len, reason != NULL ? reason : &unwanted);
+}
+
+/* The table of a metadata, whatever the table held. 0; 15, 14 for the name list, 9, then the first fault met: 3, 8, 11, 1, 2.
+ * After 0: the table holds the outcome, and 0 in every place that is not in use. After any other answer: the table is empty, 0 in every
+ * place. Metadata and list are as before after any answer. */
+static inline uint32_t desk_table_build(desk_table *table, const desk_metadata *metadata, const desk_names *names) {
+    uint64_t nothing = 0;
+    return desk_build(desk_bytes_(table->bytes, &nothing), table->bytes_len, &table->used, metadata->header, DESK_HEADER_WORDS,
+                      desk_words_(metadata->symbols, &nothing), metadata->symbols_len, desk_words_(metadata->partial, &nothing),
+                      metadata->partial_len, desk_words_(metadata->not_found, &nothing), metadata->not_found_len,
+                      desk_words_(metadata->mappings, &nothing), desk_count_(metadata->mappings_len, DESK_MAPPING_WORDS),
+                      desk_words_(metadata->intervals, &nothing), desk_count_(metadata->intervals_len, DESK_INTERVAL_WORDS),
+                      desk_bytes_(names->bytes, &nothing), names->bytes_len, desk_words_(names->ends, &nothing), names->ends_len,
+                      names->names, names->name_bytes);
+}
+
+/* Interval i of a table, counted from 0; 1 where there is one, else 0.
+ * After 1: *interval is the interval. After 0: all as before. */
+static inline int desk_table_interval(const desk_table *table, size_t i, desk_interval *interval) {
+    const uint8_t *row;
+    if (table->used <= i || table->bytes_len / DESK_INTERVAL_BYTES <= i) return 0;
+    row = table->bytes + i * DESK_INTERVAL_BYTES;
+    if (interval == NULL) return 1;
+    interval->instrument = (uint32_t)desk_field_(row, 4);
+    interval->symbol = (uint32_t)desk_field_(row + 4, 4);
+    interval->start = desk_field_(row + 8, 8);
+    interval->end = desk_field_(row + 16, 8);
+    return 1;
+}
+
+/* ---- Two tables of one name list side by side. */
+
+/* Every stretch of time in which the tables disagree, as long as can be, sorted by instrument and start. The tables are only read, and
+ * may be one. Room for DESK_STRETCHES(left->used, right->used) always suffices. 0, 15, 14, 2.
+ * After 0: `stretches` holds them from its front, and `count` counts them. After any other answer: all as before. */
+static inline uint32_t desk_table_compare(const desk_table *left, const desk_table *right, const desk_names *names,
+                                          desk_stretches *stretches) {
+    uint64_t nothing = 0;
+    return desk_compare(desk_bytes_(left->bytes, &nothing), left->bytes_len, left->used, desk_bytes_(right->bytes, &nothing),
+                        right->bytes_len, right->used, names->names, desk_bytes_(stretches->bytes, &nothing), stretches->bytes_len,
+                        &stretches->count);
+}
+
+/* Stretch i of a comparison, counted from 0; 1 where there is one, else 0.
+ * After 1: *stretch is the stretch. After 0: all as before. */
+static inline int desk_stretches_get(const desk_stretches *stretches, size_t i, desk_stretch *stretch) {
+    const uint8_t *row;
+    if (stretches->count <= i || stretches->bytes_len / DESK_STRETCH_BYTES <= i) return 0;
+    row = stretches->bytes + i * DESK_STRETCH_BYTES;
+    if (stretch == NULL) return 1;
+    stretch->instrument = (uint32_t)desk_field_(row, 4);
+    stretch->left = (uint32_t)desk_field_(row + 4, 4);
+    stretch->right = (uint32_t)desk_field_(row + 8, 4);
+    stretch->start = desk_field_(row + 12, 8);
+    stretch->end = desk_field_(row + 20, 8);
+    return 1;
+}
+
+/* ---- The point-in-time table. */
+
+/* Is the table well-formed, with symbols of this name list? 0, 15, 14. After any answer: all as before. */
+static inline uint32_t desk_point_table_check(const desk_point_table *table, const desk_names *names) {
+    uint64_t nothing = 0;
+    return desk_check_points(desk_bytes_(table->bytes, &nothing), table->bytes_len, table->used, names->names);
+}
 
 /* The instrument's symbol. 0, 15.
- * After 0: *found is 1 and *symbol the symbol, or both are 0 where there is none; on a table that desk_check_points rejects by 14
- * the two say nothing. After 15: all as before. */
-uint32_t desk_get_point(const uint8_t *table, size_t table_len, size_t used, uint32_t instrument, uint32_t *found,
-                        uint32_t *symbol);
+ * After 0: *symbol is the symbol, DESK_NOTHING where there is none; on a table that desk_point_table_check rejects by 14 it says
+ * nothing. After 15: all as before. */
+static inline uint32_t desk_point_table_get(const desk_point_table *table, uint32_t instrument, uint32_t *symbol) {
+    uint64_t nothing = 0;
+    uint32_t found = 0, found_symbol = 0;
+    uint32_t number =
+        desk_get_point(desk_bytes_(table->bytes, &nothing), table->bytes_len, table->used, instrument, &found, &found_symbol);
+    if (number == DESK_DONE && symbol != NULL) *symbol = found != 0 ? found_symbol : DESK_NOTHING;
+    return number;
+}
 
-/* One record's bytes: a symbol mapping sets the instrument's entry and ignores both times; other kinds are done and change
- * nothing. A new name joins the name list only when done. 15, 14 (table and name list), 13, 4, 5, 2.
- * After 0: *used is the new number in use, and the table's first *used places hold the entries, the unused ones are as before; the
- * name list, *names and *name_bytes are as desk_number_of leaves them. After 13: *reason is the reason, all else as before. After any
- * other answer: all as before. */
-uint32_t desk_on_record_point(uint8_t *table, size_t table_len, size_t *used, uint8_t *bytes, size_t bytes_len,
-                              uint32_t *ends, size_t ends_len, size_t *names, size_t *name_bytes, const uint8_t *record,
-                              size_t record_len, uint64_t *reason);
-
-/* ---- Names. A name list is the names' bytes, one name after another, and where each name ends; `names` names and `name_bytes`
- * bytes are in use. Name n lies from the end of the one before it to its own end. Name numbers run from 0 in order of first
- * arrival and are never taken back. */
-
-/* Is the list well-formed: do valid names (0 to 255 bytes of UTF-8) stand one after another? 0, 15, 14.
- * After any answer: all as before. */
-uint32_t desk_check_names(const uint8_t *bytes, size_t bytes_len, const uint32_t *ends, size_t ends_len, size_t names,
-                          size_t name_bytes);
-
-/* The number of a name: the least with equal bytes, else the next new one, and the name joins the list. 15, 14, 4, 5.
- * After 0: *symbol is the number. A new name's bytes stand behind those that were in use, and so does its end; *names is one more,
- * *name_bytes more by its length, and unused places behind are as before. With an old name all else is as before. After any other
+/* One record's bytes: a symbol mapping sets the instrument's entry, whatever its times say, and a new name joins the list; other kinds are
+ * done and change nothing. 0, 15, 14, 13, 4, 5, 2.
+ * After 0: table and list hold the outcome. After 13: *reason is the reason (enum desk_reason), all else as before. After any other
  * answer: all as before. */
-uint32_t desk_number_of(uint8_t *bytes, size_t bytes_len, uint32_t *ends, size_t ends_len, size_t *names, size_t *name_bytes,
-                        const uint8_t *name, size_t name_len, uint32_t *symbol);
+static inline uint32_t desk_point_table_record(desk_point_table *table, desk_names *names, const uint8_t *record, size_t record_len,
+                                               uint64_t *reason) {
+    uint64_t nothing = 0, unwanted = 0;
+    return desk_on_record_point(desk_bytes_(table->bytes, &nothing), table->bytes_len, &table->used, desk_bytes_(names->bytes, &nothing),
+                                names->bytes_len, desk_words_(names->ends, &nothing), names->ends_len, &names->names,
+                                &names->name_bytes, desk_read_(record, &nothing), record_len, reason != NULL ? reason : &unwanted);
+}
 
-/* Where a symbol's name lies among the bytes. 15, 14, 3.
- * After 0: *first is its first byte, *end its end. After any other answer: all as before. */
-uint32_t desk_place_of_name(const uint8_t *bytes, size_t bytes_len, const uint32_t *ends, size_t ends_len, size_t names,
-                            size_t name_bytes, uint32_t symbol, size_t *first, size_t *end);
+/* The table of a metadata for a date, whatever the table held. 0; 15, 14 for the name list, 11 for the date, 9, 10, then the first fault
+ * met: 11, 3, 8, 2.
+ * After 0: the table holds the outcome, and 0 in every place that is not in use. After any other answer: the table is empty, 0 in every
+ * place. Metadata and list are as before after any answer. */
+static inline uint32_t desk_point_table_build(desk_point_table *table, const desk_metadata *metadata, const desk_names *names,
+                                              uint32_t date) {
+    uint64_t nothing = 0;
+    return desk_build_points(desk_bytes_(table->bytes, &nothing), table->bytes_len, &table->used, metadata->header, DESK_HEADER_WORDS,
+                             desk_words_(metadata->symbols, &nothing), metadata->symbols_len, desk_words_(metadata->partial, &nothing),
+                             metadata->partial_len, desk_words_(metadata->not_found, &nothing), metadata->not_found_len,
+                             desk_words_(metadata->mappings, &nothing), desk_count_(metadata->mappings_len, DESK_MAPPING_WORDS),
+                             desk_words_(metadata->intervals, &nothing), desk_count_(metadata->intervals_len, DESK_INTERVAL_WORDS),
+                             desk_bytes_(names->bytes, &nothing), names->bytes_len, desk_words_(names->ends, &nothing), names->ends_len,
+                             names->names, names->name_bytes, date);
+}
 
-/* ---- Numbers, days. A date is the number YYYYMMDD. */
+/* ---- Dates, numbers, texts. */
 
-/* The day of a date, since 1970-01-01. 0, 11.
- * After 0: *day is the day. After 11: all as before. */
-uint32_t desk_day_of(uint32_t date, uint32_t *day);
-
-/* The date of a day since 1970-01-01. 0, 11.
- * After 0: *date is the date. After 11: all as before. */
-uint32_t desk_date_of(uint32_t day, uint32_t *date);
-
-/* The moment at which a day since 1970-01-01 starts: days x 86,400,000,000,000 nanoseconds. 0, 11.
+/* The moment at which a date (YYYYMMDD) starts. 0, 11.
  * After 0: *moment is the moment. After 11: all as before. */
-uint32_t desk_day_start(uint32_t day, uint64_t *moment);
+static inline uint32_t desk_date_start(uint32_t date, uint64_t *moment) {
+    uint32_t day = 0, number = desk_day_of(date, &day);
+    uint64_t unwanted = 0;
+    return number != DESK_DONE ? number : desk_day_start(day, moment != NULL ? moment : &unwanted);
+}
+
+/* The date (YYYYMMDD) on which a moment lies. 0 alone.
+ * After 0: *date is the date. */
+static inline uint32_t desk_date_at(uint64_t moment, uint32_t *date) {
+    uint32_t unwanted = 0;
+    return desk_date_of((uint32_t)(moment / UINT64_C(86400000000000)), date != NULL ? date : &unwanted);
+}
 
 /* The number that a text says: an optional single `+`, then one or more ASCII digits, at most 4294967295. 0, 8.
  * After 0: *value is the number. After 8: all as before. */
-uint32_t desk_number_text(const uint8_t *text, size_t text_len, uint32_t *value);
-
-/* Is a text, of any length, UTF-8 (RFC 3629)? 0, 4.
- * After any answer: all as before. */
-uint32_t desk_utf8(const uint8_t *text, size_t text_len);
-
-/* ---- Metadata. A metadata is a header of 14 words and five lists of words: symbols, partial, not_found (a word an entry, a name's
- * number), mappings (two words each: name, number of its intervals) and intervals (three words each: start date, end date,
- * symbol), those of the mappings one after the other. The header says how much of each list is in use; the intervals in use are
- * the sum of the mappings' numbers. 15 where a header has not 14 words or one of them is over the width named here, where a list
- * is over its limit or not made of whole mappings or intervals, or where more is in use than is lent. */
-enum desk_header {
-    DESK_VERSION,         /* 8 bits */
-    DESK_DATASET,         /* 32 bits, a name's number */
-    DESK_SCHEMA,          /* 16 bits; DESK_NO_SCHEMA for none */
-    DESK_START,           /* 64 bits, a moment */
-    DESK_END,             /* 64 bits, a moment; 0 is missing */
-    DESK_LIMIT,           /* 64 bits; 0 is missing */
-    DESK_STYPE_IN,        /* 8 bits; 0 is instrument ID, DESK_NO_STYPE none */
-    DESK_STYPE_OUT,       /* 8 bits; 0 is instrument ID */
-    DESK_TS_OUT,          /* 0 or 1 */
-    DESK_SYMBOL_CSTR_LEN, /* 64 bits */
-    DESK_SYMBOLS,         /* entries in use, as the next two */
-    DESK_PARTIAL,
-    DESK_NOT_FOUND,
-    DESK_MAPPINGS_USED,   /* mappings in use */
-    DESK_HEADER_WORDS
-};
-
-/* The fields that 6 names: the place of the first that differs. */
-enum desk_field {
-    DESK_VERSION_DIFFERS = 1,
-    DESK_DATASET_DIFFERS = 2,
-    DESK_STYPE_IN_DIFFERS = 3,
-    DESK_STYPE_OUT_DIFFERS = 4,
-    DESK_TS_OUT_DIFFERS = 5,
-    DESK_SYMBOL_CSTR_LEN_DIFFERS = 6
-};
-
-/* The first metadata, which loses its repeats: equal entries of a set once, and of two mappings with one name the last, at the
- * place of the first. 0, 15.
- * After 0: the header's four numbers in use count what is left, and each list holds it from its front; places that are freed hold
- * 0, other unused ones and the header's other words are as before. After 15: all as before. */
-uint32_t desk_metadata_open(uint64_t *header, size_t header_len, uint32_t *symbols, size_t symbols_len, uint32_t *partial,
-                            size_t partial_len, uint32_t *not_found, size_t not_found_len, uint32_t *mappings,
-                            size_t mappings_len, uint32_t *intervals, size_t intervals_len);
-
-/* One more metadata into a gathered one (which loses its repeats first, where it was never opened); the added one stays as it is.
- * An unequal schema becomes none, start the lesser, end the greater, limit none; sets and mappings keep the order of first
- * arrival; the intervals of one name are merged by their heads. `names` is the number of names handed out. 15, also for names over
- * 4,096; 6; then, each over both sides whole: 11 for any date, 3 for any name number, 1 for any interval, 7, and 2, judged on the
- * outcome.
- * After 0: the header's schema, start, end, limit and four numbers in use are the outcome's, and each list holds the outcome from
- * its front; places that are freed hold 0, other unused ones and the header's other words are as before. After 6: *field is the
- * first that differs, all else as before. After any other answer: all as before. */
-uint32_t desk_metadata_merge(size_t names, uint64_t *header, size_t header_len, uint32_t *symbols, size_t symbols_len,
-                             uint32_t *partial, size_t partial_len, uint32_t *not_found, size_t not_found_len,
-                             uint32_t *mappings, size_t mappings_len, uint32_t *intervals, size_t intervals_len,
-                             const uint64_t *added, size_t added_len, const uint32_t *added_symbols, size_t added_symbols_len,
-                             const uint32_t *added_partial, size_t added_partial_len, const uint32_t *added_not_found,
-                             size_t added_not_found_len, const uint32_t *added_mappings, size_t added_mappings_len,
-                             const uint32_t *added_intervals, size_t added_intervals_len, uint32_t *field);
-
-/* The gathered metadata is finished: nothing changes. 0, 15.
- * After any answer: all as before. */
-uint32_t desk_metadata_finish(const uint64_t *header, size_t header_len, const uint32_t *symbols, size_t symbols_len,
-                              const uint32_t *partial, size_t partial_len, const uint32_t *not_found, size_t not_found_len,
-                              const uint32_t *mappings, size_t mappings_len, const uint32_t *intervals, size_t intervals_len);
-
-/* ---- Builds from metadata. The table's bytes are written whole, whatever they and *used held. Metadata and name list are only read.
- * If stype_out is instrument ID, an interval's symbol is the instrument's number and the mapping's name the symbol; else if stype_in
- * is, the other way round; else 9. Mappings and intervals go in order, and the first fault met decides. */
-
-/* A table over time, 24 bytes an interval. 15, 14 for the name list, 9; then, where the mapping's name is the number, 3 and 8 for it;
- * of each interval 3 for its symbol, nothing more where that is empty, 8 where it is the number, 11 for start and end, then as
- * desk_insert: 1, start = end is done, 3, 2.
- * After 0: *used is the number in use, the table's first *used places hold the intervals, and every other byte of it is 0. After any
- * other answer: *used is 0, and so is every byte of the table, whatever its length. */
-uint32_t desk_build(uint8_t *table, size_t table_len, size_t *used, const uint64_t *header, size_t header_len,
-                    const uint32_t *symbols, size_t symbols_len, const uint32_t *partial, size_t partial_len,
-                    const uint32_t *not_found, size_t not_found_len, const uint32_t *mappings, size_t mappings_len,
-                    const uint32_t *intervals, size_t intervals_len, const uint8_t *bytes, size_t bytes_len,
-                    const uint32_t *ends, size_t ends_len, size_t names, size_t name_bytes);
-
-/* A point-in-time table for a date (YYYYMMDD), 8 bytes an entry. 15, 14 for the name list, 11 for the date, 9, 10 where the day is
- * before the start's day, or an end exists and the day's start is not before it; then of each mapping the first interval with
- * start <= day < end counts: 11 for a date up to it, 3 for its symbol, nothing more where that is empty, 3 for the mapping's name,
- * 8, 2. A later entry for one instrument replaces the earlier one.
- * After 0: *used is the number in use, the table's first *used places hold the entries, and every other byte of it is 0. After any
- * other answer: *used is 0, and so is every byte of the table, whatever its length. */
-uint32_t desk_build_points(uint8_t *table, size_t table_len, size_t *used, const uint64_t *header, size_t header_len,
-                           const uint32_t *symbols, size_t symbols_len, const uint32_t *partial, size_t partial_len,
-                           const uint32_t *not_found, size_t not_found_len, const uint32_t *mappings, size_t mappings_len,
-                           const uint32_t *intervals, size_t intervals_len, const uint8_t *bytes, size_t bytes_len,
-                           const uint32_t *ends, size_t ends_len, size_t names, size_t name_bytes, uint32_t date);
-
-/* ---- Merging records. All streams stand in one buffer; cuts, one more than streams, start at 0, never fall, and end at the
- * buffer's length. The state of a merge stands in five arrays of 256 places and in *held; between desk_open and the last
- * desk_next on it the caller hands in the same buffer and cuts, and the state as the call before left it, and changes none of
- * them.
- *
- * What a state says: marks[p] is 0 where stream p is closed, read to its end or damaged, and where there is no stream p. It is 1
- * where the stream waits to be read at places[p] and is chosen by times[p], its hint or the time of its record handed out last. It
- * is more where it stands at a record still to be handed out: places[p] and times[p] are the record's, heads[p] is its length +
- * kind x 65536 + instrument x 4294967296. *held is the number of streams that are not closed, and the first *held places of heap
- * hold their numbers, each once, and none at place i that comes by (times, number) after one at 2i + 1 or 2i + 2. What else the
- * arrays hold says nothing. */
-
-/* The hint of a stream from its own metadata's header, as that was before any merge: where the metadata starts. 15 where the words
- * are no header; the lists are not asked for.
- * After 0: *hint is the hint. After 15: all as before. */
-uint32_t desk_hint_of(const uint64_t *header, size_t header_len, uint64_t *hint);
-
-/* Opens the streams, each at its hint; an empty hint list means all hints 0. Reads none of them. 15 where an array has not 256
- * places; 12 for no stream, over 256, cuts wrong, or hints given and not one per stream.
- * After 0: *streams and *held are the number of streams, and in the state each stream waits at place 0 with its hint; every other
- * place of marks, times and heap and every place of places and heads is 0. After any other answer: all as before. */
-uint32_t desk_open(const uint8_t *buffer, size_t buffer_len, const uint64_t *cuts, size_t cuts_len, const uint64_t *hints,
-                   size_t hints_len, uint8_t *marks, size_t marks_len, uint64_t *times, size_t times_len, uint64_t *places,
-                   size_t places_len, uint64_t *heads, size_t heads_len, uint8_t *heap, size_t heap_len, size_t *streams,
-                   size_t *held);
-
-/* The next record, by time, then stream; the damage of a stream, which is closed by it, while the others go on; or the end, which
- * stays. 0, 15 where an array has not 256 places or *held is over 256, 13.
- * After 0: *found is 1, and *stream, *place (from the stream's start), *length, *kind, *instrument and *time are the record's,
- * whose bytes stand in the buffer from cuts[*stream] + *place on; at the end *found and these six are 0. *held and the arrays are
- * the state after the call. After 13: *stream is damaged at *place for *reason, and *held and the arrays are the state after the
- * call too, with which the caller goes on; *found, *length, *kind, *instrument and *time are as before. After 15: all as before.
- * On a state that desk_open did not make for this buffer and these cuts neither the number nor what the call writes says anything. */
-uint32_t desk_next(const uint8_t *buffer, size_t buffer_len, const uint64_t *cuts, size_t cuts_len, uint8_t *marks,
-                   size_t marks_len, uint64_t *times, size_t times_len, uint64_t *places, size_t places_len, uint64_t *heads,
-                   size_t heads_len, uint8_t *heap, size_t heap_len, size_t *held, uint32_t *found, uint64_t *stream,
-                   uint64_t *place, uint16_t *length, uint16_t *kind, uint32_t *instrument, uint64_t *time, uint64_t *reason);
-
-#ifdef __cplusplus
+static inline uint32_t desk_text_number(const char *text, size_t text_len, uint32_t *value) {
+    uint64_t nothing = 0;
+    uint32_t unwanted = 0;
+    return desk_number_text(desk_read_(text, &nothing), text_len, value != NULL ? value : &unwanted);
 }
-#endif
+
+/* Is a text UTF-8 (RFC 3629)? 0, 4. After any answer: all as before. */
+static inline uint32_t desk_text_check(const char *text, size_t text_len) {
+    uint64_t nothing = 0;
+    return desk_utf8(desk_read_(text, &nothing), text_len);
+}
+
+/* ---- Metadata: the first begins a gathered one, the others are added, and it is ended. */
+
+/* The first metadata loses its repeats: equal entries of a set once, and of two mappings with one name the last, at the place of the
+ * first. It takes DESK_OPEN_STACK bytes of stack. 0, 15.
+ * After 0: the lists hold what is left, and the header's numbers in use count it. After 15: all as before. */
+static inline uint32_t desk_metadata_begin(desk_metadata *metadata) {
+    uint64_t nothing = 0;
+    return desk_metadata_open(metadata->header, DESK_HEADER_WORDS, desk_words_(metadata->symbols, &nothing), metadata->symbols_len,
+                              desk_words_(metadata->partial, &nothing), metadata->partial_len,
+                              desk_words_(metadata->not_found, &nothing), metadata->not_found_len,
+                              desk_words_(metadata->mappings, &nothing), desk_count_(metadata->mappings_len, DESK_MAPPING_WORDS),
+                              desk_words_(metadata->intervals, &nothing), desk_count_(metadata->intervals_len, DESK_INTERVAL_WORDS));
+}
+
+/* One more metadata into the gathered one, which needs room for the outcome. It takes DESK_MERGE_STACK bytes of stack. 0; 15, 6, 11, 3,
+ * 1, 7, 2.
+ * After 0: the gathered one's header and lists are the outcome. After 6: *field is the first field that differs (enum desk_field), all
+ * else as before. After any other answer: all as before. The added one is as before after any answer. */
+static inline uint32_t desk_metadata_add(desk_metadata *gathered, const desk_metadata *added, const desk_names *names, uint32_t *field) {
+    uint64_t nothing = 0;
+    uint32_t unwanted = 0;
+    return desk_metadata_merge(
+        names->names, gathered->header, DESK_HEADER_WORDS, desk_words_(gathered->symbols, &nothing), gathered->symbols_len,
+        desk_words_(gathered->partial, &nothing), gathered->partial_len, desk_words_(gathered->not_found, &nothing),
+        gathered->not_found_len, desk_words_(gathered->mappings, &nothing), desk_count_(gathered->mappings_len, DESK_MAPPING_WORDS),
+        desk_words_(gathered->intervals, &nothing), desk_count_(gathered->intervals_len, DESK_INTERVAL_WORDS), added->header,
+        DESK_HEADER_WORDS, desk_words_(added->symbols, &nothing), added->symbols_len, desk_words_(added->partial, &nothing),
+        added->partial_len, desk_words_(added->not_found, &nothing), added->not_found_len, desk_words_(added->mappings, &nothing),
+        desk_count_(added->mappings_len, DESK_MAPPING_WORDS), desk_words_(added->intervals, &nothing),
+        desk_count_(added->intervals_len, DESK_INTERVAL_WORDS), field != NULL ? field : &unwanted);
+}
+
+/* The gathered metadata is finished: nothing changes. 0, 15. After any answer: all as before. */
+static inline uint32_t desk_metadata_end(const desk_metadata *metadata) {
+    uint64_t nothing = 0;
+    return desk_metadata_finish(metadata->header, DESK_HEADER_WORDS, desk_words_(metadata->symbols, &nothing), metadata->symbols_len,
+                                desk_words_(metadata->partial, &nothing), metadata->partial_len,
+                                desk_words_(metadata->not_found, &nothing), metadata->not_found_len,
+                                desk_words_(metadata->mappings, &nothing), desk_count_(metadata->mappings_len, DESK_MAPPING_WORDS),
+                                desk_words_(metadata->intervals, &nothing), desk_count_(metadata->intervals_len, DESK_INTERVAL_WORDS));
+}
+
+/* The hint of a metadata's own stream for desk_merge_open, before any merge: where the metadata starts. 0, 15.
+ * After 0: *hint is the hint. After 15: all as before. */
+static inline uint32_t desk_metadata_hint(const desk_metadata *metadata, uint64_t *hint) {
+    uint64_t unwanted = 0;
+    return desk_hint_of(metadata->header, DESK_HEADER_WORDS, hint != NULL ? hint : &unwanted);
+}
+
+/* ---- Merging records. */
+
+/* Opens the streams, which stand in one buffer one after another: stream p from cuts[p] to before cuts[p + 1], so that there is one cut
+ * more than streams, the first is 0, the last the buffer's length. A stream is first chosen by its hint; with no hints (NULL, 0) all are
+ * 0. Reads no stream. 0; 15 never; 12 for no stream, over 256, cuts wrong, or hints given and not one a stream.
+ * After 0: *merge stands before the first record. After 12: all as before. */
+static inline uint32_t desk_merge_open(desk_merge *merge, const uint8_t *buffer, size_t buffer_len, const uint64_t *cuts, size_t cuts_len,
+                                       const uint64_t *hints, size_t hints_len) {
+    uint64_t nothing = 0;
+    uint32_t number = desk_open(desk_read_(buffer, &nothing), buffer_len, desk_longs_(cuts, &nothing), cuts_len,
+                                desk_longs_(hints, &nothing), hints_len, merge->marks, DESK_STREAMS, merge->times, DESK_STREAMS,
+                                merge->places, DESK_STREAMS, merge->heads, DESK_STREAMS, merge->heap, DESK_STREAMS, &merge->streams,
+                                &merge->held);
+    if (number != DESK_DONE) return number;
+    merge->buffer = buffer;
+    merge->buffer_len = buffer_len;
+    merge->cuts = cuts;
+    merge->cuts_len = cuts_len;
+    return number;
+}
+
+/* The next record, by time, then stream; the damage of a stream, which is closed by it, while the others go on; or the end, which stays.
+ * 0, 13, and 15 of a merge that desk_merge_open did not make, which says nothing whatever the number is.
+ * After 0: *record is the record, at the end with found = 0, and *damage is as before. After 13: *damage is the damage, *record is as
+ * before; the program goes on with the same merge. After both *merge stands before what comes next. After 15: all as before. */
+static inline uint32_t desk_merge_next(desk_merge *merge, desk_record *record, desk_damage *damage) {
+    uint64_t nothing = 0, stream = 0, place = 0, time = 0, reason = 0;
+    uint32_t found = 0, instrument = 0, number;
+    uint16_t length = 0, kind = 0;
+    number = desk_next(desk_read_(merge->buffer, &nothing), merge->buffer_len, desk_longs_(merge->cuts, &nothing), merge->cuts_len,
+                       merge->marks, DESK_STREAMS, merge->times, DESK_STREAMS, merge->places, DESK_STREAMS, merge->heads, DESK_STREAMS,
+                       merge->heap, DESK_STREAMS, &merge->held, &found, &stream, &place, &length, &kind, &instrument, &time, &reason);
+    if (number == DESK_DAMAGED && damage != NULL) {
+        damage->stream = stream;
+        damage->place = place;
+        damage->reason = reason;
+    }
+    if (number == DESK_DONE && record != NULL) {
+        record->found = found;
+        record->instrument = instrument;
+        record->stream = stream;
+        record->place = place;
+        record->time = time;
+        record->length = length;
+        record->kind = kind;
+        record->bytes = found != 0 && stream < merge->cuts_len ? merge->buffer + merge->cuts[stream] + place : NULL;
+    }
+    return number;
+}
 
 #endif
