@@ -6,8 +6,8 @@ use native.Mathlib.Decide.{ℕ-discrete, decLt}
 use native.Mathlib.Omega.{arith}
 use mathlib.Core.Bool.{Bool, true, false, not, cond, _&&_, _||_}
 use mathlib.Core.List.{List, [], _∷_, _++_, append-assoc}
-use lib.ListN.{length, getD, set, take, drop, length-drop, length-append, List·getD-append}
-use lib.Seq.{slice, slice-empty, paste, length-slice, length-paste, length-take-le, take-paste}
+use lib.ListN.{length, getD, set, take, drop, length-drop, length-append, List·getD-append, take-append-drop}
+use lib.Seq.{slice, slice-empty, paste, length-slice, length-paste, length-take-le, take-paste, take-add}
 use lib.Seq.{drop-paste, drop-at, getD-take, getD-drop, ext-getD}
 use lib.Dec.{eqb, ltb, leb}
 use borrow.Author.Tests.{lt-ltb, le-ltb, eq-eqb, ne-eqb, eqb-true, leb-true}
@@ -81,6 +81,14 @@ paste-other d at s n i hd hs out = go (decLt i at)
         above : Dec (i < at + n) → at ≤ i → at + n ≤ i
         above (yes l) m = absurd (out m l)
         above (no l) m = omega (arith, l)
+
+-- bytes laid where they stand
+pub paste-self : (d : List ℕ) (at start n : ℕ) → start ≡ 0 → d ≡ paste d at (drop (at + start) d) n
+paste-self d at start n e =
+    let z : at + start ≡ at = omega arith in
+    sym (take-append-drop (at + n) d)
+    ∙ ap (λ (l : List ℕ). l ++ drop (at + n) d) (take-add at n d)
+    ∙ ap (λ (k : ℕ). paste d at (drop k d) n) (sym z)
 
 slice-same : (f t : ℕ) (w w' : List ℕ) → length w' ≡ length w → t ≤ length w → ((i : ℕ) → f ≤ i → i < t → getD w' i 0 ≡ getD w i 0)
     → slice f t w' ≡ slice f t w

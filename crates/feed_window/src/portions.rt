@@ -134,12 +134,23 @@ fn copy_in(window: &mut [u8], to: usize, portion: &[u8], size: usize)
     }
 }
 
+// Moves the kept bytes to the front of a stream's part of the window, where they don't stand there.
+fn move_front(window: &mut [u8], part: usize, start: usize, fill: usize)
+    requires { ⌜ part + start + fill ≤ length (now window) ⌝ }
+    ensures { λ _. ⌜ now (window .exit) ≡ paste (now (window .entry)) part (drop (part + start) (now (window .entry))) fill ⌝ }
+{
+    if start == 0 {
+        return;
+    }
+    move_down(window, part, part + start, fill);
+}
+
 // Lays the kept bytes at the front of a stream's part of the window, and so many bytes of a portion behind them.
 fn lay(window: &mut [u8], part: usize, start: usize, fill: usize, portion: &[u8], taken: usize)
     requires { ⌜ (part + start + fill ≤ length (now window)) × (part + fill + taken ≤ length (now window)) × (taken ≤ length (now portion)) ⌝ }
     ensures { λ _. ⌜ now (window .exit) ≡ paste (paste (now (window .entry)) part (drop (part + start) (now (window .entry))) fill) (part + fill) (now (portion .entry)) taken ⌝ }
 {
-    move_down(window, part, part + start, fill);
+    move_front(window, part, start, fill);
     copy_in(window, part + fill, portion, taken);
 }
 

@@ -4,11 +4,8 @@ use borrow.Author.Needs.{needs}
 use Rattle.feed_window.proofs.portions.lay.Statement.{statement}
 use Rattle.feed_window.proofs.portions.lay.Tie as tie
 
-add-move-down : tie.Need-add-move-down
-add-move-down c = search needs
-
-move-down-requires : tie.Need-move-down-requires
-move-down-requires c κs = search needs
+move-front-requires : tie.Need-move-front-requires
+move-front-requires c κs = search needs
 
 add-copy-in : tie.Need-add-copy-in
 add-copy-in c = search needs
@@ -20,9 +17,8 @@ same-length : tie.Need-same-length
 same-length c = search needs
 
 returns : tie.Need-returns
-returns c = rw (c .before .before .copy-in .ensures, c .before .before .before .before .before .before .move-down .ensures) refl
+returns c = rw (c .before .before .copy-in .ensures, c .before .before .before .before .before .before .move-front .ensures) refl
 
 pub lay-spec : {M : Type 1} → statement M
 lay-spec =
-    tie.close
-    (tie.spec add-move-down move-down-requires add-copy-in copy-in-requires same-length returns)
+    tie.close (tie.spec move-front-requires add-copy-in copy-in-requires same-length returns)
