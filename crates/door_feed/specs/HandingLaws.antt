@@ -1,7 +1,6 @@
 -- What the lent numbers hold, one law a case of the answer. Assumes nothing.
 use Prim.Native.Nat.{ℕ, zero, suc}
-use mathlib.Core.Path.{_≡_, refl, sym, ap, _∙_}
-use native.Mathlib.Omega.{arith}
+use mathlib.Core.Path.{_≡_, refl, ap, _∙_}
 use mathlib.Core.List.{List, [], _∷_}
 use Rattle.theory.specs.Answer.{Answer, answer}
 use Rattle.leaves.specs.Refusal.{numberOf, valuesOf, refused}
@@ -51,7 +50,8 @@ module _ {a : Answer} (found stream place index long kind instrument time reason
     reasons = done-damage reason 2 e;
   }
 
-  pub fed-need : {s : ℕ} → answer 0 (s ∷ []) ≡ a → FedHanded a 0 found stream place index long kind instrument time reason 2 s 0 0 0 0 0 0 reason
+  pub fed-need : {s : ℕ} → answer 0 (s ∷ []) ≡ a
+      → FedHanded a 0 found stream place index long kind instrument time reason 2 s 0 0 0 0 0 0 reason
   unfolding foundIn
   fed-need e = record {
     returns = done-number e;

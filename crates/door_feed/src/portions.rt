@@ -5,9 +5,9 @@ use door_answers::damage::place_in;
 use door_answers::damage::reason_in;
 use door_answers::damage::stream_in;
 use feed::opening::FeedOpening;
-use feed::portions::Added;
-use feed::portions::Ended;
 use feed::turns::Fed;
+use feed_window::portions::Added;
+use feed_window::portions::Ended;
 use leaves::refusal::number;
 ghost use mathlib.Core.Path.{_≡_};
 ghost use mathlib.Core.Bool.{true, false, _&&_};
@@ -76,7 +76,7 @@ pub extern "C" fn desk_feed_bytes(
         × FeedAdds n held (now (window .entry)) (now (marks .entry)) ts (now (places .entry)) (now (heads .entry)) hp (now (spans .entry)) stream (now (portion .entry))
         (addAnswer (feedOf n (now (window .entry)) (now (marks .entry)) ts (now (places .entry)) (now (heads .entry)) (now (spans .entry))) stream (now (portion .entry))) (now (window .exit)) (now (spans .exit))) ⌝ }
 {
-    let added = feed::portions::add(stream, portion, marks, places, heads, spans, window);
+    let added = feed_window::portions::add(stream, portion, marks, places, heads, spans, window);
     match added {
         Added::Taken(n) => {
             *taken = n as usize;
@@ -96,7 +96,7 @@ pub extern "C" fn desk_feed_end(stream: u64, marks: &[u8], spans: &mut [u64]) ->
         × FeedEnds n held window (now (marks .entry)) ts cs hs hp (now (spans .entry)) stream
         (endAnswer (feedOf n window (now (marks .entry)) ts cs hs (now (spans .entry))) stream) (now (spans .exit))) ⌝ }
 {
-    let ended = feed::portions::end(stream, marks, spans);
+    let ended = feed_window::portions::end(stream, marks, spans);
     match ended {
         Ended::Done => DONE,
         Ended::Refused(refusal) => number(refusal),

@@ -8,10 +8,6 @@ use Rattle.leaves.specs.Refusal.{numberOf, refused}
 use Rattle.leaves.specs.RefusalLaws.{refused-not-done, refused-one}
 use Rattle.feed.specs.declared.turns.Fed.{Fed}
 use Rattle.feed.specs.declared.turns.Fed.the-variants as fed
-use Rattle.feed.specs.declared.portions.Added.{Added}
-use Rattle.feed.specs.declared.portions.Added.the-variants as added
-use Rattle.feed.specs.declared.portions.Ended.{Ended}
-use Rattle.feed.specs.declared.portions.Ended.the-variants as ended
 use Rattle.feed.specs.declared.opening.FeedOpening.{FeedOpening}
 use Rattle.feed.specs.declared.opening.FeedOpening.the-variants as opened
 
@@ -22,16 +18,6 @@ fedOf (fed.Record stream place at size kind instrument time) = answer 0 (stream 
 fedOf fed.End = answer 0 []
 fedOf (fed.NeedMore stream) = answer 0 (stream ∷ [])
 fedOf (fed.Refused r) = refused r
-
--- a portion is done, with the bytes that were taken
-abbrev pub addedOf : Added → Answer
-addedOf (added.Taken n) = answer 0 (n ∷ [])
-addedOf (added.Refused r) = refused r
-
--- the word is done, with nothing
-abbrev pub endedOf : Ended → Answer
-endedOf ended.Done = answer 0 []
-endedOf (ended.Refused r) = refused r
 
 -- an opening is done, with the number of streams and of those that the heap holds
 abbrev pub openedOf : FeedOpening → Answer
@@ -56,18 +42,6 @@ fed-one (fed.Refused r) (fed.Record h i j k l m n) z = let n : numberOf r ≡ 0 
 fed-one (fed.Refused r) fed.End z = let n : numberOf r ≡ 0 = cc in absurd (refused-not-done r n)
 fed-one (fed.Refused r) (fed.NeedMore p) z = let n : numberOf r ≡ 0 = cc in absurd (refused-not-done r n)
 fed-one (fed.Refused r) (fed.Refused q) z = ap fed.Refused (refused-one r q z)
-
-pub added-one : (x y : Added) → addedOf x ≡ addedOf y → x ≡ y
-added-one (added.Taken a) (added.Taken b) z = cc
-added-one (added.Taken a) (added.Refused q) z = let n : numberOf q ≡ 0 = cc in absurd (refused-not-done q n)
-added-one (added.Refused r) (added.Taken b) z = let n : numberOf r ≡ 0 = cc in absurd (refused-not-done r n)
-added-one (added.Refused r) (added.Refused q) z = ap added.Refused (refused-one r q z)
-
-pub ended-one : (x y : Ended) → endedOf x ≡ endedOf y → x ≡ y
-ended-one ended.Done ended.Done z = refl
-ended-one ended.Done (ended.Refused q) z = let n : numberOf q ≡ 0 = cc in absurd (refused-not-done q n)
-ended-one (ended.Refused r) ended.Done z = let n : numberOf r ≡ 0 = cc in absurd (refused-not-done r n)
-ended-one (ended.Refused r) (ended.Refused q) z = ap ended.Refused (refused-one r q z)
 
 pub opened-one : (x y : FeedOpening) → openedOf x ≡ openedOf y → x ≡ y
 opened-one (opened.Opened a b) (opened.Opened c d) z = cc

@@ -1,5 +1,5 @@
 // The opening of streams that arrive in portions (RULES, Requests, No. 5): each waits at its hint, and nothing of it has come.
-use crate::turns::PLACES;
+use feed_window::spans::PLACES;
 use leaves::refusal::Refusal;
 use records::heap::heapify;
 use records::opening::lay_streams;

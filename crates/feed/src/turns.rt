@@ -1,12 +1,14 @@
 // The next answer where streams arrive in portions (RULES, Requests, No. 5), over the heap of `records`. The state is that of whole
 // buffers, a span a stream beside it; the head of a stream that waits has the length of the record that it handed out last and that
 // still counts, or 0. A call reads the window and writes nothing to it.
-use crate::spans::ENDED;
-use crate::spans::FILL;
-use crate::spans::RECORD;
-use crate::spans::WANTING;
-use crate::spans::WINDOW;
-use crate::spans::read_window;
+use feed_window::spans::ENDED;
+use feed_window::spans::FILL;
+use feed_window::spans::PLACES;
+use feed_window::spans::RECORD;
+use feed_window::spans::WANTING;
+use feed_window::spans::WINDOW;
+use feed_window::spans::WINDOW_BYTES;
+use feed_window::spans::read_window;
 use leaves::refusal::Refusal;
 use records::heap::sift_down;
 use records::heap::slot;
@@ -24,11 +26,6 @@ ghost use lib.ListN.{length};
 ghost use Rattle.theory.specs.Answer.{answer};
 ghost use Rattle.feed_rules.specs.Spans.{handedOut, feedFits, FeedRoom, FeedOk, FeedSays, FeedUntouched};
 ghost use Rattle.feed.specs.Answers.{fedOf};
-
-// The bytes of the window of all streams, and the places of the spans.
-pub const WINDOW_BYTES: usize = 262144;
-
-pub const PLACES: usize = 256;
 
 // What a call answers: a record, with the index in the window at which its bytes stand; the end; that more of a stream is needed first;
 // or a refusal, damage among them.

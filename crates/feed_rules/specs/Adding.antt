@@ -2,14 +2,14 @@
 use mathlib.Core.Path.{_≡_}
 use mathlib.Core.Logic.{_≢_}
 use Prim.Native.Nat.{ℕ, _+_, _-_, _*_, _/_, _%_, _<_, _≤_, _^_, min}
-use mathlib.Core.Bool.{Bool, true, false, not, cond, _&&_, _||_}
-use mathlib.Core.List.{List, [], _∷_}
-use lib.ListN.{length, getD, set, drop}
+use mathlib.Core.Bool.{Bool, true, not, cond, _&&_, _||_}
+use mathlib.Core.List.{List}
+use lib.ListN.{getD, drop}
 use lib.Seq.{paste}
 use lib.Dec.{eqb, ltb, leb}
-use Rattle.theory.specs.Answer.{Answer, answer}
+use Rattle.theory.specs.Answer.{Answer}
 use Rattle.records_rules.specs.State.{arraysFit}
-use Rattle.feed_rules.specs.Windows.{Feed, opened, closed, addAnswer, addLeaves, endAnswer, endLeaves, Alike}
+use Rattle.feed_rules.specs.Windows.{opened, closed, addAnswer, addLeaves, endAnswer, endLeaves, Alike}
 use Rattle.feed_rules.specs.Spans.{counts, feedOf, FeedOk}
 
 -- ---- what is lent: where it does not fit, 15

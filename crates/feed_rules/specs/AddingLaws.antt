@@ -1,28 +1,30 @@
 -- An opening, a portion and the word that a stream has ended, on a sound state. Assumes nothing.
-use mathlib.Core.Path.{_≡_, refl, sym, ap, subst, _∙_}
+use mathlib.Core.Path.{_≡_, refl, sym, ap, _∙_}
 use mathlib.Core.Logic.{_≢_}
-use Prim.Native.Nat.{ℕ, zero, suc, _+_, _-_, _*_, _/_, _%_, _<_, _≤_, _^_, min}
+use Prim.Native.Nat.{ℕ, zero, suc, _+_, _-_, _*_, _/_, _%_, _<_, _≤_, _^_}
 use native.Mathlib.Decide.{ℕ-discrete, decLt}
 use native.Mathlib.Omega.{arith}
 use mathlib.Core.Bool.{Bool, true, false, not, cond, _&&_, _||_}
 use mathlib.Core.List.{List, [], _∷_, _++_, append-assoc}
-use lib.ListN.{length, getD, set, take, drop, length-take, length-drop, length-append, List·getD-append}
-use lib.Seq.{slice, slice-empty, paste, length-slice, length-paste, length-take-le, take-paste, drop-paste, take-append-le, drop-append-le, drop-at, getD-take, getD-drop, ext-getD, take-add}
-use lib.Dec.{T, eqb, ltb, leb}
-use mir.Facts.{eqb-yes}
+use lib.ListN.{length, getD, set, take, drop, length-drop, length-append, List·getD-append, take-append-drop}
+use lib.Seq.{slice, slice-empty, paste, length-slice, length-paste, length-take-le, take-paste, take-add}
+use lib.Seq.{drop-paste, drop-at, getD-take, getD-drop, ext-getD}
+use lib.Dec.{eqb, ltb, leb}
 use borrow.Author.Tests.{lt-ltb, le-ltb, eq-eqb, ne-eqb, eqb-true, leb-true}
-use Rattle.theory.specs.Answer.{Answer, answer}
-use Rattle.records_rules.specs.Machine.{Status, waiting, standing, gone}
+use Rattle.theory.specs.Answer.{answer}
+use Rattle.records_rules.specs.Machine.{Status, gone}
 use Rattle.records_rules.specs.View.{statusOf, statusesOf, status-at}
 use Rattle.records_rules.specs.State.{arraysFit, Room, StreamsOpened}
 use Rattle.records_rules.specs.Opening.{arrays-room}
-use Rattle.feed_rules.specs.Windows.{Kept, Feed, put, opened, isGone, closed, taking, grow, shut, addAnswer, addLeaves, endAnswer, endLeaves, Alike}
+use Rattle.feed_rules.specs.Windows.{Kept, Feed, put, opened, isGone, closed, taking}
+use Rattle.feed_rules.specs.Windows.{grow, shut, addAnswer, addLeaves, endAnswer, endLeaves}
 use Rattle.feed_rules.specs.Spans.{counts, bytesIn, keptOf, feedOf, SlotOk, FeedOk}
 use Rattle.feed_rules.specs.WindowsLaws.{put-case}
 use Rattle.feed_rules.specs.SpansLaws.{kept-one, and-true}
-use Rattle.feed_rules.specs.Steps.{Put, put-set, put-none, slots-put, keptAt, statuses-out, not-there, alive, counts-zero}
+use Rattle.feed_rules.specs.Steps.{put-set, put-none, slots-put, keptAt, statuses-out, not-there, alive, counts-zero}
 use Rattle.feed_rules.specs.Portions.{slice-is}
-use Rattle.feed_rules.specs.Adding.{wordFits, portionFits, openFits, rightCount, shutAt, roomFor, laidWindow, FeedAdds, FeedEnds, FeedOpened}
+use Rattle.feed_rules.specs.Adding.{wordFits, portionFits, openFits, rightCount, shutAt, roomFor}
+use Rattle.feed_rules.specs.Adding.{laidWindow, FeedAdds, FeedEnds, FeedOpened}
 
 -- ---- who is closed
 
@@ -80,13 +82,22 @@ paste-other d at s n i hd hs out = go (decLt i at)
         above (yes l) m = absurd (out m l)
         above (no l) m = omega (arith, l)
 
+-- bytes laid where they stand
+pub paste-self : (d : List ℕ) (at start n : ℕ) → start ≡ 0 → d ≡ paste d at (drop (at + start) d) n
+paste-self d at start n e =
+    let z : at + start ≡ at = omega arith in
+    sym (take-append-drop (at + n) d)
+    ∙ ap (λ (l : List ℕ). l ++ drop (at + n) d) (take-add at n d)
+    ∙ ap (λ (k : ℕ). paste d at (drop k d) n) (sym z)
+
 slice-same : (f t : ℕ) (w w' : List ℕ) → length w' ≡ length w → t ≤ length w → ((i : ℕ) → f ≤ i → i < t → getD w' i 0 ≡ getD w i 0)
     → slice f t w' ≡ slice f t w
 slice-same f t w w' e h k =
     ext-getD 0 (slice f t w') (slice f t w) (length-slice f t w' (omega arith) ∙ sym (length-slice f t w h))
     (λ i l.
     let b : f + i < t = omega (arith, length-slice f t w' (omega arith)) in
-    getD-drop f (take t w') i 0 ∙ getD-take t w' (f + i) 0 b ∙ k (f + i) (omega arith) b ∙ sym (getD-take t w (f + i) 0 b) ∙ sym (getD-drop f (take t w) i 0))
+    getD-drop f (take t w') i 0 ∙ getD-take t w' (f + i) 0 b ∙ k (f + i) (omega arith) b ∙ sym (getD-take t w (f + i) 0 b)
+    ∙ sym (getD-drop f (take t w) i 0))
 
 module _ (window : List ℕ) (p s : ℕ) (xs : List ℕ) (k : ℕ) (long : length window ≡ 262144) (hp : p < 256)
     (short : s % 65536 + s / 65536 % 65536 ≤ 1024) (room : s / 65536 % 65536 + k ≤ 1024) (enough : k ≤ length xs) where
@@ -196,7 +207,8 @@ module _ {n held : ℕ} {ms ts cs hs hp ps : List ℕ} (window : List ℕ) (hn :
             let e : ltb 1024 (s % 65536 + s / 65536 % 65536) ≡ false = le-ltb 1024 (s % 65536 + s / 65536 % 65536) (slot .short) in
             rw (e, fill-is) refl
 
-        room-fits : (k ≤ length xs) × (s / 65536 % 65536 + k ≤ 1024) × (getD cs p 0 - counts (getD ms p 0) (getD hs p 0) + (s / 65536 % 65536 + k) ≤ 2 ^ 63)
+        room-fits : (k ≤ length xs) × (s / 65536 % 65536 + k ≤ 1024)
+            × (getD cs p 0 - counts (getD ms p 0) (getD hs p 0) + (s / 65536 % 65536 + k) ≤ 2 ^ 63)
         unfolding roomFor
         room-fits =
             let e : ltb 1024 (s % 65536 + s / 65536 % 65536) ≡ false = le-ltb 1024 (s % 65536 + s / 65536 % 65536) (slot .short) in
@@ -248,11 +260,13 @@ module _ {n held : ℕ} {ms ts cs hs hp ps : List ℕ} (window : List ℕ) (hn :
             (λ i u v. laid-other window p s xs k long below (slot .short) (room-fits .1) (room-fits .0) i (λ x y. d (omega (arith, o .short)))))
             refl)
 
-        kept-all : (q : ℕ) → getD (statusesOf n ms ts cs hs) q gone ≢ gone → keptAt after ms cs hs spans' q ≡ put p (grow p xs (F .kept p)) (F .kept) q
+        kept-all : (q : ℕ) → getD (statusesOf n ms ts cs hs) q gone ≢ gone
+            → keptAt after ms cs hs spans' q ≡ put p (grow p xs (F .kept p)) (F .kept) q
         unfolding feedOf
         kept-all q d =
             let h : q < n = not-there n ms ts cs hs q d in
-            let m : getD ms q 0 ≢ 0 = alive (getD ms q 0) (getD ts q 0) (getD cs q 0) (getD hs q 0) (rw (← status-at n ms ts cs hs q h) d) in
+            let m : getD ms q 0 ≢ 0 =
+            alive (getD ms q 0) (getD ts q 0) (getD cs q 0) (getD hs q 0) (rw (← status-at n ms ts cs hs q h) d) in
             let u = put-set ps p (65536 * (s / 65536 % 65536 + k)) (omega arith) in
             put-case (λ (y : Kept). keptAt after ms cs hs spans' q ≡ y) p (grow p xs (F .kept p)) (F .kept) q
             (λ e. ap (keptAt after ms cs hs spans') e

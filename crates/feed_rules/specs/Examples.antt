@@ -12,7 +12,7 @@ use Rattle.records_rules.specs.Machine as machine
 use Rattle.records_rules.specs.Examples.{short, out as whole}
 use Rattle.records_rules.specs.State.{padded}
 use Rattle.feed_rules.specs.Partial.{next⁺}
-use Rattle.feed_rules.specs.Windows.{Call, portion, word, call, Feed, knownIn, opened, answersTo, lastly, heard}
+use Rattle.feed_rules.specs.Windows.{Call, portion, word, call, knownIn, opened, answersTo, lastly, heard}
 
 -- a record's first 16 bytes of the whole length low + 256 * high, at the time t below 256
 unfoldable pub begun : ℕ → ℕ → ℕ → List ℕ

@@ -2,30 +2,32 @@
 -- bytes stand; so whatever the portions, the answers without "need more" are the whole streams'. Assumes nothing.
 use mathlib.Core.Path.{_≡_, refl, sym, ap, subst, _∙_}
 use mathlib.Core.Logic.{_≢_}
-use Prim.Native.Nat.{ℕ, zero, suc, _+_, _-_, _≤_, _<_}
+use Prim.Native.Nat.{ℕ, zero, suc, _+_, _-_, _<_}
 use native.Mathlib.Decide.{ℕ-discrete}
 use native.Mathlib.Omega.{arith}
 use mathlib.Core.Bool.{Bool, true, false, cond, _||_}
 use mathlib.Core.Option.{Option, none, some}
-use mathlib.Core.List.{List, [], _∷_}
+use mathlib.Core.List.{List, [], _∷_, _++_}
 use lib.ListN.{length, getD, set, take}
-use lib.Seq.{getD-set-same, getD-set-other}
+use lib.Seq.{getD-set-same, getD-set-other, slice}
 use lib.Dec.{eqb}
 use Rattle.theory.specs.Answer.{Answer, answer}
 use Rattle.leaves.specs.Frame.{Read, whole, ended, damaged}
-use Rattle.records_rules.specs.Machine.{Rec, rec, record-at, damage-at, Status, waiting, standing, gone, key, First, nobody, first, least}
+use Rattle.records_rules.specs.Machine.{Rec, rec, record-at, damage-at, Status, waiting, standing, gone, First, nobody, first, least}
 use Rattle.records_rules.specs.Machine.{says, end, done, again, afterRead, answersF, start}
 use Rattle.records_rules.specs.Machine as machine
 use Rattle.records_rules.specs.Least.{LeastOk, least-ok}
 use Rattle.records_rules.specs.Kept.{inside}
 use Rattle.records_rules.specs.Bytes.{bytesOf}
 use Rattle.records_rules.specs.State.{padded}
-use Rattle.feed_rules.specs.Partial.{Step⁺, moved, wants, found⁺, chosen⁺, stepAt⁺, step⁺, Turn⁺, replies, needs, onward⁺, nextF⁺, next⁺, rest⁺}
-use Rattle.feed_rules.specs.Windows.{Kept, knownIn, Feed, known, put, opened, isGone, closed, taking, grow, shut, addAnswer, addLeaves, endAnswer, endLeaves}
+use Rattle.feed_rules.specs.Partial.{Step⁺, moved, wants, found⁺, chosen⁺, stepAt⁺, step⁺, Turn⁺}
+use Rattle.feed_rules.specs.Partial.{replies, needs, onward⁺, nextF⁺, next⁺, rest⁺}
+use Rattle.feed_rules.specs.Windows.{Kept, knownIn, Feed, known, put, opened, isGone, closed}
+use Rattle.feed_rules.specs.Windows.{taking, grow, shut, addAnswer, addLeaves, endAnswer, endLeaves}
 use Rattle.feed_rules.specs.Windows.{counted, keptBy, turnIn, turnLeaves, nextLeaves, turnAnswer, nextAnswer, Alike}
-use Rattle.feed_rules.specs.Windows.{Call, portion, word, call, answerTo, leaves, answersTo, heard}
-use Rattle.feed_rules.specs.Portions.{Brought, portioned-are}
-use Rattle.feed_rules.specs.Spans.{feedOf, FeedSays}
+use Rattle.feed_rules.specs.Windows.{Call, portion, word, call, answerTo, leaves, answersTo, lastly, heard, Within}
+use Rattle.feed_rules.specs.Portions.{Covers, covers-step, call-within, opened-within, record-bytes, Brought, portioned-are}
+use Rattle.feed_rules.specs.Spans.{bytesIn, keptOf, feedOf, FeedSays}
 use Rattle.feed_rules.specs.Adding.{FeedAdds, FeedEnds, FeedOpened}
 use Rattle.feed_rules.specs.AddingLaws.{not-both}
 
@@ -67,7 +69,8 @@ module _ (k : ℕ → ℕ → Option Read) where
   chosen-alive ss p l (waiting t a) e =
       found-alive ss p a (λ z. let i : waiting t a ≡ gone = sym e ∙ z in let y : _≡_ {A = ℕ} 0 1 = cc in absurd (omega arith)) (k p a)
   chosen-alive ss p l (standing a r) e =
-      let h : getD ss p gone ≢ gone = λ z. let i : standing a r ≡ gone = sym e ∙ z in let y : _≡_ {A = ℕ} 0 1 = cc in absurd (omega arith) in
+      let h : getD ss p gone ≢ gone =
+      λ z. let i : standing a r ≡ gone = sym e ∙ z in let y : _≡_ {A = ℕ} 0 1 = cc in absurd (omega arith) in
       let w = waiting (r .time) (a + r .size) in (
         set-alive ss p w h,
         λ z. let i : w ≡ gone = sym (getD-set-same ss p w gone l) ∙ z in let y : _≡_ {A = ℕ} 0 1 = cc in absurd (omega arith),
@@ -93,7 +96,8 @@ module _ (k : ℕ → ℕ → Option Read) where
   turn-aliveF zero ss = λ q d. d
   turn-aliveF (suc f) ss = go (step⁺ k ss) (step-alive ss) (λ ss'. turn-aliveF f ss')
     where
-      go : (s : Step⁺) → StepAlive ss s → ((ss' : List Status) → TurnAlive ss' (nextF⁺ f k ss')) → TurnAlive ss (onward⁺ (λ l. nextF⁺ f k l) ss s)
+      go : (s : Step⁺) → StepAlive ss s → ((ss' : List Status) → TurnAlive ss' (nextF⁺ f k ss'))
+          → TurnAlive ss (onward⁺ (λ l. nextF⁺ f k l) ss s)
       go (wants p) z ih = λ q d. d
       go (moved (done x ss')) z ih = z
       go (moved (again ss')) z ih = later-alive ss ss' z (nextF⁺ f k ss') (ih ss')
@@ -129,7 +133,8 @@ module _ (k k' : ℕ → ℕ → Option Read) where
       same : step⁺ k ss ≡ step⁺ k' ss
       same = pick (least ss)
 
-      go : (s : Step⁺) → StepAlive ss s → ((ss' : List Status) → ((p a : ℕ) → Alive ss' p → k p a ≡ k' p a) → nextF⁺ f k ss' ≡ nextF⁺ f k' ss')
+      go : (s : Step⁺) → StepAlive ss s
+          → ((ss' : List Status) → ((p a : ℕ) → Alive ss' p → k p a ≡ k' p a) → nextF⁺ f k ss' ≡ nextF⁺ f k' ss')
           → onward⁺ (λ l. nextF⁺ f k l) ss s ≡ onward⁺ (λ l. nextF⁺ f k' l) ss s
       go (wants p) z ih = refl
       go (moved (done x ss')) z ih = refl
@@ -162,7 +167,8 @@ module _ (F G : Feed) (s : Alike F G) where
       record {
         statuses = ap rest⁺ same-turn;
         kept = λ q d.
-            let l : getD (G .statuses) q gone ≢ gone = rest-alive (known G) (G .statuses) (turnIn G) (turn-alive (known G) (G .statuses)) q d in
+            let l : getD (G .statuses) q gone ≢ gone =
+            rest-alive (known G) (G .statuses) (turnIn G) (turn-alive (known G) (G .statuses)) q d in
             ap (λ (r : Turn⁺). keptBy (counted q r) (getD (rest⁺ r) q gone) (F .kept q)) same-turn
             ∙ ap (keptBy (counted q (turnIn G)) (getD (rest⁺ (turnIn G)) q gone)) (s .kept q l);
       }
@@ -173,7 +179,8 @@ module _ (F G : Feed) (s : Alike F G) where
       ap (turnAnswer (nextLeaves F .kept)) same-turn
       ∙ go (turnIn G) (turn-alive (known G) (G .statuses)) (λ p d. same-next .kept p d) refl
     where
-      go : (r : Turn⁺) → TurnAlive (G .statuses) r → ((p : ℕ) → getD (nextLeaves G .statuses) p gone ≢ gone → nextLeaves F .kept p ≡ nextLeaves G .kept p)
+      go : (r : Turn⁺) → TurnAlive (G .statuses) r
+          → ((p : ℕ) → getD (nextLeaves G .statuses) p gone ≢ gone → nextLeaves F .kept p ≡ nextLeaves G .kept p)
           → turnIn G ≡ r → turnAnswer (nextLeaves F .kept) r ≡ turnAnswer (nextLeaves G .kept) r
       go (replies (says p (record-at a r)) ss) z k e =
           ap (λ (y : Kept). answer 0 (p ∷ a ∷ y .at ∷ r .size ∷ r .kind ∷ r .instrument ∷ r .time ∷ []))
@@ -194,7 +201,8 @@ module _ (F G : Feed) (s : Alike F G) where
   not-gone : (p : ℕ) → closed G p ≡ false → Alive (G .statuses) p
   not-gone p e z = not-both (sym (shut-gone G p z) ∙ e)
 
-  same-put : (p q : ℕ) (f : Kept → Kept) → closed G p ≡ false → Alive (G .statuses) q → put p (f (F .kept p)) (F .kept) q ≡ put p (f (G .kept p)) (G .kept) q
+  same-put : (p q : ℕ) (f : Kept → Kept) → closed G p ≡ false → Alive (G .statuses) q
+      → put p (f (F .kept p)) (F .kept) q ≡ put p (f (G .kept p)) (G .kept) q
   unfolding put
   same-put p q f e d =
       ap (λ (x : Kept). cond (eqb q p) (f x) (F .kept q)) (s .kept p (not-gone p e))
@@ -202,7 +210,8 @@ module _ (F G : Feed) (s : Alike F G) where
 
   same-add : (p : ℕ) (xs : List ℕ) → addAnswer F p xs ≡ addAnswer G p xs
   unfolding addAnswer
-  same-add p xs = ap (λ (b : Bool). cond b (answer 12 []) (answer 0 (taking (length xs) (F .kept p) ∷ []))) (same-closed p) ∙ go (closed G p) refl
+  same-add p xs = ap (λ (b : Bool). cond b (answer 12 []) (answer 0 (taking (length xs) (F .kept p) ∷ []))) (same-closed p)
+      ∙ go (closed G p) refl
     where
       go : (b : Bool) → closed G p ≡ b
           → cond b (answer 12 []) (answer 0 (taking (length xs) (F .kept p) ∷ [])) ≡ cond b (answer 12 []) (answer 0 (taking (length xs) (G .kept p) ∷ []))
@@ -305,7 +314,8 @@ feed-calls-are stop = refl
 feed-calls-are {n} {s} (more {s' = s'} {c = c} {x = x} {cs = cs} {xs = xs} told rest) =
     let z = call-answers n s c x s' told in
     ap (λ (y : Answer). y ∷ xs) (z .0)
-    ∙ ap (λ (ys : List Answer). answerTo (feedIn n s) c ∷ ys) (feed-calls-are rest ∙ equal-for-ever (feedIn n s') (leaves (feedIn n s) c) cs (z .1))
+    ∙ ap (λ (ys : List Answer). answerTo (feedIn n s) c ∷ ys) (feed-calls-are rest
+    ∙ equal-for-ever (feedIn n s') (leaves (feedIn n s) c) cs (z .1))
 
 -- THE THEOREM: an opening of n streams and then calls in any order. They are answered as on what is kept; and whatever the portions, the
 -- answers without "need more" are those of the whole streams, as many
@@ -316,3 +326,56 @@ pub opened-fed : {n : ℕ} {hints : List ℕ} {s : FeedLent} {cs : List Call} {x
     → heard (opened n hints) cs ≡ answersF (length (heard (opened n hints) cs)) (λ p. bytesOf (b p)) (start (padded n hints)))
 opened-fed {n} {hints} {s} {cs} o x =
     (feed-calls-are x ∙ equal-for-ever (feedIn n s) (opened n hints) cs (o .starts (s .window)), λ b h. portioned-are n hints cs b h)
+
+-- ---- a record's bytes in the window
+
+covers-lastly : (F : Feed) → Within (F .kept) (F .statuses) → (cs ds : List Call) (p : ℕ) (b : List ℕ) → Covers F (cs ++ ds) p b
+    → Covers (lastly F cs) ds p b × Within (lastly F cs .kept) (lastly F cs .statuses)
+unfolding lastly
+covers-lastly F w [] ds p b h = (h, w)
+covers-lastly F w (c ∷ cs) ds p b h = covers-lastly (leaves F c) (call-within F c w) cs ds p b (covers-step F w c (cs ++ ds) p b h)
+
+-- the state that calls after an opening have come to: it is kept by every further call (`call-answers`, `same-left`)
+abbrev pub After : (n : ℕ) (hints : List ℕ) → List Call → FeedLent → Type 0
+After n hints cs s = Alike (feedIn n s) (lastly (opened n hints) cs)
+
+pub after-opening : (n : ℕ) (hints : List ℕ) (s : FeedLent)
+    → FeedOpened n hints (s .marks) (s .times) (s .places) (s .heads) (s .heap) (s .spans) → After n hints [] s
+unfolding lastly
+after-opening n hints s o = o .starts (s .window)
+
+alike-trans : {F G H : Feed} → Alike F G → Alike G H → Alike F H
+alike-trans {F} {G} {H} x y =
+    record {
+      statuses = x .statuses ∙ y .statuses;
+      kept = λ p d. x .kept p (λ e. d (ap (λ (l : List Status). getD l p gone) (sym (y .statuses)) ∙ e)) ∙ y .kept p d;
+    }
+
+lastly-snoc : (F : Feed) (cs : List Call) (c : Call) → lastly F (cs ++ c ∷ []) ≡ leaves (lastly F cs) c
+unfolding lastly
+lastly-snoc F [] c = refl
+lastly-snoc F (d ∷ cs) c = lastly-snoc (leaves F d) cs c
+
+-- one call further
+pub after-call : (n : ℕ) (hints : List ℕ) (cs : List Call) (s : FeedLent) → After n hints cs s
+    → (c : Call) (x : Answer) (s' : FeedLent) → Calling n s c x s' → After n hints (cs ++ c ∷ []) s'
+after-call n hints cs s k c x s' told =
+    subst (λ (H : Feed). Alike (feedIn n s') H) (sym (lastly-snoc (opened n hints) cs c))
+    (alike-trans (call-answers n s c x s' told .1) (same-left (feedIn n s) (lastly (opened n hints) cs) k c))
+
+-- THE THEOREM: the bytes of the record that a call hands out stand in the window, at the index that comes with it, as in the stream
+pub window-record : (n : ℕ) (hints : List ℕ) (cs ds : List Call) (s : FeedLent) → After n hints cs s
+    → (x : Answer) (s' : FeedLent) → Calling n s call x s'
+    → (p : ℕ) (b : List ℕ) → Brought n hints (cs ++ call ∷ ds) p b
+    → (a : ℕ) (r : Rec) (ss : List Status) → turnIn (lastly (opened n hints) cs) ≡ replies (says p (record-at a r)) ss
+    → take (r .size) (bytesIn (s' .window) p (getD (s' .spans) p 0)) ≡ slice a (a + r .size) b
+unfolding nextLeaves turnLeaves feedOf keptOf opened leaves
+window-record n hints cs ds s k x s' told p b br a r ss e =
+    let O = opened n hints in
+    let F = lastly O cs in
+    let z = covers-lastly O (opened-within n hints) cs (call ∷ ds) p b (record { later = br .later; joined = br .joined; none-later = br .none-later }) in
+    let like : Alike (feedIn n s') (nextLeaves F) = alike-trans (call-answers n s call x s' told .1) (same-left (feedIn n s) F k call) in
+    let alive : TurnAlive (F .statuses) (replies (says p (record-at a r)) ss) = rw e at (turn-alive (known F) (F .statuses)) in
+    let there : getD (rest⁺ (turnIn F)) p gone ≢ gone = λ i. alive .1 (ap (λ (t : Turn⁺). getD (rest⁺ t) p gone) (sym e) ∙ i) in
+    ap (λ (y : Kept). take (r .size) (y .bytes)) (like .kept p there)
+    ∙ record-bytes F (z .1) ds p b (z .0) a r ss e

@@ -11,10 +11,11 @@ use lib.Dec.{T, ltb}
 use mir.Facts.{ltb-yes, ltb-no}
 use Rattle.theory.specs.Fields.{field}
 use Rattle.leaves.specs.Frame.{Read, damaged, recordAt, frameAt}
-use Rattle.records_rules.specs.Machine.{Stream, Status, waiting, gone, first, least}
-use Rattle.records_rules.specs.Machine.{Answer, says, end, done, again, Turn, turn, next, answer, rest, answersF, upTo, untilEnd, runF, start}
+use Rattle.records_rules.specs.Machine.{Stream, Status, waiting, gone, first}
+use Rattle.records_rules.specs.Machine.{Answer, says, end, done, again, Turn, turn, next}
+use Rattle.records_rules.specs.Machine.{answer, rest, answersF, upTo, untilEnd, runF, start}
 use Rattle.records_rules.specs.Least.{cond-case, LeastOk, least-ok}
-use Rattle.records_rules.specs.Kept.{waits, waits-le}
+use Rattle.records_rules.specs.Kept.{waits}
 use Rattle.records_rules.specs.Bytes.{bytesOf}
 use Rattle.records_rules.specs.Whole.{Ends, allFrom, all-step, run, run-all}
 use Rattle.feed_rules.specs.Partial.{Part, soFar, knownAt, Step⁺, moved, wants, step⁺, Turn⁺, replies, needs, onward⁺, nextF⁺, next⁺}
@@ -174,7 +175,8 @@ unfolding runF untilEnd upTo answersF answer rest
 run-whole zero b ss h = absurd h
 run-whole (suc f) b ss h = go (next b ss) h (λ ss' z. run-whole f b ss' z) ∙ sym (all-step b ss)
   where
-    go : (r : Turn) → Ends (upTo (answer r) (runF f b (rest r))) → ((ss' : List Status) → Ends (runF f b ss') → runF f b ss' ≡ allFrom b ss')
+    go : (r : Turn) → Ends (upTo (answer r) (runF f b (rest r)))
+        → ((ss' : List Status) → Ends (runF f b ss') → runF f b ss' ≡ allFrom b ss')
         → upTo (answer r) (runF f b (rest r)) ≡ upTo (answer r) (allFrom b (rest r))
     go (turn (says p y) ss') z ih = ap (λ (l : List Answer). says p y ∷ l) (ih ss' z)
     go (turn end ss') z ih = refl

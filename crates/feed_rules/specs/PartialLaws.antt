@@ -4,10 +4,10 @@ use mathlib.Core.Path.{_≡_, refl, sym, ap, _∙_}
 use Prim.Native.Nat.{ℕ, zero, suc, _+_, _-_, _≤_, _<_}
 use native.Mathlib.Decide.{ℕ-discrete}
 use native.Mathlib.Omega.{arith}
-use mathlib.Core.Bool.{Bool, true, false, not, cond, _||_}
+use mathlib.Core.Bool.{Bool, true, false, not, _||_}
 use mathlib.Core.Option.{Option, none, some}
-use mathlib.Core.List.{List, [], _∷_, _++_}
-use lib.ListN.{length, getD, set, length-append, length-set, List·getD-append}
+use mathlib.Core.List.{List, _∷_, _++_}
+use lib.ListN.{length, getD, set, length-append, List·getD-append}
 use lib.Seq.{getD-set-same, getD-set-other}
 use lib.Dec.{T, ltb}
 use mir.Facts.{ltb-yes, ltb-no}
@@ -21,7 +21,8 @@ use Rattle.records_rules.specs.Machine.{Turn, turn, onward, nextF, next, answer
 use Rattle.records_rules.specs.Least.{cond-case, IsFirst, LeastOk, least-ok, least-is, least-none}
 use Rattle.records_rules.specs.Kept.{inside, unread, waits, waits-le, waits-less}
 use Rattle.records_rules.specs.Rules.{next-again}
-use Rattle.feed_rules.specs.Partial.{soFar, Step⁺, moved, wants, found⁺, chosen⁺, stepAt⁺, step⁺, Turn⁺, replies, needs, onward⁺, nextF⁺, next⁺}
+use Rattle.feed_rules.specs.Partial.{soFar, Step⁺, moved, wants, found⁺, chosen⁺, stepAt⁺, step⁺}
+use Rattle.feed_rules.specs.Partial.{Turn⁺, replies, needs, onward⁺, nextF⁺, next⁺}
 use Rattle.feed_rules.specs.Partial.{Knows, Heard, stop, reply, need, all, lifted, Wants}
 
 -- ---- it is the machine on the streams that will have come
@@ -199,7 +200,8 @@ module _ (k : ℕ → ℕ → Option Read) (ss : List Status) (p t a : ℕ) (f :
     where
       go : (q h c : ℕ) → Dec (q ≡ p) → getD (set ss p s) q gone ≡ waiting h c → getD ss q gone ≡ waiting h c
       go q h c (yes d) e =
-          let i : s ≡ waiting h c = sym (getD-set-same ss p s gone (inside ss p t (f .has))) ∙ ap (λ (x : ℕ). getD (set ss p s) x gone) (sym d) ∙ e in
+          let i : s ≡ waiting h c =
+          sym (getD-set-same ss p s gone (inside ss p t (f .has))) ∙ ap (λ (x : ℕ). getD (set ss p s) x gone) (sym d) ∙ e in
           absurd (omega (arith, u, ap unread i))
       go q h c (no d) e = sym (getD-set-other ss p q s gone d) ∙ e
 

@@ -2,30 +2,30 @@
 -- whole streams, and the bytes of a record are the stream's. Assumes nothing.
 use mathlib.Core.Path.{_≡_, refl, sym, ap, subst, _∙_}
 use mathlib.Core.Logic.{_≢_}
-use Prim.Native.Nat.{ℕ, zero, suc, _+_, _-_, _≤_, _<_}
+use Prim.Native.Nat.{ℕ, zero, suc, _+_, _-_, _≤_}
 use native.Mathlib.Nat.{zero-add, suc-add}
 use native.Mathlib.Omega.{arith}
 use mathlib.Core.Bool.{Bool, true, false, cond, _||_}
 use mathlib.Core.List.{List, [], _∷_, _++_, append-nil, append-assoc}
-use lib.ListN.{length, getD, take, drop, length-append}
+use lib.ListN.{length, getD, take, drop}
 use lib.Seq.{slice, take-nil, take-append-le, drop-append-le, drop-drop}
-use lib.Dec.{T, eqb}
+use lib.Dec.{eqb}
 use mir.Facts.{eqb-yes}
-use borrow.Author.Tests.{eq-eqb, ne-eqb}
-use Rattle.leaves.specs.Frame.{Read, frameAt}
-use Rattle.records_rules.specs.Machine.{Stream, record-at, Status, waiting, standing, gone, says, answersF, start}
+use borrow.Author.Tests.{eq-eqb}
+use Rattle.records_rules.specs.Machine.{record-at, Status, waiting, standing, gone, says, answersF, start}
 use Rattle.records_rules.specs.Machine as machine
 use Rattle.records_rules.specs.Least.{cond-case}
 use Rattle.records_rules.specs.Bytes.{bytesOf}
 use Rattle.records_rules.specs.Whole.{Ends, run}
 use Rattle.records_rules.specs.State.{padded}
-use Rattle.feed_rules.specs.Partial.{part, knownAt, Turn⁺, replies, needs, rest⁺, Knows, Heard, stop, reply, need}
+use Rattle.feed_rules.specs.Partial.{part, Turn⁺, replies, needs, rest⁺, Knows, Heard, stop, reply, need}
 use Rattle.feed_rules.specs.PartialLaws.{heard-are}
 use Rattle.feed_rules.specs.Needs.{Begins, known-part, heard-run}
 use Rattle.feed_rules.specs.Windows.{Kept, from, Feed, known, put, opened, isGone, closed, taking, grow, shut, addLeaves, endLeaves}
 use Rattle.feed_rules.specs.Windows.{counted, keptBy, turnIn, turnLeaves, nextLeaves, In, Within}
 use Rattle.feed_rules.specs.Windows.{Call, portion, word, call, leaves, lastly, told, heardAt, heard, tookAt, taken}
-use Rattle.feed_rules.specs.WindowsLaws.{frame-drop, known-base, put-case, TurnIn, turn-in, Counts, counted-in, kept-in, next-within, add-within, end-within}
+use Rattle.feed_rules.specs.WindowsLaws.{frame-drop, known-base, put-case, TurnIn, turn-in, Counts}
+use Rattle.feed_rules.specs.WindowsLaws.{counted-in, next-within, add-within, end-within}
 
 -- ---- a stream that has been ended takes no more
 
@@ -206,7 +206,7 @@ heard-heard F (call ∷ cs) b w h =
 
 -- ---- from an opening on
 
-opened-within : (n : ℕ) (hints : List ℕ) → Within (opened n hints .kept) (opened n hints .statuses)
+pub opened-within : (n : ℕ) (hints : List ℕ) → Within (opened n hints .kept) (opened n hints .statuses)
 unfolding opened start
 opened-within n hints p = go (padded n hints) p
   where

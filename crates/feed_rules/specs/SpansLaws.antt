@@ -6,14 +6,14 @@ use native.Mathlib.Omega.{arith}
 use mathlib.Core.Bool.{Bool, true, false, not, cond, _&&_, _||_}
 use mathlib.Core.Option.{Option, none, some}
 use mathlib.Core.List.{List}
-use lib.ListN.{length, getD, take, drop, length-take, length-drop}
+use lib.ListN.{length, take, drop}
 use lib.Seq.{slice, drop-drop}
 use lib.Dec.{T, eqb, ltb}
-use mir.Facts.{ltb-yes, ltb-no, eqb-yes, eqb-no}
+use mir.Facts.{ltb-yes, eqb-yes}
 use borrow.Author.Tests.{lt-ltb, le-ltb, eq-eqb, ne-eqb, eqb-true}
 use Rattle.theory.specs.Fields.{field}
 use Rattle.leaves.specs.Frame.{Read, whole, ended, damaged, judged, recordAt, frameAt}
-use Rattle.leaves.specs.FrameLaws.{found-ended, found-damaged, found-whole}
+use Rattle.leaves.specs.FrameLaws.{found-whole}
 use Rattle.records_rules.specs.Least.{cond-case}
 use Rattle.records_rules.specs.State.{arraysFit, gotOf}
 use Rattle.records_rules.specs.Opening.{arrays-room}
@@ -71,7 +71,8 @@ from-from x c a h k =
     kept-one (omega arith) refl (drop-drop (a - c) (c - x .base) (x .bytes) ∙ ap (λ (n : ℕ). drop n (x .bytes)) e) refl
 
 -- the span without the bytes that count, at the place itself
-pub kept-dropped : (window : List ℕ) (p place head s mark' head' : ℕ) → head % 65536 ≤ s / 65536 % 65536 → s % 65536 + s / 65536 % 65536 ≤ 1024
+pub kept-dropped : (window : List ℕ) (p place head s mark' head' : ℕ) → head % 65536 ≤ s / 65536 % 65536
+    → s % 65536 + s / 65536 % 65536 ≤ 1024
     → head % 65536 ≤ place → counts mark' head' ≡ 0
     → keptOf window p mark' place head' (dropped s (head % 65536)) ≡ from place (keptOf window p 1 place head s)
 unfolding keptOf counts from

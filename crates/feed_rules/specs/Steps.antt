@@ -15,17 +15,16 @@ use borrow.Author.Tests.{eq-eqb, ne-eqb}
 use Rattle.theory.specs.Answer.{Answer, answer}
 use Rattle.leaves.specs.Frame.{Read, whole, ended, damaged}
 use Rattle.leaves.specs.FrameLaws.{found-ended, found-damaged, found-whole}
-use Rattle.records_rules.specs.Machine.{Rec, says, end, record-at, damage-at, Status, waiting, standing, gone, key}
-use Rattle.records_rules.specs.Least.{IsFirst}
+use Rattle.records_rules.specs.Machine.{Rec, says, end, record-at, damage-at, Status, waiting, standing, gone}
 use Rattle.records_rules.specs.View.{recIn, statusOf, statusesOf, statuses-set, status-at, length-statuses}
 use Rattle.records_rules.specs.Heap.{at}
-use Rattle.records_rules.specs.State.{gotOf, Small, StateOk}
-use Rattle.records_rules.specs.StateLaws.{small-set}
+use Rattle.records_rules.specs.State.{gotOf}
 use Rattle.records_rules.specs.Holds.{Chosen, ok-chosen, ok-none, holds-moved, holds-kind, holds-drop, but-drop, but-key}
 use Rattle.records_rules.specs.Sift.{Sifted}
 use Rattle.feed_rules.specs.Partial.{part, knownAt, Turn⁺, replies, needs, next⁺, rest⁺}
 use Rattle.feed_rules.specs.PartialLaws.{rule-end⁺, rule-record⁺, rule-wants⁺, rule-ended⁺, rule-damaged⁺, rule-whole⁺}
-use Rattle.feed_rules.specs.Windows.{Kept, knownIn, from, Feed, known, counted, keptBy, turnIn, turnLeaves, nextLeaves, turnAnswer, nextAnswer, Alike}
+use Rattle.feed_rules.specs.Windows.{Kept, knownIn, from, Feed, known, counted, keptBy}
+use Rattle.feed_rules.specs.Windows.{turnIn, turnLeaves, nextLeaves, turnAnswer, nextAnswer, Alike}
 use Rattle.feed_rules.specs.WindowsLaws.{known-from, known-here, known-fits}
 use Rattle.feed_rules.specs.Spans.{dropped, counts, bytesIn, keptOf, feedOf, gotKnown, handedOut, SlotOk, FeedOk, FeedRoom, FeedSays}
 use Rattle.feed_rules.specs.SpansLaws.{drop-start, drop-fill, drop-ended, kept-dropped, kept-one, from-from}
@@ -53,7 +52,8 @@ slots-put {ms} {cs} {hs} {ps} {ms'} {cs'} {hs'} {ps'} {p} {m} {c} {h} {s} Q a b 
     go (yes i) = rw (i, a .here, b .here, d .here, e .here) new
     go (no i) = rw (a .there q i, b .there q i, d .there q i, e .there q i) (old q i)
 
-unused-put : (n : ℕ) (ms ms' : List ℕ) (p m : ℕ) → p < n → Put ms ms' p m → ((q : ℕ) → n ≤ q → getD ms q 0 ≡ 0) → (q : ℕ) → n ≤ q → getD ms' q 0 ≡ 0
+unused-put : (n : ℕ) (ms ms' : List ℕ) (p m : ℕ) → p < n → Put ms ms' p m → ((q : ℕ) → n ≤ q → getD ms q 0 ≡ 0) → (q : ℕ) → n ≤ q
+    → getD ms' q 0 ≡ 0
 unused-put n ms ms' p m h u k q l = u .there q (λ e. omega arith) ∙ k q l
 
 module _ (n : ℕ) (ms ts cs hs : List ℕ) (p : ℕ) where
@@ -294,9 +294,11 @@ module _ (k t l : ℕ) (d : k ≢ 5) where
   got-whole h = got-some ∙ ap some (found-whole k (whole (l % 65536) (l / 65536 % 65536) (l / 4294967296) t) h)
 
 -- what a return has to show
-abbrev pub Done⁺ : (window : List ℕ) (held : ℕ) (ms₀ ts₀ cs₀ hs₀ hp₀ ps₀ : List ℕ) (x : Answer) (size : ℕ) (ms ts cs hs hp ps : List ℕ) → Type 0
+abbrev pub Done⁺ : (window : List ℕ) (held : ℕ) (ms₀ ts₀ cs₀ hs₀ hp₀ ps₀ : List ℕ) (x : Answer) (size : ℕ) (ms ts cs hs hp ps : List ℕ)
+    → Type 0
 Done⁺ window held ms₀ ts₀ cs₀ hs₀ hp₀ ps₀ x size ms ts cs hs hp ps =
-    (size ≤ held) × ((n : ℕ) → n ≤ 256 → FeedOk n held ms₀ ts₀ cs₀ hs₀ hp₀ ps₀ → FeedSays n window ms₀ ts₀ cs₀ hs₀ ps₀ x size ms ts cs hs hp ps)
+    (size ≤ held) × ((n : ℕ) → n ≤ 256 → FeedOk n held ms₀ ts₀ cs₀ hs₀ hp₀ ps₀
+    → FeedSays n window ms₀ ts₀ cs₀ hs₀ ps₀ x size ms ts cs hs hp ps)
 
 module _ {window : List ℕ} {held : ℕ} {ms₀ ts₀ cs₀ hs₀ hp₀ ps₀ : List ℕ} {size : ℕ} {ms ts cs hs hp ps : List ℕ}
     (g : Going⁺ window held ms₀ ts₀ cs₀ hs₀ hp₀ ps₀ size ms ts cs hs hp ps) (room : FeedRoom held ms₀ ts₀ cs₀ hs₀ hp₀ ps₀) where
@@ -405,11 +407,13 @@ module _ {window : List ℕ} {held : ℕ} {ms₀ ts₀ cs₀ hs₀ hp₀ ps₀ :
             };
             slots = slots-put (λ q m c h z. q < n → m ≢ 0 → SlotOk m c h z) u₁ u₂ u₃ u₄ (λ q i. ok .slots q)
                 (λ i j. slot-handed (getD ms p 0) b (getD hs p 0) s d sl);
-            lone = slots-put (λ q m c h z. q < n → m ≡ 1 → q ≢ at hp 0 → h % 65536 ≡ 0) u₁ u₂ u₃ u₄ (λ q i. ok .lone q) (λ l m i. absurd (i e));
+            lone = slots-put (λ q m c h z. q < n → m ≡ 1 → q ≢ at hp 0
+                → h % 65536 ≡ 0) u₁ u₂ u₃ u₄ (λ q i. ok .lone q) (λ l m i. absurd (i e));
             unused = unused-put n ms (set ms p 1) p 1 r u₁ (ok .unused);
           })
           (λ al. ap (λ (y : Kept). answer 0 (p ∷ b ∷ y .at ∷ sz ∷ (getD hs p 0 / 65536 % 65536) ∷ (getD hs p 0 / 4294967296) ∷ getD ts p 0 ∷ []))
-          (al .kept p (λ i. let z : waiting (getD ts p 0) (b + sz) ≡ gone = sym stored ∙ i in let y : _≡_ {A = ℕ} 0 1 = cc in absurd (omega arith))))),
+          (al .kept p (λ i. let z : waiting (getD ts p 0) (b + sz) ≡ gone = sym stored
+          ∙ i in let y : _≡_ {A = ℕ} 0 1 = cc in absurd (omega arith))))),
     )
 
     module _ (w : getD ms p 0 ≡ 1) (k t l : ℕ)
@@ -455,7 +459,8 @@ module _ {window : List ℕ} {held : ℕ} {ms₀ ts₀ cs₀ hs₀ hp₀ ps₀ :
             let y : Kept = keptOf window p 1 (getD cs p 0) 0 less in
             let same : kn p (getD cs p 0) ≡ knownIn y (getD cs p 0) =
             known-later (later-fresh 1 0 (counts-zero 1)) (getD cs p 0) (omega arith) in
-            let f = known-fits y (getD cs p 0) (l % 65536) (l / 65536 % 65536) (l / 4294967296) t (sym same ∙ reads ∙ got-whole k t l d h) in
+            let f = known-fits y (getD cs p 0) (l % 65536) (l / 65536 % 65536) (l / 4294967296) t (sym same ∙ reads
+            ∙ got-whole k t l d h) in
             let b : y .base ≤ getD cs p 0 = omega arith in
             let from₀ : ℕ = 1024 * p + less % 65536 in
             let size₀ : ℕ = less / 65536 % 65536 in
@@ -486,7 +491,8 @@ module _ {window : List ℕ} {held : ℕ} {ms₀ ts₀ cs₀ hs₀ hp₀ ps₀ :
             (sym (head-set n ms ts cs hs p r hk' ht' hc' hl' 0 w))
             (slots-put (λ q m c h z. q < n → m ≢ 0 → Later (keptAt window ms₀ cs₀ hs₀ ps₀ q) (keptOf window q m c h z)) u₁ u₂ u₃ u₄
             (λ q i. x .kept q) (λ i j. later-fresh n hn x (getD ms p 0) 0 (counts-zero (getD ms p 0))))
-            (slots-put (λ q m c h z. q < n → m ≡ 1 → h % 65536 ≡ 0) u₁ u₂ u₃ u₄ (λ q i l m. ok .lone q l m (λ z. i (z ∙ sym e))) (λ i j. refl))
+            (slots-put (λ q m c h z. q < n → m ≡ 1
+            → h % 65536 ≡ 0) u₁ u₂ u₃ u₄ (λ q i l m. ok .lone q l m (λ z. i (z ∙ sym e))) (λ i j. refl))
             (record {
               state = record {
                 small = slots-put (λ q m c h z. q < n → c + h % 65536 < 2 ^ 64) u₁ u₂ u₃ u₄ (λ q i. ok .state .small q)
@@ -522,13 +528,16 @@ module _ {window : List ℕ} {held : ℕ} {ms₀ ts₀ cs₀ hs₀ hp₀ ps₀ :
                 unused = unused-put n ms (set ms p 0) p 0 (root n hn ok) u₁ (ok .unused);
               }
             where
-              alone : (n : ℕ) → n ≤ 256 → FeedOk n size ms ts cs hs hp ps → (q : ℕ) → q < n → getD (set ms p 0) q 0 ≡ 1 → getD hs q 0 % 65536 ≡ 0
+              alone : (n : ℕ) → n ≤ 256 → FeedOk n size ms ts cs hs hp ps → (q : ℕ) → q < n → getD (set ms p 0) q 0 ≡ 1
+                  → getD hs q 0 % 65536 ≡ 0
               alone n hn ok =
-                  slots-put (λ q m c h z. q < n → m ≡ 1 → h % 65536 ≡ 0) (put-set ms p 0 (omega (arith, hk, root n hn ok))) (put-none cs p) (put-none hs p) (put-none ps p)
+                  slots-put (λ q m c h z. q < n → m ≡ 1
+                  → h % 65536 ≡ 0) (put-set ms p 0 (omega (arith, hk, root n hn ok))) (put-none cs p) (put-none hs p) (put-none ps p)
                   (λ q i l m. ok .lone q l m (λ z. i (z ∙ sym e))) (λ i j. absurd (omega arith))
 
           kept-closed : (n : ℕ) → n ≤ 256 → Keeps⁺ n window ms₀ ts₀ cs₀ hs₀ ps₀ size ms ts cs hs hp ps
-              → (q : ℕ) → q < n → getD (set ms p 0) q 0 ≢ 0 → Later (keptAt window ms₀ cs₀ hs₀ ps₀ q) (keptAt window (set ms p 0) cs hs ps q)
+              → (q : ℕ) → q < n → getD (set ms p 0) q 0 ≢ 0
+              → Later (keptAt window ms₀ cs₀ hs₀ ps₀ q) (keptAt window (set ms p 0) cs hs ps q)
           kept-closed n hn x =
               slots-put (λ q m c h z. q < n → m ≢ 0 → Later (keptAt window ms₀ cs₀ hs₀ ps₀ q) (keptOf window q m c h z))
               (put-set ms p 0 (omega (arith, hk, root n hn (x .sound)))) (put-none cs p) (put-none hs p) (put-none ps p) (λ q i. x .kept q) (λ i j. absurd (j refl))
@@ -583,7 +592,8 @@ module _ {window : List ℕ} {held : ℕ} {ms₀ ts₀ cs₀ hs₀ hp₀ ps₀ :
                 ∙ rule-damaged⁺ kn (statusesOf n ms ts cs hs) (fst .0) p (fst .1) (getD ts p 0) (getD cs p 0) k (waits-at n ms ts cs hs p r hk' ht' hc' hl' w) (reads n hn x ∙ got-damaged k t l known d h))
                 (sym (gone-set n ms ts cs hs p r hk' ht' hc' hl'))
                 (kept-closed n hn x)
-                (slots-put (λ q m c h z. q < n → m ≡ 1 → h % 65536 ≡ 0) (put-set ms p 0 (omega arith)) (put-none cs p) (put-none hs p) (put-none ps p)
+                (slots-put (λ q m c h z. q < n → m ≡ 1
+                → h % 65536 ≡ 0) (put-set ms p 0 (omega arith)) (put-none cs p) (put-none hs p) (put-none ps p)
                 (λ q i l m. ok .lone q l m (λ z. i (z ∙ sym e))) (λ i j. absurd (omega arith)))
                 (closed n hn ok)
                 (λ al. refl),
@@ -616,9 +626,11 @@ module _ {window : List ℕ} {held : ℕ} {ms₀ ts₀ cs₀ hs₀ hp₀ ps₀ :
                   let u₄ = put-set ps p less (omega (arith, hs')) in
                   let fst = ch n hn ok .some r cs hs in
                   let c₀ : counts 2 l ≡ 0 = counts-none 2 l (λ i. omega arith) in
-                  let read : kn p (getD cs p 0) ≡ some (whole (l % 65536) (l / 65536 % 65536) (l / 4294967296) t) = reads n hn x ∙ got-whole k t l known h in
+                  let read : kn p (getD cs p 0) ≡ some (whole (l % 65536) (l / 65536 % 65536) (l / 4294967296) t) = reads n hn x
+                  ∙ got-whole k t l known h in
                   let fill : l % 65536 ≤ less / 65536 % 65536 = whole-fits n hn x known h in
-                  let sl : SlotOk 2 (getD cs p 0) l less = slot-dropped 2 (getD cs p 0) (getD hs p 0) l (getD ps p 0) (slot₁ n hn x) c₀ fill in
+                  let sl : SlotOk 2 (getD cs p 0) l less =
+                  slot-dropped 2 (getD cs p 0) (getD hs p 0) l (getD ps p 0) (slot₁ n hn x) c₀ fill in
                   record {
                     sound = record {
                       state = record {
@@ -637,7 +649,8 @@ module _ {window : List ℕ} {held : ℕ} {ms₀ ts₀ cs₀ hs₀ hp₀ ps₀ :
                     same = ap (next⁺ kn) (stand-set n ms ts cs hs p r hk' ht' hc' hl' t l)
                         ∙ sym (rule-whole⁺ kn (statusesOf n ms ts cs hs) (fst .0) p (fst .1) (getD ts p 0) (getD cs p 0) (l % 65536) (l / 65536 % 65536) (l / 4294967296) t (waits-at n ms ts cs hs p r hk' ht' hc' hl' w) read)
                         ∙ x .same;
-                    kept = slots-put (λ q m c h z. q < n → m ≢ 0 → Later (keptAt window ms₀ cs₀ hs₀ ps₀ q) (keptOf window q m c h z)) u₁ u₂ u₃ u₄
+                    kept = slots-put (λ q m c h z. q < n → m ≢ 0
+                        → Later (keptAt window ms₀ cs₀ hs₀ ps₀ q) (keptOf window q m c h z)) u₁ u₂ u₃ u₄
                         (λ q i. x .kept q) (λ i j. later-fresh n hn x 2 l c₀);
                   };
             }

@@ -2,28 +2,28 @@
 -- places within what is kept; whoever is asked for more has room. Assumes nothing.
 use mathlib.Core.Path.{_≡_, refl, sym, ap, _∙_}
 use mathlib.Core.Logic.{_≢_}
-use Prim.Native.Nat.{ℕ, zero, suc, _+_, _-_, _≤_, _<_, _^_, min}
+use Prim.Native.Nat.{ℕ, zero, suc, _+_, _-_, _≤_, _<_, _^_}
 use native.Mathlib.Decide.{ℕ-discrete}
 use native.Mathlib.Omega.{arith}
-use mathlib.Core.Bool.{Bool, true, false, not, cond, _||_}
+use mathlib.Core.Bool.{Bool, true, false, cond}
 use mathlib.Core.Option.{Option, none, some}
-use mathlib.Core.List.{List, [], _∷_, _++_, append-nil}
+use mathlib.Core.List.{List, [], append-nil}
 use lib.ListN.{length, getD, set, take, drop, length-append, length-drop}
 use lib.Seq.{getD-set-same, getD-set-other}
-use lib.Dec.{T, ltb, eqb}
+use lib.Dec.{ltb, eqb}
 use mir.Facts.{ltb-no, eqb-yes, eqb-no}
-use borrow.Author.Tests.{le-ltb, eq-eqb, ne-eqb}
+use borrow.Author.Tests.{le-ltb}
 use Rattle.theory.specs.Fields.{field, field-drop}
-use Rattle.leaves.specs.Frame.{Read, whole, ended, damaged, judged, recordAt, frameAt}
-use Rattle.records_rules.specs.Machine.{Rec, rec, Fits, record-at, damage-at, Status, waiting, standing, gone, key, First, nobody, first, least}
-use Rattle.records_rules.specs.Machine.{says, end, Step, done, again, afterRead}
+use Rattle.leaves.specs.Frame.{Read, whole, ended, damaged, recordAt, frameAt}
+use Rattle.records_rules.specs.Machine.{rec, Fits, record-at, damage-at, Status, waiting, standing, gone, First, nobody, first, least}
+use Rattle.records_rules.specs.Machine.{says, end, done, again, afterRead}
 use Rattle.records_rules.specs.Machine as machine
-use Rattle.records_rules.specs.Least.{cond-case, IsFirst, LeastOk, least-ok}
+use Rattle.records_rules.specs.Least.{cond-case, LeastOk, least-ok}
 use Rattle.records_rules.specs.Kept.{inside}
 use Rattle.records_rules.specs.Bytes.{frame-fits}
-use Rattle.feed_rules.specs.Partial.{Part, part, soFar, knownAt, Step⁺, moved, wants, found⁺, chosen⁺, stepAt⁺, step⁺}
+use Rattle.feed_rules.specs.Partial.{Part, part, knownAt, Step⁺, moved, wants, found⁺, chosen⁺, stepAt⁺, step⁺}
 use Rattle.feed_rules.specs.Partial.{Turn⁺, replies, needs, onward⁺, nextF⁺, next⁺, rest⁺, Wants}
-use Rattle.feed_rules.specs.Needs.{Begins, known-part, known-over, needs-only, never-needs, unknown}
+use Rattle.feed_rules.specs.Needs.{known-part, known-over, needs-only, never-needs, unknown}
 use Rattle.feed_rules.specs.Windows.{Kept, knownIn, from, Feed, known, put, closed, taking, grow, shut, addLeaves, endLeaves}
 use Rattle.feed_rules.specs.Windows.{isGone, counted, keptBy, turnIn, turnLeaves, nextLeaves, In, Within}
 
@@ -54,7 +54,8 @@ unfolding knownIn from
 known-from x a c h k =
     let e : c - x .base - (a - x .base) ≡ c - a = omega arith in
     let d : knownAt (part (drop (a - x .base) (x .bytes)) (x .over)) (c - a) ≡ knownAt (part (x .bytes) (x .over)) (c - x .base) =
-    ap (knownAt (part (drop (a - x .base) (x .bytes)) (x .over))) (sym e) ∙ known-drop (x .bytes) (a - x .base) (c - x .base) (omega arith) (x .over) in
+    ap (knownAt (part (drop (a - x .base) (x .bytes)) (x .over))) (sym e)
+    ∙ known-drop (x .bytes) (a - x .base) (c - x .base) (omega arith) (x .over) in
     let y : ltb c a ≡ false = le-ltb c a k in
     let z : ltb c (x .base) ≡ false = le-ltb c (x .base) (omega arith) in
     rw (y, z) d
@@ -87,7 +88,8 @@ known-base x a r = cond-case P (ltb a (x .base)) none (knownAt (part (x .bytes) 
 pub known-fits : (x : Kept) (a l κ ι t : ℕ) → knownIn x a ≡ some (whole l κ ι t) → (x .base ≤ a) × (a + l ≤ x .base + length (x .bytes))
 known-fits x a l κ ι t e =
     let k = known-base x a (whole l κ ι t) e in
-    let f : frameAt (x .bytes) (a - x .base) ≡ whole l κ ι t = known-frame (part (x .bytes) (x .over)) (a - x .base) (whole l κ ι t) (k .1) in
+    let f : frameAt (x .bytes) (a - x .base) ≡ whole l κ ι t =
+    known-frame (part (x .bytes) (x .over)) (a - x .base) (whole l κ ι t) (k .1) in
     let z : Fits (length (x .bytes)) (a - x .base) (whole l κ ι t) = rw f at (frame-fits (x .bytes) (a - x .base)) in
     let b : x .base ≤ a = k .0 in
     let c : a - x .base + l ≤ length (x .bytes) = z .1 in
@@ -224,7 +226,8 @@ next-within F w q =
     let r = turnIn F in
     kept-in (counted q r) (F .kept q) (getD (rest⁺ r) q gone) (counted-in (F .kept) r (turn-in (F .kept) (F .statuses) w) q)
 
-pub add-within : (F : Feed) (p : ℕ) (xs : List ℕ) → Within (F .kept) (F .statuses) → Within (addLeaves F p xs .kept) (addLeaves F p xs .statuses)
+pub add-within : (F : Feed) (p : ℕ) (xs : List ℕ) → Within (F .kept) (F .statuses)
+    → Within (addLeaves F p xs .kept) (addLeaves F p xs .statuses)
 unfolding addLeaves grow
 add-within F p xs w =
     cond-case (λ (G : Feed). Within (G .kept) (G .statuses)) (closed F p) F _ (λ c. w)
@@ -261,7 +264,8 @@ needs-kept F w p ss' e =
     let z : TurnIn (F .kept) (needs p ss') = rw e at (turn-in (F .kept) (F .statuses) w) in
     let n : Wants (known F) ss' p = needs-only (known F) (F .statuses) ss' p e .1 in
     let i : In (F .kept p) (waiting (n .time) (n .place)) = rw (n .waits) at (z p) in
-    let u = unknown (part (F .kept p .bytes) (F .kept p .over)) (n .place - F .kept p .base) (sym (in-known (F .kept p) (n .place) (i .0)) ∙ n .unknown) in
+    let u = unknown (part (F .kept p .bytes) (F .kept p .over)) (n .place - F .kept p .base) (sym (in-known (F .kept p) (n .place) (i .0))
+    ∙ n .unknown) in
     rw e (needs-left F ss' p (n .time) (n .place) (n .waits) (i .0) (u .0) (u .1))
 
 -- so below 2^63 a portion that is not empty is taken from
@@ -270,7 +274,8 @@ unfolding taking
 takes-some size x h k l = omega arith
 
 -- every stream that waits has been ended: nothing more is needed
-pub ended-kept : (F : Feed) → Within (F .kept) (F .statuses) → ((p t a : ℕ) → getD (F .statuses) p gone ≡ waiting t a → F .kept p .over ≡ true)
+pub ended-kept : (F : Feed) → Within (F .kept) (F .statuses)
+    → ((p t a : ℕ) → getD (F .statuses) p gone ≡ waiting t a → F .kept p .over ≡ true)
     → (p : ℕ) (ss' : List Status) → turnIn F ≡ needs p ss' → ⊥
 ended-kept F w h = never-needs (known F) (F .statuses) go
   where

@@ -1,8 +1,8 @@
 // Answers as lines.
 use feed::opening::FeedOpening;
-use feed::portions::Added;
-use feed::portions::Ended;
 use feed::turns::Fed;
+use feed_window::portions::Added;
+use feed_window::portions::Ended;
 use leaves::refusal::Refusal;
 
 fn print_number(n: u64) {

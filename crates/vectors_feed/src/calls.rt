@@ -1,9 +1,9 @@
 // The calls that lines hold, on memory that is lent.
 use crate::answers;
 use feed::opening::open;
-use feed::portions::add;
-use feed::portions::end;
 use feed::turns::next;
+use feed_window::portions::add;
+use feed_window::portions::end;
 ghost use mathlib.Core.Path.{_≡_};
 ghost use Prim.Native.Nat.{_≤_};
 ghost use lib.ListN.{length};
@@ -231,6 +231,42 @@ fn short_line(window: &mut [u8]) {
     answers::print_short(opening, added, ended, fed);
 }
 
+// Runs a line that asks for nothing of the heap.
+fn feed_line(
+    text: &[u8],
+    kind: u8,
+    at: usize,
+    marks: &[u8],
+    places: &mut [u64],
+    heads: &[u64],
+    spans: &mut [u64],
+    window: &mut [u8],
+) {
+    if kind == b'a' {
+        add_line(text, at, marks, places, heads, spans, window);
+        return;
+    }
+    if kind == b'e' {
+        end_line(text, at, marks, spans);
+        return;
+    }
+    if kind == b'l' {
+        lay_line(text, at, places);
+        return;
+    }
+    if kind == b'x' {
+        short_line(window);
+        return;
+    }
+    if kind == b'w' {
+        let stream = vectors_text::number_at(text, at);
+        print_at(spans, stream.value);
+    }
+    if kind == b'=' {
+        print_line(text, at);
+    }
+}
+
 // Runs the call that a line holds, and answers how many streams the heap holds after it.
 fn run_line(
     text: &[u8],
@@ -246,38 +282,16 @@ fn run_line(
 ) -> usize {
     let kind = vectors_text::byte_at(text, at);
     let rest = vectors_text::past(text, at);
+    if kind == b'h' {
+        answers::print_word(b"held", held as u64);
+    }
     if kind == b'o' {
         return open_line(text, rest, held, marks, times, places, heads, heap, spans);
     }
     if kind == b'n' {
         return next_line(held, marks, times, places, heads, heap, spans, window);
     }
-    if kind == b'a' {
-        add_line(text, rest, marks, places, heads, spans, window);
-        return held;
-    }
-    if kind == b'e' {
-        end_line(text, rest, marks, spans);
-        return held;
-    }
-    if kind == b'l' {
-        lay_line(text, rest, places);
-        return held;
-    }
-    if kind == b'x' {
-        short_line(window);
-        return held;
-    }
-    if kind == b'w' {
-        let stream = vectors_text::number_at(text, rest);
-        print_at(spans, stream.value);
-    }
-    if kind == b'h' {
-        answers::print_word(b"held", held as u64);
-    }
-    if kind == b'=' {
-        print_line(text, rest);
-    }
+    feed_line(text, kind, rest, marks, places, heads, spans, window);
     held
 }
 

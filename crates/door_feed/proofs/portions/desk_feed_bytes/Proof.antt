@@ -1,6 +1,6 @@
 -- Each arm of the match is what its case says. Assumes nothing.
 use mathlib.Core.Path.{refl}
-use Rattle.feed.specs.Answers.{addedOf}
+use Rattle.feed_window.specs.Answers.{addedOf}
 use Rattle.door_answers.specs.Answers.{numberIn, valueIn}
 use Rattle.door_answers.specs.AnswersLaws.{answer-same, done-number, done-value, not-number, not-value}
 use borrow.Author.Needs.{needs}

@@ -1,6 +1,6 @@
 -- Each arm of the match is what its case says. Assumes nothing.
 use mathlib.Core.Path.{refl}
-use Rattle.feed.specs.Answers.{endedOf}
+use Rattle.feed_window.specs.Answers.{endedOf}
 use Rattle.door_answers.specs.Answers.{numberIn}
 use Rattle.door_answers.specs.AnswersLaws.{answer-same, done-number, not-number}
 use borrow.Author.Needs.{needs}
