@@ -11,7 +11,7 @@ static void is(int holds, const char *what, int line); /* test.c's */
 /* ---- A call on a stack of its own, below which nothing may be written. */
 
 enum { GUARD = 16384 };
-static uint8_t stack[GUARD + DESK_MERGE_STACK] __attribute__((aligned(16)));
+static uint8_t stack[GUARD + DESK_METADATA_ADD_STACK] __attribute__((aligned(16)));
 static uint8_t *guard; /* below the stack that was lent last */
 void *stack_top;       /* for on_stack, as the next one */
 void (*stack_call)(void);
@@ -198,7 +198,7 @@ static uint32_t open_by_metadata(uint64_t *header, size_t header_len, uint32_t *
                                   mappings_len, intervals, intervals_len);
     desk_metadata m = metadata_of(header, symbols, symbols_len, partial, partial_len, not_found, not_found_len, mappings,
                                   mappings_len, intervals, intervals_len);
-    uint32_t number = ASK(DESK_OPEN_STACK, desk_metadata_begin, &m);
+    uint32_t number = ASK(DESK_METADATA_BEGIN_STACK, desk_metadata_begin, &m);
     memcpy(header, m.header, sizeof m.header);
     return number;
 }
@@ -220,7 +220,7 @@ static uint32_t merge_by_metadata(size_t names, uint64_t *header, size_t header_
     desk_metadata a = metadata_of(added, added_symbols, added_symbols_len, added_partial, added_partial_len, added_not_found,
                                   added_not_found_len, added_mappings, added_mappings_len, added_intervals, added_intervals_len);
     desk_names list = {NULL, 0, NULL, 0, names, 0};
-    uint32_t number = ASK(DESK_MERGE_STACK, desk_metadata_add, &m, &a, &list, field);
+    uint32_t number = ASK(DESK_METADATA_ADD_STACK, desk_metadata_add, &m, &a, &list, field);
     memcpy(header, m.header, sizeof m.header);
     return number;
 }

@@ -12,13 +12,13 @@
  * a refused build leaves an empty table, 6 sets its field and 13 its damage, and 13 from desk_merge_next moves the merge on.
  *
  * What a program owes, since none of it can be seen from inside:
- *   - lent memory is as long as the length beside it says; NULL with length 0 is fine. Results that are not wanted may be NULL, and
- *     nothing else may;
+ *   - lent memory is as long as the length beside it says; NULL with length 0 is fine. A result that is not wanted may be NULL, and
+ *     no other argument may;
  *   - lent memory is aligned for its type (bytes anywhere, words of 32 bits by 4, of 64 bits by 8);
  *   - no argument of a call overlaps another that the call may write;
  *   - no other thread writes what a call is handed, or reads what it may write. Calls on different memory may run at once;
- *   - DESK_STACK bytes of stack are free (4 KB), for desk_metadata_begin DESK_OPEN_STACK (1 MB), for desk_metadata_add DESK_MERGE_STACK
- *     (5 MB). A memcpy that is bound at its first call needs the loader's stack besides.
+ *   - so many bytes of stack are free: DESK_STACK (4 KB); for desk_metadata_begin DESK_METADATA_BEGIN_STACK (1 MB), for
+ *     desk_metadata_add DESK_METADATA_ADD_STACK (5 MB). A memcpy that is bound at its first call needs the loader's stack besides.
  *
  * An instrument, a symbol and a date (YYYYMMDD) have 32 bits, a moment 64: nanoseconds since the start of 1970-01-01. A symbol is a
  * name's number. An interval holds its start and not its end. Lengths are in elements.
@@ -34,6 +34,9 @@
 #define DESK_VERSION_MAJOR 0
 #define DESK_VERSION_MINOR 1
 #define DESK_VERSION_PATCH 0
+
+#define DESK_METADATA_BEGIN_STACK DESK_OPEN_STACK /* the stack that desk_metadata_begin needs, in bytes */
+#define DESK_METADATA_ADD_STACK DESK_MERGE_STACK  /* the stack that desk_metadata_add needs */
 
 #define DESK_TEXT_OF_(n) #n
 #define DESK_TEXT_(n) DESK_TEXT_OF_(n)
@@ -320,7 +323,9 @@ static inline uint32_t desk_table_record(desk_table *table, desk_names *names, c
                           desk_read_(record, &nothing), record_len, reason != NULL ? reason : &unwanted);
 }
 
-/* The table of a metadata, whatever the table held. 0; 15, 14 for the name list, 9, then the first fault met: 3, 8, 11, 1, 2.
+/* The table of a metadata, whatever the table held. Where stype_out is instrument ID, a mapping's name is the symbol, and the symbol of
+ * each of its intervals is a name that says the instrument's number ("5001"); else where stype_in is, the other way round; else 9. An
+ * interval whose symbol is empty is skipped. 0; 15, 14 for the name list, 9, then the first fault met: 3, 8, 11, 1, 2.
  * After 0: the table holds the outcome, and 0 in every place that is not in use. After any other answer: the table is empty, 0 in every
  * place. Metadata and list are as before after any answer. */
 static inline uint32_t desk_table_build(desk_table *table, const desk_metadata *metadata, const desk_names *names) {
@@ -408,8 +413,9 @@ static inline uint32_t desk_point_table_record(desk_point_table *table, desk_nam
                                 &names->name_bytes, desk_read_(record, &nothing), record_len, reason != NULL ? reason : &unwanted);
 }
 
-/* The table of a metadata for a date, whatever the table held. 0; 15, 14 for the name list, 11 for the date, 9, 10, then the first fault
- * met: 11, 3, 8, 2.
+/* The table of a metadata for a date (YYYYMMDD), whatever the table held; names and numbers as desk_table_build has them. Of each mapping
+ * the first interval with the date in it counts. 0; 15, 14 for the name list, 11 for the date, 9, 10, then the first fault met: 11, 3, 8,
+ * 2.
  * After 0: the table holds the outcome, and 0 in every place that is not in use. After any other answer: the table is empty, 0 in every
  * place. Metadata and list are as before after any answer. */
 static inline uint32_t desk_point_table_build(desk_point_table *table, const desk_metadata *metadata, const desk_names *names,
@@ -458,7 +464,7 @@ static inline uint32_t desk_text_check(const char *text, size_t text_len) {
 /* ---- Metadata: the first begins a gathered one, the others are added, and it is ended. */
 
 /* The first metadata loses its repeats: equal entries of a set once, and of two mappings with one name the last, at the place of the
- * first. It takes DESK_OPEN_STACK bytes of stack. 0, 15.
+ * first. It takes DESK_METADATA_BEGIN_STACK bytes of stack. 0, 15.
  * After 0: the lists hold what is left, and the header's numbers in use count it. After 15: all as before. */
 static inline uint32_t desk_metadata_begin(desk_metadata *metadata) {
     uint64_t nothing = 0;
@@ -469,8 +475,9 @@ static inline uint32_t desk_metadata_begin(desk_metadata *metadata) {
                               desk_words_(metadata->intervals, &nothing), desk_count_(metadata->intervals_len, DESK_INTERVAL_WORDS));
 }
 
-/* One more metadata into the gathered one, which needs room for the outcome. It takes DESK_MERGE_STACK bytes of stack. 0; 15, 6, 11, 3,
- * 1, 7, 2.
+/* One more metadata into the gathered one, which needs room for the outcome. Sets and mappings keep the order of first arrival, the
+ * intervals of one name are merged, start is the lesser, end the greater, an unequal schema becomes none, limit none. It takes
+ * DESK_METADATA_ADD_STACK bytes of stack. 0; 15, 6, 11, 3, 1, 7, 2.
  * After 0: the gathered one's header and lists are the outcome. After 6: *field is the first field that differs (enum desk_field), all
  * else as before. After any other answer: all as before. The added one is as before after any answer. */
 static inline uint32_t desk_metadata_add(desk_metadata *gathered, const desk_metadata *added, const desk_names *names, uint32_t *field) {
@@ -504,7 +511,9 @@ static inline uint32_t desk_metadata_hint(const desk_metadata *metadata, uint64_
     return desk_hint_of(metadata->header, DESK_HEADER_WORDS, hint != NULL ? hint : &unwanted);
 }
 
-/* ---- Merging records. */
+/* ---- Merging records. A record is its whole length (2 bytes, 16 to 1,024), kind (2), instrument (4) and time (8), all little-endian, then
+ * its body. That of a symbol mapping (kind DESK_SYMBOL_MAPPING) is start (8), end (8), each DESK_MISSING where there is none, and the
+ * name. The merge looks at no body. */
 
 /* Opens the streams, which stand in one buffer one after another: stream p from cuts[p] to before cuts[p + 1], so that there is one cut
  * more than streams, the first is 0, the last the buffer's length. A stream is first chosen by its hint; with no hints (NULL, 0) all are
