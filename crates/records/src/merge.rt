@@ -144,7 +144,7 @@ pub fn damaged(stream: usize, place: u64, reason: u64) -> Turn
 
 // A call, on arrays that have the room: the heap's root is read where it waits, and handed out where it stands. It is safe and
 // ends whatever the arrays hold.
-fn turns(
+pub fn turns(
     buffer: &[u8],
     cuts: &[u64],
     held: usize,

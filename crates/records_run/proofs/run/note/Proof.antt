@@ -1,0 +1,47 @@
+-- Each answer of the code that is the machine's is noted as that answer. Assumes nothing.
+use mathlib.Core.Path.{sym, ap, _∙_}
+use Rattle.records.specs.Merge.{turnOf}
+use Rattle.records_run.specs.Running.{note-record, note-end, note-refused}
+use borrow.Author.Needs.{needs}
+use Rattle.records_run.proofs.run.note.Statement.{statement}
+use Rattle.records_run.proofs.run.note.Tie as tie
+
+enum-known-answer : tie.Need-enum-known-answer
+enum-known-answer c = search needs
+
+put-row-requires : tie.Need-put-row-requires
+put-row-requires c κs = search needs
+
+enum-told : tie.Need-enum-told
+enum-told c = search needs
+
+enum-known-answer-2 : tie.Need-enum-known-answer-2
+enum-known-answer-2 c = search needs
+
+same-length : tie.Need-same-length
+same-length c = search needs
+
+returns : tie.Need-returns
+returns c = λ x e.
+    note-record _ _ x _ _ _ _ _ _ _ (ap turnOf (sym (c .before .before .before .before .before .answer .given .1)) ∙ e) (c .before .before .put-row .ensures)
+
+returns-2 : tie.Need-returns-2
+returns-2 c = λ x e. note-end _ _ x (ap turnOf (sym (c .enum-told .given .1)) ∙ e)
+
+returns-3 : tie.Need-returns-3
+returns-3 c = λ x e.
+    let a = c .before .answer2 .given in
+    note-refused _ _ x (a .0 .0) (ap turnOf (sym (a .1)) ∙ e)
+
+pub note-spec : {M : Type 1} → statement M
+note-spec =
+    tie.close
+    (tie.spec
+    enum-known-answer
+    put-row-requires
+    enum-told
+    enum-known-answer-2
+    same-length
+    returns
+    returns-2
+    returns-3)

@@ -1,0 +1,260 @@
+// Many calls of the record merge at once (RULES, Requests, No. 14): a run makes at most the allowed calls and writes stream, place and
+// time of each record to a lent list, three words a record, from its front. It stops after the end, after damage, before a call where
+// the list is full, and when the allowance is used. What is lent is judged once for the run.
+use leaves::refusal::Refusal;
+use records::merge::Turn;
+use records::merge::turns;
+use records::state::arrays_fit;
+ghost use mathlib.Core.Path.{_≡_};
+ghost use mathlib.Core.Bool.{true, false};
+ghost use Prim.Native.Nat.{ℕ, _+_, _*_, _≤_, _<_, min};
+ghost use lib.ListN.{length};
+ghost use Rattle.records_rules.specs.Machine as machine;
+ghost use Rattle.records_rules.specs.Bytes.{streamsOf};
+ghost use Rattle.records_rules.specs.State.{answerOf, arraysFit, Room, StateOk};
+ghost use Rattle.records.specs.Merge.{turnOf};
+ghost use Rattle.records_run.specs.Run.{runFits, most, lastOf, RunRefused, RunSays};
+ghost use Rattle.records_run.specs.Running.{row, Noted, Told};
+
+// The most calls that a run may be allowed.
+pub const CALLS: usize = 4096;
+
+// The words of a record in a run's list: stream, place, time.
+pub const WORDS: usize = 3;
+
+// How a run stopped: a further call may be made; the end; or a refusal, damage being 13.
+pub enum Last {
+    Going,
+    End,
+    Refused(Refusal),
+}
+
+// A run: the calls that were made, the records that were written, how many streams the heap holds, and how it stopped.
+pub struct Made {
+    pub calls: usize,
+    pub written: usize,
+    pub held: usize,
+    pub last: Last,
+}
+
+// One call of a run is noted: whether the run goes on, and how it stopped where not.
+struct NotedDown {
+    more: bool,
+    last: Last,
+}
+
+// One call of a run was made: the streams that are held after it, whether the run goes on, and how it stopped where not.
+struct Stepped {
+    held: usize,
+    more: bool,
+    last: Last,
+}
+
+// Writes a record's row of the list.
+fn put_row(list: &mut [u64], at: usize, stream: u64, place: u64, time: u64)
+    requires { ⌜ 3 * at + 3 ≤ length (now list) ⌝ }
+    ensures { λ r. ⌜ now (list .exit) ≡ row (now (list .entry)) at stream place time ⌝ }
+{
+    list[WORDS * at] = stream;
+    list[WORDS * at + 1] = place;
+    list[WORDS * at + 2] = time;
+}
+
+// Notes a call's answer.
+fn note(answer: Turn, list: &mut [u64], at: usize) -> NotedDown
+    requires { ⌜ 3 * at + 3 ≤ length (now list) ⌝ }
+    ensures { λ r. ⌜ ((x : machine.Answer) → turnOf answer ≡ answerOf x → Noted (now (list .entry)) at x (r .more) (lastOf (r .last)) (now (list .exit))) ⌝ }
+{
+    match answer {
+        Turn::Record {
+            stream,
+            place,
+            length: _,
+            kind: _,
+            instrument: _,
+            time,
+        } => {
+            put_row(list, at, stream, place, time);
+            let going = Last::Going;
+            NotedDown {
+                more: true,
+                last: going,
+            }
+        }
+        Turn::End => {
+            let end = Last::End;
+            NotedDown {
+                more: false,
+                last: end,
+            }
+        }
+        Turn::Refused(refusal) => {
+            let refused = Last::Refused(refusal);
+            NotedDown {
+                more: false,
+                last: refused,
+            }
+        }
+    }
+}
+
+// Calls the merge once, and notes its answer.
+fn step(
+    buffer: &[u8],
+    cuts: &[u64],
+    held: usize,
+    marks: &mut [u8],
+    times: &mut [u64],
+    places: &mut [u64],
+    heads: &mut [u64],
+    heap: &mut [u8],
+    list: &mut [u64],
+    at: usize,
+) -> Stepped
+    requires { ⌜ Room held (now marks) (now times) (now places) (now heads) (now heap) × (3 * at + 3 ≤ length (now list)) ⌝ }
+    ensures { λ r. ⌜ (r .held ≤ held) × ((n : ℕ) → n ≤ 256 → StateOk n held (now (marks .entry)) (now (times .entry)) (now (places .entry)) (now (heads .entry)) (now (heap .entry))
+        → Told (streamsOf (now (buffer .entry)) (now (cuts .entry))) n (now (marks .entry)) (now (times .entry)) (now (places .entry)) (now (heads .entry)) (now (list .entry)) at
+        (r .held) (r .more) (lastOf (r .last)) (now (marks .exit)) (now (times .exit)) (now (places .exit)) (now (heads .exit)) (now (heap .exit)) (now (list .exit))) ⌝ }
+{
+    let turned = turns(buffer, cuts, held, marks, times, places, heads, heap);
+    let answer = turned.answer;
+    let noted = note(answer, list, at);
+    let last = noted.last;
+    Stepped {
+        held: turned.held,
+        more: noted.more,
+        last,
+    }
+}
+
+// A run of at most so many calls, on memory that is right and a list that has the room.
+fn steps(
+    buffer: &[u8],
+    cuts: &[u64],
+    held: usize,
+    marks: &mut [u8],
+    times: &mut [u64],
+    places: &mut [u64],
+    heads: &mut [u64],
+    heap: &mut [u8],
+    list: &mut [u64],
+    limit: usize,
+) -> Made
+    requires { ⌜ Room held (now marks) (now times) (now places) (now heads) (now heap) × (3 * limit ≤ length (now list)) ⌝ }
+    ensures { λ r. ⌜ (r .held ≤ held) × ((n : ℕ) → n ≤ 256 → StateOk n held (now (marks .entry)) (now (times .entry)) (now (places .entry)) (now (heads .entry)) (now (heap .entry))
+        → RunSays (streamsOf (now (buffer .entry)) (now (cuts .entry))) n limit (now (marks .entry)) (now (times .entry)) (now (places .entry)) (now (heads .entry)) (now (list .entry))
+        (r .calls) (r .written) (r .held) (lastOf (r .last)) (now (marks .exit)) (now (times .exit)) (now (places .exit)) (now (heads .exit)) (now (heap .exit)) (now (list .exit))) ⌝ }
+{
+    let mut size = held;
+    let mut calls = 0;
+    while calls < limit {
+        let stepped = step(
+            buffer,
+            cuts,
+            size,
+            marks,
+            times,
+            places,
+            heads,
+            heap,
+            list,
+            calls,
+        );
+        size = stepped.held;
+        if !stepped.more {
+            let last = stepped.last;
+            return Made {
+                calls: calls + 1,
+                written: calls,
+                held: size,
+                last,
+            };
+        }
+        calls = calls + 1;
+    }
+    let going = Last::Going;
+    Made {
+        calls,
+        written: calls,
+        held: size,
+        last: going,
+    }
+}
+
+// Whether what is lent to a run fits: the arrays, an allowance of at most 4,096, a list of whole rows; where not, 15.
+fn run_fits(arrays: bool, allowance: usize, words: usize) -> bool
+    ensures { λ r. ⌜ r ≡ runFits arrays allowance words ⌝ }
+{
+    if !arrays {
+        return false;
+    }
+    if CALLS < allowance {
+        return false;
+    }
+    words % WORDS == 0
+}
+
+// The most calls that a run makes: no more than allowed, and none where the list is full.
+fn limit_of(allowance: usize, words: usize) -> usize
+    ensures { λ r. ⌜ r ≡ most allowance words ⌝ }
+{
+    let rows = words / WORDS;
+    if allowance < rows {
+        return allowance;
+    }
+    rows
+}
+
+// At most `allowance` calls of `next`, on the buffer and the cuts of the opening. 15 leaves everything as it was; 13 keeps what the
+// calls before it did.
+pub fn run(
+    buffer: &[u8],
+    cuts: &[u64],
+    held: usize,
+    marks: &mut [u8],
+    times: &mut [u64],
+    places: &mut [u64],
+    heads: &mut [u64],
+    heap: &mut [u8],
+    allowance: usize,
+    list: &mut [u64],
+) -> Made
+    ensures { λ r. ⌜ (runFits (arraysFit held (length (now (marks .entry))) (length (now (times .entry))) (length (now (places .entry))) (length (now (heads .entry))) (length (now (heap .entry)))) allowance (length (now (list .entry))) ≡ false
+        → RunRefused (now (marks .entry)) (now (times .entry)) (now (places .entry)) (now (heads .entry)) (now (heap .entry)) (now (list .entry)) held
+        (r .calls) (r .written) (r .held) (lastOf (r .last)) (now (marks .exit)) (now (times .exit)) (now (places .exit)) (now (heads .exit)) (now (heap .exit)) (now (list .exit))) ⌝ }
+    ensures { λ r. ⌜ (runFits (arraysFit held (length (now (marks .entry))) (length (now (times .entry))) (length (now (places .entry))) (length (now (heads .entry))) (length (now (heap .entry)))) allowance (length (now (list .entry))) ≡ true
+        → (n : ℕ) → n ≤ 256 → StateOk n held (now (marks .entry)) (now (times .entry)) (now (places .entry)) (now (heads .entry)) (now (heap .entry))
+        → RunSays (streamsOf (now (buffer .entry)) (now (cuts .entry))) n (most allowance (length (now (list .entry)))) (now (marks .entry)) (now (times .entry)) (now (places .entry)) (now (heads .entry)) (now (list .entry))
+        (r .calls) (r .written) (r .held) (lastOf (r .last)) (now (marks .exit)) (now (times .exit)) (now (places .exit)) (now (heads .exit)) (now (heap .exit)) (now (list .exit))) ⌝ }
+{
+    let arrays = arrays_fit(
+        held,
+        marks.len(),
+        times.len(),
+        places.len(),
+        heads.len(),
+        heap.len(),
+    );
+    if !run_fits(arrays, allowance, list.len()) {
+        let refusal = Last::Refused(Refusal::BadMemory);
+        return Made {
+            calls: 0,
+            written: 0,
+            held,
+            last: refusal,
+        };
+    }
+    let limit = limit_of(allowance, list.len());
+    steps(
+        buffer,
+        cuts,
+        held,
+        marks,
+        times,
+        places,
+        heads,
+        heap,
+        list,
+        limit,
+    )
+}
