@@ -1,5 +1,5 @@
-# Sourced by .ci/run, desk/run, oracle/differential, oracle/selftest and bench/run, from the repository's root: the door's archive, and
-# C programs over it.
+# Sourced by .ci/run, desk/build, desk/run, oracle/differential, oracle/selftest and bench/run, from the repository's root: the door's
+# archive, and C programs over it.
 #
 # DESK_CC says how a C program is built. `cc`: by the machine's own compiler for x86-64, which on another machine is Debian's
 # x86_64-linux-gnu-gcc. `kit`: by the kit's clang and linker with the headers of desk/bare, which needs no package. Without it: cc
