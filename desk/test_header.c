@@ -241,6 +241,10 @@ static void test_unwanted(void) {
         IS(record.found == 0 && record.bytes == NULL && before.held == 0 && merge.held == 1);
         IS_NUMBER(DESK_BAD_STREAMS, desk_merge_open(&merge, streams, 35, cuts, 2, NULL, 0));
         IS(merge.held == 1 && merge.cuts_len == 3 && merge.buffer == streams); /* refused: as before */
+        memset(merge.marks, 0, sizeof merge.marks); /* a state that no opening made: no cut of such a stream is read */
+        merge.marks[200] = 2, merge.heap[0] = 200, merge.held = 1;
+        DONE(desk_merge_next(&merge, &record, NULL));
+        IS(record.found == 1 && record.stream == 200 && record.bytes == NULL);
     }
 }
 
