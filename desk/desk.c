@@ -42,10 +42,9 @@ static void print_date(uint64_t moment) {
 }
 
 static void print_name(uint32_t symbol) {
-    const char *name;
-    size_t len;
-    expect(desk_names_get(&names, symbol, &name, &len), "desk_names_get");
-    printf("%.*s", (int)len, name);
+    desk_name name;
+    expect(desk_names_get(&names, symbol, &name), "desk_names_get");
+    printf("%.*s", (int)name.len, name.text);
 }
 
 static void print_table(const char *title) {

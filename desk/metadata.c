@@ -47,10 +47,9 @@ static desk_metadata query(uint32_t from, uint32_t to, desk_mapping *mappings, s
 }
 
 static void print_symbol(const char *what, uint32_t symbol) {
-    const char *text = "no symbol";
-    size_t len = strlen(text);
-    if (symbol != DESK_NOTHING) expect(desk_names_get(&names, symbol, &text, &len), "desk_names_get");
-    printf("%s: %.*s\n", what, (int)len, text);
+    desk_name text = {"no symbol", 9};
+    if (symbol != DESK_NOTHING) expect(desk_names_get(&names, symbol, &text), "desk_names_get");
+    printf("%s: %.*s\n", what, (int)text.len, text.text);
 }
 
 int main(void) {

@@ -58,8 +58,7 @@ int main(void) {
     expect(desk_merge_open(&merge, buffer, size, cuts, streams + 1, NULL, 0), "desk_merge_open");
     for (;;) {
         uint32_t number = desk_merge_next(&merge, &record, &damage), symbol;
-        const char *name = "-";
-        size_t len = 1;
+        desk_name name = {"-", 1};
         if (number == DESK_DAMAGED) {
             printf("stream %u is damaged at %u: %s\n", (unsigned)damage.stream, (unsigned)damage.place, desk_reason_text(damage.reason));
             continue;
@@ -68,9 +67,9 @@ int main(void) {
         if (!record.found) break;
         expect(desk_table_record(&table, &names, record.bytes, record.length, NULL), "desk_table_record");
         expect(desk_table_get(&table, record.instrument, record.time, NULL, &symbol), "desk_table_get");
-        if (symbol != DESK_NOTHING) expect(desk_names_get(&names, symbol, &name, &len), "desk_names_get");
+        if (symbol != DESK_NOTHING) expect(desk_names_get(&names, symbol, &name), "desk_names_get");
         printf("%u  stream %u  %s of %u  %.*s\n", (unsigned)record.time, (unsigned)record.stream,
-               record.kind == DESK_SYMBOL_MAPPING ? "mapping" : "trade  ", (unsigned)record.instrument, (int)len, name);
+               record.kind == DESK_SYMBOL_MAPPING ? "mapping" : "trade  ", (unsigned)record.instrument, (int)name.len, name.text);
     }
     printf("end\n");
     return 0;

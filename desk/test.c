@@ -1122,7 +1122,7 @@ static void after_get_for_ts(void) {
 /* An explanation beside a lookup with a hint of 9: a symbol exactly where it is in an interval, and the new hint. */
 static void explained_as_looked(size_t used, uint32_t instrument, uint64_t moment) {
     uint64_t hint = 9;
-    uint32_t found, symbol;
+    uint32_t found = 77, symbol = 77;
     DONE(explain(used, instrument, moment));
     DONE(desk_get_for_ts(d.table, whole, used, instrument, moment, &hint, &found, &symbol));
     IS((found == 1) == (d.told == DESK_IN) && (found == 0 || symbol == d.symbol));

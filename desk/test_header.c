@@ -70,13 +70,12 @@ static void test_nulls(void) {
     desk_damage damage = {7, 7, 7};
     uint32_t symbol = 7, value = 7;
     uint64_t cursor = 7, reason = 7, hint = 7;
-    const char *name = "as before";
-    size_t name_len = 7;
+    desk_name name = {"as before", 9};
 
     DONE(desk_names_check(&names));
     IS_NUMBER(DESK_NO_NAME_ROOM, desk_names_add(&names, NULL, 0, &symbol));
-    IS_NUMBER(DESK_UNKNOWN_SYMBOL, desk_names_get(&names, 0, &name, &name_len));
-    IS(symbol == 7 && strcmp(name, "as before") == 0 && name_len == 7);
+    IS_NUMBER(DESK_UNKNOWN_SYMBOL, desk_names_get(&names, 0, &name));
+    IS(symbol == 7 && strcmp(name.text, "as before") == 0 && name.len == 9);
     DONE(desk_table_check(&table, &names));
     DONE(desk_table_insert(&table, &names, 1, 5, 5, 0));
     IS_NUMBER(DESK_UNKNOWN_SYMBOL, desk_table_insert(&table, &names, 1, 5, 6, 0));
@@ -157,14 +156,20 @@ static void test_unwanted(void) {
     static const uint64_t cuts[] = {0, 19, 35};
     uint32_t symbol = 7;
     uint64_t moment = 7;
-    const char *name;
-    size_t name_len;
+    desk_name name;
 
     begin_names(&names);
-    DONE(desk_names_get(&names, 2, NULL, NULL));
-    DONE(desk_names_get(&names, 2, &name, NULL));
-    DONE(desk_names_get(&names, 2, NULL, &name_len));
-    IS(name_len == 2 && memcmp(name, "ES", 2) == 0 && name == (const char *)bytes + 1);
+    DONE(desk_names_get(&names, 2, NULL));
+    DONE(desk_names_get(&names, 2, &name));
+    IS(name.len == 2 && memcmp(name.text, "ES", 2) == 0 && name.text == (const char *)bytes + 1);
+    DONE(desk_names_get(&names, 0, &name));
+    IS(name.len == 0);
+    {
+        uint32_t one_end[1] = {0};
+        desk_names empty = {NULL, 0, one_end, 1, 1, 0}; /* one name, without a byte */
+        DONE(desk_names_get(&empty, 0, &name));
+        IS(name.len == 0 && name.text != NULL);
+    }
 
     DONE(desk_table_insert(&table, &names, 9, 10, 20, 2));
     DONE(desk_table_insert(&table, &names, 9, 20, UINT64_MAX, 3));
@@ -236,6 +241,10 @@ static void test_unwanted(void) {
         IS(record.found == 0 && record.bytes == NULL && before.held == 0 && merge.held == 1);
         IS_NUMBER(DESK_BAD_STREAMS, desk_merge_open(&merge, streams, 35, cuts, 2, NULL, 0));
         IS(merge.held == 1 && merge.cuts_len == 3 && merge.buffer == streams); /* refused: as before */
+        memset(merge.marks, 0, sizeof merge.marks); /* a state that no opening made: no cut of such a stream is read */
+        merge.marks[200] = 2, merge.heap[0] = 200, merge.held = 1;
+        DONE(desk_merge_next(&merge, &record, NULL));
+        IS(record.found == 1 && record.stream == 200 && record.bytes == NULL);
     }
 }
 

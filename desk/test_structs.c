@@ -144,12 +144,12 @@ static uint32_t number_by_names(uint8_t *bytes, size_t bytes_len, uint32_t *ends
 static uint32_t place_by_names(const uint8_t *bytes, size_t bytes_len, const uint32_t *ends, size_t ends_len, size_t names,
                                size_t name_bytes, uint32_t symbol, size_t *first, size_t *end) {
     desk_names list = {(uint8_t *)bytes, bytes_len, (uint32_t *)ends, ends_len, names, name_bytes};
-    const char *before = "", *text = before;
-    size_t len = 77;
-    uint32_t number = ASK(DESK_STACK, desk_names_get, &list, symbol, &text, &len);
-    if (number == DESK_DONE || text != before || len != 77) {
-        *first = (size_t)((const uint8_t *)text - bytes);
-        *end = *first + len;
+    const char *before = "";
+    desk_name name = {before, 77};
+    uint32_t number = ASK(DESK_STACK, desk_names_get, &list, symbol, &name);
+    if (number == DESK_DONE || name.text != before || name.len != 77) {
+        *first = (size_t)((const uint8_t *)name.text - bytes);
+        *end = *first + name.len;
     }
     return number;
 }

@@ -1,5 +1,5 @@
-# Sourced by .ci/run, desk/run, oracle/differential, oracle/selftest and bench/run, from the repository's root: the door's archive, and
-# C programs over it.
+# Sourced by .ci/run, desk/build, desk/run, oracle/differential, oracle/selftest and bench/run, from the repository's root: the door's
+# archive, and C programs over it.
 #
 # DESK_CC says how a C program is built. `cc`: by the machine's own compiler for x86-64, which on another machine is Debian's
 # x86_64-linux-gnu-gcc. `kit`: by the kit's clang and linker with the headers of desk/bare, which needs no package. Without it: cc
@@ -19,12 +19,13 @@ fi
 if [ -n "${DESK_CC:-}" ]; then how=$DESK_CC; elif [ "$machine" = x86_64 ] && command -v cc >/dev/null; then how=cc; else how=kit; fi
 case $how in cc | kit) ;; *) echo "desk: DESK_CC=$how: there are cc and kit" >&2; exit 2 ;; esac
 
-# the archive of every door's exports, unless it is newer than everything that it is made of
+# the archive of every door's exports, unless it is newer than everything that it is made of; a terminal is told of each door
 make_archive() {
     mkdir -p target/desk || return
     if [ -e "$archive" ] && [ -z "$(find crates crates.txt -newer "$archive" -print -quit)" ]; then return; fi
     local door
     for door in "${doors[@]}"; do
+        if [ -t 2 ]; then echo "desk: proving and building $door" >&2; fi
         rt staticlib "$door" >target/desk/staticlib.log 2>&1 || { cat target/desk/staticlib.log; echo "desk: the archive of $door failed"; return 1; }
     done
     rm -f "$archive"

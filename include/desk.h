@@ -15,7 +15,7 @@
  *   - lent memory is as long as the length beside it says; NULL with length 0 is fine. A result that is not wanted may be NULL, and
  *     no other argument may;
  *   - lent memory is aligned for its type (bytes anywhere, words of 32 bits by 4, of 64 bits by 8);
- *   - no argument of a call overlaps another that the call may write;
+ *   - nothing that a call may write overlaps anything else that the call is handed;
  *   - no other thread writes what a call is handed, or reads what it may write. Calls on different memory may run at once;
  *   - so many bytes of stack are free: DESK_STACK (4 KB); for desk_metadata_begin DESK_METADATA_BEGIN_STACK (1 MB), for
  *     desk_metadata_add DESK_METADATA_ADD_STACK (5 MB). A memcpy that is bound at its first call needs the loader's stack besides.
@@ -179,6 +179,12 @@ typedef struct desk_merge {
 
 /* ---- What functions tell. */
 
+/* A name's bytes, in the name list's memory; no zero byte ends them. */
+typedef struct desk_name {
+    const char *text;
+    size_t len;
+} desk_name;
+
 /* An interval of a table over time. */
 typedef struct desk_interval {
     uint32_t instrument, symbol;
@@ -255,16 +261,16 @@ static inline uint32_t desk_names_add(desk_names *names, const char *name, size_
 }
 
 /* The name of a symbol. 0, 15, 14, 3.
- * After 0: *name is its first byte, in the list's memory, and *name_len its length; no zero byte ends it. After any other answer: all
- * as before. */
-static inline uint32_t desk_names_get(const desk_names *names, uint32_t symbol, const char **name, size_t *name_len) {
+ * After 0: *name is the name. After any other answer: all as before. */
+static inline uint32_t desk_names_get(const desk_names *names, uint32_t symbol, desk_name *name) {
     uint64_t nothing = 0;
-    size_t first = 0, end = 0;
+    desk_name unwanted = {"", 0}, *out = name != NULL ? name : &unwanted;
+    size_t first = 0;
     uint32_t number = desk_place_of_name(desk_bytes_(names->bytes, &nothing), names->bytes_len, desk_words_(names->ends, &nothing),
-                                         names->ends_len, names->names, names->name_bytes, symbol, &first, &end);
+                                         names->ends_len, names->names, names->name_bytes, symbol, &first, &out->len);
     if (number != DESK_DONE) return number;
-    if (name != NULL) *name = names->bytes != NULL ? (const char *)names->bytes + first : "";
-    if (name_len != NULL) *name_len = end - first;
+    out->text = names->bytes != NULL ? (const char *)names->bytes + first : "";
+    out->len -= first;
     return number;
 }
 
@@ -291,10 +297,10 @@ static inline uint32_t desk_table_insert(desk_table *table, const desk_names *na
  * by 14 both say nothing. After 15: all as before. */
 static inline uint32_t desk_table_get(const desk_table *table, uint32_t instrument, uint64_t moment, uint64_t *cursor, uint32_t *symbol) {
     uint64_t nothing = 0, anew = 0;
-    uint32_t found = 0, found_symbol = 0;
+    uint32_t found = 0, unwanted = 0, *out = symbol != NULL ? symbol : &unwanted;
     uint32_t number = desk_get_for_ts(desk_bytes_(table->bytes, &nothing), table->bytes_len, table->used, instrument, moment,
-                                      cursor != NULL ? cursor : &anew, &found, &found_symbol);
-    if (number == DESK_DONE && symbol != NULL) *symbol = found != 0 ? found_symbol : DESK_NOTHING;
+                                      cursor != NULL ? cursor : &anew, &found, out);
+    if (number == DESK_DONE && found == 0) *out = DESK_NOTHING;
     return number;
 }
 
@@ -303,12 +309,9 @@ static inline uint32_t desk_table_get(const desk_table *table, uint32_t instrume
 static inline uint32_t desk_table_explain(const desk_table *table, const desk_names *names, uint32_t instrument, uint64_t moment,
                                           desk_explanation *explanation) {
     uint64_t nothing = 0;
-    desk_explanation told = {0, 0, 0, 0, 0, 0, 0, 0};
-    uint32_t number = desk_explain(desk_bytes_(table->bytes, &nothing), table->bytes_len, table->used, names->names, instrument, moment,
-                                   &told.reason, &told.index, &told.start, &told.end, &told.symbol, &told.next_start, &told.next_end,
-                                   &told.next_symbol);
-    if (number == DESK_DONE && explanation != NULL) *explanation = told;
-    return number;
+    desk_explanation unwanted, *out = explanation != NULL ? explanation : &unwanted;
+    return desk_explain(desk_bytes_(table->bytes, &nothing), table->bytes_len, table->used, names->names, instrument, moment, &out->reason,
+                        &out->index, &out->start, &out->end, &out->symbol, &out->next_start, &out->next_end, &out->next_symbol);
 }
 
 /* One record's bytes: a symbol mapping inserts its interval, and a new name joins the list; other kinds are done and change nothing.
@@ -394,10 +397,9 @@ static inline uint32_t desk_point_table_check(const desk_point_table *table, con
  * nothing. After 15: all as before. */
 static inline uint32_t desk_point_table_get(const desk_point_table *table, uint32_t instrument, uint32_t *symbol) {
     uint64_t nothing = 0;
-    uint32_t found = 0, found_symbol = 0;
-    uint32_t number =
-        desk_get_point(desk_bytes_(table->bytes, &nothing), table->bytes_len, table->used, instrument, &found, &found_symbol);
-    if (number == DESK_DONE && symbol != NULL) *symbol = found != 0 ? found_symbol : DESK_NOTHING;
+    uint32_t found = 0, unwanted = 0, *out = symbol != NULL ? symbol : &unwanted;
+    uint32_t number = desk_get_point(desk_bytes_(table->bytes, &nothing), table->bytes_len, table->used, instrument, &found, out);
+    if (number == DESK_DONE && found == 0) *out = DESK_NOTHING;
     return number;
 }
 
@@ -539,26 +541,21 @@ static inline uint32_t desk_merge_open(desk_merge *merge, const uint8_t *buffer,
  * After 0: *record is the record, at the end with found = 0, and *damage is as before. After 13: *damage is the damage, *record is as
  * before; the program goes on with the same merge. After both *merge stands before what comes next. After 15: all as before. */
 static inline uint32_t desk_merge_next(desk_merge *merge, desk_record *record, desk_damage *damage) {
-    uint64_t nothing = 0, stream = 0, place = 0, time = 0, reason = 0;
-    uint32_t found = 0, instrument = 0, number;
-    uint16_t length = 0, kind = 0;
-    number = desk_next(desk_read_(merge->buffer, &nothing), merge->buffer_len, desk_longs_(merge->cuts, &nothing), merge->cuts_len,
-                       merge->marks, DESK_STREAMS, merge->times, DESK_STREAMS, merge->places, DESK_STREAMS, merge->heads, DESK_STREAMS,
-                       merge->heap, DESK_STREAMS, &merge->held, &found, &stream, &place, &length, &kind, &instrument, &time, &reason);
-    if (number == DESK_DAMAGED && damage != NULL) {
-        damage->stream = stream;
-        damage->place = place;
-        damage->reason = reason;
+    uint64_t nothing = 0, stream = 0, place = 0;
+    desk_record no_record, *r = record != NULL ? record : &no_record;
+    desk_damage no_damage, *d = damage != NULL ? damage : &no_damage;
+    uint32_t number = desk_next(desk_read_(merge->buffer, &nothing), merge->buffer_len, desk_longs_(merge->cuts, &nothing),
+                                merge->cuts_len, merge->marks, DESK_STREAMS, merge->times, DESK_STREAMS, merge->places, DESK_STREAMS,
+                                merge->heads, DESK_STREAMS, merge->heap, DESK_STREAMS, &merge->held, &r->found, &stream, &place,
+                                &r->length, &r->kind, &r->instrument, &r->time, &d->reason);
+    if (number == DESK_DAMAGED) {
+        d->stream = stream;
+        d->place = place;
     }
-    if (number == DESK_DONE && record != NULL) {
-        record->found = found;
-        record->instrument = instrument;
-        record->stream = stream;
-        record->place = place;
-        record->time = time;
-        record->length = length;
-        record->kind = kind;
-        record->bytes = found != 0 && stream < merge->cuts_len ? merge->buffer + merge->cuts[stream] + place : NULL;
+    if (number == DESK_DONE) {
+        r->stream = stream;
+        r->place = place;
+        r->bytes = r->found != 0 && stream < merge->cuts_len ? merge->buffer + merge->cuts[stream] + place : NULL;
     }
     return number;
 }

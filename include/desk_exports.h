@@ -32,7 +32,7 @@ extern "C" {
 
 /* The numbers the desk lives by. */
 #define DESK_INTERVAL_BYTES 24    /* of a table over time: instrument 4, symbol 4, start 8, end 8, little-endian */
-#define DESK_STRETCH_BYTES 28     /* of a stretch in which two tables disagree: instrument 4, left symbol 4, right symbol 4, start 8, end 8 */
+#define DESK_STRETCH_BYTES 28     /* of a stretch in which two tables disagree: instrument 4, left symbol 4, right one 4, start 8, end 8 */
 #define DESK_NOTHING 4294967295u  /* in a stretch: no symbol on this side */
 #define DESK_STRETCHES(l, r) (2 * ((size_t)(l) + (size_t)(r))) /* the stretches of two tables with so many in use fit this room */
 #define DESK_POINT_BYTES 8        /* of a point-in-time table: instrument 4, symbol 4, little-endian */
@@ -213,7 +213,8 @@ uint32_t desk_utf8(const uint8_t *text, size_t text_len);
  * number), mappings (two words each: name, number of its intervals) and intervals (three words each: start date, end date,
  * symbol), those of the mappings one after the other. The header says how much of each list is in use; the intervals in use are
  * the sum of the mappings' numbers. 15 where a header has not 14 words or one of them is over the width named here, where a list
- * is over its limit or not made of whole mappings or intervals, or where more is in use than is lent. */
+ * is over its limit or not made of whole mappings or intervals, or where more is in use than is lent. desk.h names the words again, as
+ * DESK_HEADER_VERSION and so on: the names here stand between limits, moments and versions. */
 enum desk_header {
     DESK_VERSION,         /* 8 bits */
     DESK_DATASET,         /* 32 bits, a name's number */
