@@ -528,6 +528,86 @@ static void records(int from_metadata) {
     else merge(buffer, len, cuts, count + 1, hints, hints_len, 0);
 }
 
+/* ---- Streams in portions. Each number of the script is a stream x 4096 + a size. Before each next call the script's next number says of
+ * which stream so many of its bytes that are to come are handed in, unasked, or with 4095 that it has ended, where they have all come. A
+ * stream of which more is needed gets as many bytes as the size of the script's next number says, at least one, or the end word. */
+
+static desk_feed feed;
+
+struct arriving {
+    const uint8_t *buffer;
+    const uint64_t *cuts;
+    size_t count;
+    uint64_t come[DESK_STREAMS];
+};
+
+static void put_portion(struct arriving *s, uint64_t stream, uint64_t size) {
+    static const uint8_t none[1];
+    size_t taken = 0;
+    int there = stream < s->count;
+    uint64_t left = there ? s->cuts[stream + 1] - s->cuts[stream] - s->come[stream] : 0;
+    const uint8_t *portion = there ? s->buffer + s->cuts[stream] + s->come[stream] : none;
+    uint32_t answer;
+    next_answer();
+    if (size == 4095 && left == 0) {
+        put_word("x");
+        put_number(desk_feed_finish(&feed, stream));
+        return;
+    }
+    put_word("p");
+    answer = desk_feed_add(&feed, stream, portion, size < left ? size : left, &taken);
+    put_number(answer);
+    if (answer != DESK_DONE) return;
+    put_number(taken);
+    if (there) s->come[stream] += taken;
+}
+
+/* Calls to the second end. A record's bytes are held to the stream's own. */
+static void fed(void) {
+    size_t len, cuts_len, hints_len, script_len, used = 0, ends = 0;
+    struct arriving s = {NULL, NULL, 0, {0}};
+    const uint64_t *hints, *script;
+    uint32_t answer;
+    s.buffer = bytes(&len);
+    s.cuts = numbers(&cuts_len), hints = numbers(&hints_len), script = numbers(&script_len);
+    if (cuts_len == 0 || s.cuts[cuts_len - 1] != len || script_len == 0) fail("the case has no streams or no script");
+    s.count = cuts_len - 1;
+    answer = desk_feed_begin(&feed, s.count, hints, hints_len);
+    if (answer != DESK_DONE) {
+        next_answer();
+        put_number(answer);
+        return;
+    }
+    while (ends < 2) {
+        uint64_t unasked = script[used++ % script_len];
+        desk_record r = {0, 0, 0, 0, 0, 0, 0, NULL};
+        desk_damage broken = {0, 0, 0};
+        put_portion(&s, unasked / 4096, unasked % 4096);
+        answer = desk_feed_read(&feed, &r, &broken);
+        next_answer();
+        if (answer == DESK_DAMAGED) {
+            put_word("d");
+            put_number(broken.stream), put_number(broken.place), put_number(broken.reason), put_number(feed.held);
+        } else if (answer != DESK_DONE) {
+            put_number(answer);
+            return;
+        } else if (r.found == DESK_NEED_MORE) {
+            uint64_t size = script[used++ % script_len] % 4096, left = s.cuts[r.stream + 1] - s.cuts[r.stream] - s.come[r.stream];
+            put_word("n");
+            put_number(r.stream), put_number(feed.held);
+            put_portion(&s, r.stream, left == 0 ? 4095 : size == 0 ? 1 : size);
+        } else if (r.found == 0) {
+            put_word("e");
+            ends++;
+        } else {
+            put_word("r");
+            put_number(r.stream), put_number(r.place), put_number((uint64_t)(r.bytes - feed.window)), put_number(r.length);
+            put_number(r.kind), put_number(r.instrument), put_number(r.time), put_number(feed.held);
+            if (memcmp(r.bytes, s.buffer + s.cuts[r.stream] + r.place, r.length) != 0) put_word("other-bytes");
+        }
+    }
+}
+
 /* ---- Metadata. */
 
 enum { SYMBOLS, PARTIAL, NOT_FOUND, MAPPINGS, INTERVALS, LISTS, SETS = MAPPINGS };
@@ -775,6 +855,7 @@ static void answer_case(void) {
     else if (is(kind, len, "records")) records(0);
     else if (is(kind, len, "decoder")) records(1);
     else if (is(kind, len, "streams")) streams();
+    else if (is(kind, len, "feed")) fed();
     else if (is(kind, len, "merge")) merge_all();
     else if (is(kind, len, "open_metadata")) open_metadata();
     else if (is(kind, len, "merge_metadata")) merge_metadata();

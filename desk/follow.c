@@ -1,26 +1,10 @@
-/* follow [--done] FILE..: replays files while they are being copied, over the door's calls for streams that arrive in portions (docs/RULES.md,
- * Requests, No. 5). Each FILE is one stream. It has ended when FILE.end stands beside it, or with --done at its present end. ./follow builds
- * and runs this. The memory is 270,848 bytes for the merge and 64 KB a file. */
-#include <stddef.h>
-#include <stdint.h>
+/* follow [--done] FILE..: replays files while they are being copied, over the door's calls for streams that arrive in portions
+ * (docs/RULES.md, Requests, No. 5). Each FILE is one stream. It has ended when FILE.end stands beside it, or with --done at its present
+ * end. ./follow builds and runs this. The memory is a desk_feed and 64 KB a file. */
+#include "desk.h"
+
 #include <stdlib.h>
 #include <string.h>
-
-/* The door's calls, as its header has them. */
-#define DESK_STREAMS 256
-#define DESK_WINDOW_BYTES 262144
-#define DESK_NEED_MORE 2
-uint32_t desk_feed_open(size_t streams, const uint64_t *hints, size_t hints_len, uint8_t *marks, size_t marks_len, uint64_t *times,
-    size_t times_len, uint64_t *places, size_t places_len, uint64_t *heads, size_t heads_len, uint8_t *heap, size_t heap_len,
-    uint64_t *spans, size_t spans_len, size_t *held);
-uint32_t desk_feed_bytes(uint64_t stream, const uint8_t *portion, size_t portion_len, const uint8_t *marks, size_t marks_len,
-    const uint64_t *places, size_t places_len, const uint64_t *heads, size_t heads_len, uint64_t *spans, size_t spans_len,
-    uint8_t *window, size_t window_len, size_t *taken);
-uint32_t desk_feed_end(uint64_t stream, const uint8_t *marks, size_t marks_len, uint64_t *spans, size_t spans_len);
-uint32_t desk_feed_next(const uint8_t *window, size_t window_len, uint8_t *marks, size_t marks_len, uint64_t *times, size_t times_len,
-    uint64_t *places, size_t places_len, uint64_t *heads, size_t heads_len, uint8_t *heap, size_t heap_len, uint64_t *spans,
-    size_t spans_len, size_t *held, uint32_t *found, uint64_t *stream, uint64_t *place, size_t *at, uint16_t *length, uint16_t *kind,
-    uint32_t *instrument, uint64_t *time, uint64_t *reason);
 
 /* What is used of the system, on x86-64 Linux; desk/bare has no header for it. */
 int open(const char *, int, ...);
@@ -34,7 +18,7 @@ long time(long *);
 char *strerror(int);
 int *__errno_location(void);
 
-enum { AHEAD = 65536, PATIENCE = 50, LINE = 80, DAMAGED = 13 };
+enum { AHEAD = 65536, PATIENCE = 50, LINE = 80 };
 
 /* A file: how much of it was taken, and what was read ahead of that, `ahead` bytes from the place `from` on. */
 struct source {
@@ -47,10 +31,9 @@ struct source {
 };
 
 static struct source sources[DESK_STREAMS];
-static uint8_t marks[DESK_STREAMS], heap[DESK_STREAMS], window[DESK_WINDOW_BYTES];
-static uint64_t times[DESK_STREAMS], places[DESK_STREAMS], heads[DESK_STREAMS], spans[DESK_STREAMS];
+static desk_feed feed;
 static char out[65536];
-static size_t laid, held;
+static size_t laid;
 static uint64_t records;
 static int done, watched, shown;
 static long told;
@@ -132,9 +115,8 @@ static void tell(size_t stream) {
 static int hand_in(size_t stream) {
     struct source *s = &sources[stream];
     size_t at = (size_t)(s->taken - s->from), taken = 0;
-    uint32_t number = desk_feed_bytes(stream, s->bytes + at, s->ahead - at, marks, DESK_STREAMS, places, DESK_STREAMS, heads, DESK_STREAMS,
-        spans, DESK_STREAMS, window, DESK_WINDOW_BYTES, &taken);
-    if (number != 0 || taken == 0) return !failed(s->path, "no more than 2^63 bytes are taken");
+    uint32_t number = desk_feed_add(&feed, stream, s->bytes + at, s->ahead - at, &taken);
+    if (number != DESK_DONE || taken == 0) return !failed(s->path, "no more than 2^63 bytes are taken");
     s->taken += taken;
     return 1;
 }
@@ -153,8 +135,7 @@ static int more(size_t stream) {
     s->ahead = (size_t)n;
     if (n > 0) return hand_in(stream);
     if (lseek(s->file, 0, 2) < (long)s->taken) return !failed(s->path, "it became shorter than what was taken of it");
-    if (ended)
-        return desk_feed_end(stream, marks, DESK_STREAMS, spans, DESK_STREAMS) == 0 || !failed(s->path, "its end was not taken");
+    if (ended) return desk_feed_finish(&feed, stream) == DESK_DONE || !failed(s->path, "its end was not taken");
     if (!flush_lines()) return 0;
     tell(stream);
     poll(NULL, 0, PATIENCE);
@@ -163,33 +144,30 @@ static int more(size_t stream) {
 
 /* Calls to the end; the status. */
 static int follow(void) {
+    desk_record record;
+    desk_damage damage;
     for (;;) {
-        uint32_t found = 0, instrument = 0, number;
-        uint64_t stream = 0, place = 0, at_time = 0, reason = 0;
-        size_t at = 0;
-        uint16_t length = 0, kind = 0;
-        number = desk_feed_next(window, DESK_WINDOW_BYTES, marks, DESK_STREAMS, times, DESK_STREAMS, places, DESK_STREAMS, heads, DESK_STREAMS,
-            heap, DESK_STREAMS, spans, DESK_STREAMS, &held, &found, &stream, &place, &at, &length, &kind, &instrument, &at_time, &reason);
-        if (number == 0 && found == DESK_NEED_MORE) {
-            if (!more((size_t)stream)) return 1;
+        uint32_t number = desk_feed_read(&feed, &record, &damage);
+        if (number == DESK_DONE && record.found == DESK_NEED_MORE) {
+            if (!more((size_t)record.stream)) return 1;
             continue;
         }
         if (!room_for_a_line()) return 1;
-        if (number == DAMAGED) {
-            put_number(stream, " damaged ");
-            put_number(place, "\n");
-        } else if (number != 0) {
-            return failed("the merge", "its memory is not of the form");
-        } else if (found == 0) {
+        if (number == DESK_DAMAGED) {
+            put_number(damage.stream, " damaged ");
+            put_number(damage.place, "\n");
+        } else if (number != DESK_DONE) {
+            return failed("the merge", desk_refusal_text(number));
+        } else if (record.found == 0) {
             memcpy(out + laid, "end\n", 4);
             laid += 4;
             clear_line();
             return flush_lines() ? 0 : 1;
         } else {
             records += 1;
-            put_number(stream, " ");
-            put_number(at_time, " ");
-            put_number(instrument, "\n");
+            put_number(record.stream, " ");
+            put_number(record.time, " ");
+            put_number(record.instrument, "\n");
         }
     }
 }
@@ -221,8 +199,6 @@ int main(int words, char **word) {
     }
     watched = isatty(2);
     if (!open_all(count, word + first)) return 1;
-    if (desk_feed_open(count, NULL, 0, marks, DESK_STREAMS, times, DESK_STREAMS, places, DESK_STREAMS, heads, DESK_STREAMS, heap, DESK_STREAMS,
-            spans, DESK_STREAMS, &held) != 0)
-        return failed("the merge", "it was not opened");
+    if (desk_feed_begin(&feed, count, NULL, 0) != DESK_DONE) return failed("the merge", "it was not opened");
     return follow();
 }

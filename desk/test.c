@@ -24,8 +24,8 @@ enum { LIST_ROOM = 24 };                                          /* words of ea
 
 static struct desk {
     uint64_t hint, moment, reason, stream, place, time, index, from, to, next_from, next_to;
-    uint64_t times[DESK_STREAMS + 1], places[DESK_STREAMS + 1], heads[DESK_STREAMS + 1];
-    size_t used, points_used, names, name_bytes, first, end, streams, held, count;
+    uint64_t times[DESK_STREAMS + 1], places[DESK_STREAMS + 1], heads[DESK_STREAMS + 1], spans[DESK_STREAMS + 1];
+    size_t used, points_used, names, name_bytes, first, end, streams, held, count, at, taken;
     uint32_t found, symbol, day, date, value, instrument, told, next_symbol;
     uint32_t ends[NAMES + 1];
     uint16_t length, kind;
@@ -609,6 +609,161 @@ static void test_merge(void) {
     }
 }
 
+/* ---- Streams in portions. The window stands beside `d`, since it is so large. */
+
+static uint8_t window[DESK_WINDOW_BYTES + 1], window_was[DESK_WINDOW_BYTES + 1];
+static uint8_t portion[2 * DESK_RECORD_BYTES];
+
+/* Calls with places of each array as they are given. */
+static uint32_t feed_open_with(size_t streams, const uint64_t *hints, size_t hints_len, size_t marks, size_t times, size_t places,
+                               size_t heads, size_t heap, size_t spans) {
+    return desk_feed_open(streams, hints, hints_len, d.marks, marks, d.times, times, d.places, places, d.heads, heads, d.heap, heap,
+                          d.spans, spans, &d.held);
+}
+
+static uint32_t feed_bytes_with(uint64_t stream, size_t size, size_t marks, size_t places, size_t heads, size_t spans, size_t of_window) {
+    return desk_feed_bytes(stream, portion, size, d.marks, marks, d.places, places, d.heads, heads, d.spans, spans, window, of_window,
+                           &d.taken);
+}
+
+static uint32_t feed_end_with(uint64_t stream, size_t marks, size_t spans) { return desk_feed_end(stream, d.marks, marks, d.spans, spans); }
+
+static uint32_t feed_next_with(size_t of_window, size_t marks, size_t times, size_t places, size_t heads, size_t heap, size_t spans) {
+    return desk_feed_next(window, of_window, d.marks, marks, d.times, times, d.places, places, d.heads, heads, d.heap, heap, d.spans,
+                          spans, &d.held, &d.found, &d.stream, &d.place, &d.at, &d.length, &d.kind, &d.instrument, &d.time, &d.reason);
+}
+
+static uint32_t feed_open(size_t streams) {
+    static const uint64_t none[1];
+    return feed_open_with(streams, none, 0, 256, 256, 256, 256, 256, 256);
+}
+
+static uint32_t feed_bytes(uint64_t stream, size_t size) { return feed_bytes_with(stream, size, 256, 256, 256, 256, DESK_WINDOW_BYTES); }
+
+static uint32_t feed_end(uint64_t stream) { return feed_end_with(stream, 256, 256); }
+
+static uint32_t feed_next(void) { return feed_next_with(DESK_WINDOW_BYTES, 256, 256, 256, 256, 256, 256); }
+
+static void begin_feed(void) {
+    begin();
+    memset(window, pattern, sizeof window);
+    memset(portion, 0, sizeof portion);
+}
+
+/* A record's head in the portion, at its byte `at`. */
+static void put_head(size_t at, uint16_t length, uint16_t kind, uint32_t instrument, uint64_t time) {
+    put(portion + at, 2, length), put(portion + at + 2, 2, kind), put(portion + at + 4, 4, instrument), put(portion + at + 8, 8, time);
+}
+
+static int takes(uint64_t stream, size_t size, size_t taken) { return feed_bytes(stream, size) == DESK_DONE && d.taken == taken; }
+
+static int needs(uint64_t stream) { return feed_next() == DESK_DONE && d.found == DESK_NEED_MORE && d.stream == stream; }
+
+static int hands_out(uint64_t stream, uint64_t place, uint64_t time, size_t at) {
+    return feed_next() == DESK_DONE && d.found == 1 && d.stream == stream && d.place == place && d.time == time && d.at == at;
+}
+
+static int is_over(void) { return feed_next() == DESK_DONE && d.found == 0 && d.held == 0; }
+
+static int breaks(uint64_t stream, uint64_t place, uint64_t reason) {
+    return feed_next() == DESK_DAMAGED && d.stream == stream && d.place == place && d.reason == reason;
+}
+
+static void test_feed(void) {
+    static const uint64_t hints[] = {10, 0};
+    begin_feed();
+    DONE(feed_open(1)); /* nothing has come; a portion of nothing; the end */
+    IS(d.held == 1 && d.spans[256] == d.places[256] && d.marks[256] == 0xA5 && all(window, sizeof window, 0xA5));
+    IS(needs(0) && takes(0, 0, 0) && needs(0));
+    DONE(feed_end(0));
+    REFUSES(DESK_BAD_STREAMS, feed_end(0));
+    REFUSES(DESK_BAD_STREAMS, feed_bytes(0, 0));
+    IS(is_over() && is_over());
+    REFUSES(DESK_BAD_STREAMS, feed_end(0));
+    REFUSES(DESK_BAD_STREAMS, feed_bytes(0, 1));
+
+    DONE(feed_open(1)); /* a length is judged once 16 bytes are there */
+    IS(takes(0, 15, 15) && needs(0) && takes(0, 1, 1) && breaks(0, 0, DESK_BAD_LENGTH) && is_over());
+    put_head(0, 17, 0, 0, 5);
+    DONE(feed_open(1));
+    IS(takes(0, 16, 16) && needs(0));
+    DONE(feed_end(0));
+    IS(breaks(0, 0, DESK_PAST_END));
+
+    put_head(0, 1024, 3, 4, 5); /* a record of 1,024 counts until the next call */
+    DONE(feed_open(1));
+    IS(takes(0, 16, 16) && needs(0));
+    memset(portion, 7, sizeof portion);
+    IS(takes(0, 2000, 1008) && hands_out(0, 0, 5, 0) && d.length == 1024 && d.kind == 3 && d.instrument == 4);
+    IS(takes(0, 10, 0) && needs(0) && takes(0, 10, 10));
+    IS(all(window, 10, 7) && all(window + 1024, sizeof window - 1024, 0xA5));
+    DONE(feed_end(0));
+    IS(breaks(0, 1024, DESK_SHORT));
+
+    memset(portion, 0, sizeof portion); /* records of 16, then what is kept moves to the front */
+    for (size_t at = 0; at < sizeof portion; at += 16) put_head(at, 16, 0, 9, 5);
+    DONE(feed_open(1));
+    IS(takes(0, 2000, 1024) && hands_out(0, 0, 5, 0) && takes(0, 100, 0) && hands_out(0, 16, 5, 16) && takes(0, 100, 16));
+
+    DONE(feed_open(2)); /* no other record instead of the one that is needed first; a stream that is found ended is closed */
+    IS(takes(1, 16, 16) && needs(0) && d.held == 2);
+    put_head(0, 16, 0, 9, 7);
+    IS(takes(0, 16, 16) && hands_out(1, 0, 5, 1024) && needs(1));
+    DONE(feed_end(1));
+    IS(hands_out(0, 0, 7, 0) && d.held == 1);
+    REFUSES(DESK_BAD_STREAMS, feed_bytes(1, 16));
+    REFUSES(DESK_BAD_STREAMS, feed_bytes(2, 16));
+    REFUSES(DESK_BAD_STREAMS, feed_bytes(256, 0));
+    REFUSES(DESK_BAD_STREAMS, feed_bytes(UINT64_MAX, 16));
+    REFUSES(DESK_BAD_STREAMS, feed_end(2));
+    REFUSES(DESK_BAD_STREAMS, feed_end(UINT64_MAX));
+    IS(needs(0));
+
+    DONE(feed_open_with(2, hints, 2, 256, 256, 256, 256, 256, 256));
+    IS(needs(1));
+    DONE(feed_end(1));
+    IS(needs(0) && d.held == 1);
+    DONE(feed_open(1)); /* 2^63 bytes in all: the place is laid */
+    d.places[0] = (UINT64_C(1) << 63) - 16;
+    put_head(0, 16, 0, 9, 5);
+    IS(takes(0, 20, 16) && hands_out(0, (UINT64_C(1) << 63) - 16, 5, 0) && needs(0) && takes(0, 1, 0));
+    DONE(feed_end(0));
+    IS(is_over());
+    DONE(feed_open(DESK_STREAMS)); /* the last stream's part is the window's last */
+    memset(window, 0xA5, sizeof window);
+    IS(d.held == DESK_STREAMS && takes(255, 2000, 1024) && takes(0, 2000, 1024));
+    IS(all(window + 1024, 254 * 1024, 0xA5) && memcmp(window + 255 * 1024, portion, 1024) == 0 && window[DESK_WINDOW_BYTES] == 0xA5);
+
+    REFUSES(DESK_BAD_STREAMS, feed_open(0));
+    REFUSES(DESK_BAD_STREAMS, feed_open(257));
+    REFUSES(DESK_BAD_STREAMS, feed_open(SIZE_MAX));
+    REFUSES(DESK_BAD_STREAMS, feed_open_with(3, hints, 2, 256, 256, 256, 256, 256, 256));
+    REFUSES(DESK_BAD_STREAMS, feed_open_with(1, hints, 2, 256, 256, 256, 256, 256, 256));
+    memcpy(window_was, window, sizeof window);
+    for (int missing = 0; missing < 7; missing++)
+        for (int off = -1; off <= 1; off += 2) { /* each array one place off, the window a byte */
+            size_t n[7];
+            for (int i = 0; i < 7; i++) n[i] = (size_t)(256 + (i == missing ? off : 0));
+            n[6] += DESK_WINDOW_BYTES - 256;
+            REFUSES(DESK_BAD_MEMORY, feed_next_with(n[6], n[0], n[1], n[2], n[3], n[4], n[5]));
+            if (missing != 6) REFUSES(DESK_BAD_MEMORY, feed_open_with(257, hints, 2, n[0], n[1], n[2], n[3], n[4], n[5]));
+            if (missing != 1 && missing != 4) REFUSES(DESK_BAD_MEMORY, feed_bytes_with(256, 16, n[0], n[2], n[3], n[5], n[6]));
+            if (missing == 0 || missing == 5) REFUSES(DESK_BAD_MEMORY, feed_end_with(256, n[0], n[5]));
+        }
+    d.held = DESK_STREAMS + 1;
+    REFUSES(DESK_BAD_MEMORY, feed_next());
+    d.held = SIZE_MAX;
+    REFUSES(DESK_BAD_MEMORY, feed_next());
+    IS(memcmp(window, window_was, sizeof window) == 0);
+
+    begin_feed(); /* a state that no opening made: the calls end, whatever they answer */
+    for (size_t held = 0; held <= DESK_STREAMS; held += 64) {
+        d.held = held;
+        for (uint64_t i = 0; i < 3; i++) feed_next(), feed_bytes(i, 2000), feed_end(i);
+        IS(d.held <= held && d.marks[256] == 0xA5 && d.heap[256] == 0xA5 && window[DESK_WINDOW_BYTES] == 0xA5);
+    }
+}
+
 /* ---- Metadata. A side has its header, its lists in `of` and as many words of each as are lent. */
 
 struct side {
@@ -1035,7 +1190,7 @@ static void note(void) {
     uint64_t n = UINT64_C(0x0101010101010101) * pattern;
     d.hint = d.moment = d.reason = d.stream = d.place = d.time = n;
     d.index = d.from = d.to = d.next_from = d.next_to = n;
-    d.streams = d.first = d.end = (size_t)n;
+    d.streams = d.first = d.end = d.at = d.taken = (size_t)n;
     d.found = d.symbol = d.day = d.date = d.value = d.instrument = d.field = d.told = d.next_symbol = (uint32_t)n;
     d.length = d.kind = (uint16_t)n;
     was = d;
@@ -1591,6 +1746,120 @@ static int each_comes_once(int keeps_the_old) {
     return came == 3 && at[3] == 1 && at[5] == 1 && at[9] == 1;
 }
 
+/* ---- The same of streams in portions: what a state says of a stream, and the window. */
+
+#define AFTER_FEED(number, call, ...)                                                                 \
+    do {                                                                                              \
+        memcpy(window_was, window, sizeof window);                                                    \
+        memcpy(portion_was, portion, sizeof portion);                                                 \
+        AFTER(number, call, __VA_ARGS__);                                                             \
+        is(memcmp(window, window_was, sizeof window) == 0, #call ", the window: " #__VA_ARGS__, __LINE__); \
+        is(memcmp(portion, portion_was, sizeof portion) == 0, #call ", the portion", __LINE__);       \
+    } while (0)
+static uint8_t portion_was[sizeof portion];
+
+/* The stream waits; so many bytes of the record that it handed out last still count. */
+static void waits_on(size_t p, uint64_t time, uint64_t place, uint64_t counting) { waits(p, time, place), was.heads[p] = counting; }
+
+static void keeps(size_t p, uint64_t start, uint64_t fill, uint64_t ended) { was.spans[p] = start + 65536 * fill + 4294967296u * ended; }
+
+/* As state_holds, but that heads of a stream that waits says something. */
+static void feed_holds(size_t held) {
+    was.held = held;
+    for (size_t p = 0; p < DESK_STREAMS; p++)
+        if (was.marks[p] == 0) was.times[p] = d.times[p], was.places[p] = d.places[p], was.heads[p] = d.heads[p], was.spans[p] = d.spans[p];
+    memcpy(was.heap, d.heap, DESK_STREAMS);
+    IS(heap_is_right());
+}
+
+static void feed_opened(size_t streams, const uint64_t *hints) {
+    size_t before = was.streams;
+    opened(streams, hints);
+    was.streams = before;
+    for (size_t p = 0; p < DESK_STREAMS; p++) was.spans[p] = 0;
+}
+
+static void after_feed_open(void) {
+    static const uint64_t hints[] = {9, 3, 5}, none[2];
+    begin_feed();
+    AFTER_FEED(DESK_BAD_STREAMS, feed_open(0), ALL_AS_BEFORE);
+    AFTER_FEED(DESK_BAD_MEMORY, feed_open_with(2, none, 0, 256, 256, 256, 256, 256, 255), ALL_AS_BEFORE);
+    AFTER_FEED(DESK_DONE, feed_open_with(3, hints, 3, 256, 256, 256, 256, 256, 256), feed_opened(3, hints));
+    AFTER_FEED(DESK_DONE, feed_open(2), feed_opened(2, none));
+    ANSWERED(DESK_DONE, DESK_BAD_STREAMS, DESK_BAD_MEMORY);
+}
+
+/* So many bytes of the portion are taken, behind `kept` bytes that move to the front of the stream's part. */
+static void adds(size_t p, size_t start, size_t kept, size_t taken) {
+    for (size_t i = 0; i < kept; i++) window_was[DESK_WINDOW * p + i] = window_was[DESK_WINDOW * p + start + i];
+    memcpy(window_was + DESK_WINDOW * p + kept, portion, taken);
+    was.taken = taken;
+    keeps(p, 0, kept + taken, 0);
+}
+
+static void after_feed_bytes(void) {
+    begin_feed();
+    put_head(0, 16, 9, 7, 5), put_head(16, 20, 9, 7, 6);
+    DONE(feed_open(3));
+    AFTER_FEED(DESK_DONE, feed_bytes(1, 0), adds(1, 0, 0, 0));
+    AFTER_FEED(DESK_DONE, feed_bytes(1, 34), adds(1, 0, 0, 34));
+    AFTER_FEED(DESK_DONE, feed_bytes(2, 2), adds(2, 0, 0, 2));
+    AFTER_FEED(DESK_DONE, feed_bytes(1, 2), adds(1, 0, 34, 2));
+    AFTER_FEED(DESK_BAD_STREAMS, feed_bytes(3, 2), ALL_AS_BEFORE);
+    AFTER_FEED(DESK_BAD_MEMORY, feed_bytes_with(3, 2, 256, 256, 256, 256, DESK_WINDOW_BYTES - 1), ALL_AS_BEFORE);
+    DONE(feed_end(0)), DONE(feed_end(2));
+    AFTER_FEED(DESK_BAD_STREAMS, feed_bytes(2, 2), ALL_AS_BEFORE);
+    IS(breaks(2, 0, DESK_SHORT) && hands_out(1, 0, 5, 1024) && hands_out(1, 16, 6, 1040));
+    AFTER_FEED(DESK_DONE, feed_bytes(1, 0), adds(1, 16, 20, 0)); /* the record's bytes stand at the front now */
+    IS(memcmp(window + 1024, portion + 16, 18) == 0);
+    AFTER_FEED(DESK_DONE, feed_bytes(1, 2000), adds(1, 0, 20, 1004));
+    AFTER_FEED(DESK_DONE, feed_bytes(1, 2000), adds(1, 0, 1024, 0));
+    AFTER_FEED(DESK_BAD_STREAMS, feed_bytes(0, 1), ALL_AS_BEFORE);
+    ANSWERED(DESK_DONE, DESK_BAD_STREAMS, DESK_BAD_MEMORY);
+}
+
+static void after_feed_end(void) {
+    begin_feed();
+    DONE(feed_open(2));
+    DONE(feed_bytes(1, 3));
+    AFTER_FEED(DESK_DONE, feed_end(0), keeps(0, 0, 0, 1));
+    AFTER_FEED(DESK_DONE, feed_end(1), keeps(1, 0, 3, 1));
+    AFTER_FEED(DESK_BAD_STREAMS, feed_end(1), ALL_AS_BEFORE);
+    AFTER_FEED(DESK_BAD_MEMORY, feed_end_with(1, 255, 256), ALL_AS_BEFORE);
+    ANSWERED(DESK_DONE, DESK_BAD_STREAMS, DESK_BAD_MEMORY);
+}
+
+static void comes_at(uint64_t stream, uint64_t place, uint64_t time, size_t at) { comes(stream, place, 9, 7, time), was.at = at; }
+
+static void ends_fed(void) { ends(), was.at = 0; }
+
+static void asks(uint64_t stream) { ends_fed(), was.found = DESK_NEED_MORE, was.stream = stream; }
+
+static void after_feed_next(void) {
+    begin_feed();
+    put_head(0, 16, 9, 7, 5), put_head(16, 16, 9, 7, 6);
+    DONE(feed_open(4));
+    DONE(feed_end(0)), DONE(feed_bytes(1, 34)), DONE(feed_bytes(3, 16)), DONE(feed_end(3));
+    AFTER_FEED(DESK_DONE, feed_next(), asks(2), closed(0), stands(1, 5, 0, 16, 9, 7), feed_holds(3));
+    AFTER_FEED(DESK_DONE, feed_next(), asks(2), feed_holds(3)); /* asked again: the same, and nothing changes */
+    DONE(feed_bytes(2, 3)), DONE(feed_end(2));
+    AFTER_FEED(DESK_DAMAGED, feed_next(), breaks_off(2, 0, DESK_SHORT), closed(2), feed_holds(2));
+    AFTER_FEED(DESK_DONE, feed_next(), comes_at(1, 0, 5, 1024), waits_on(1, 5, 16, 16), stands(3, 5, 0, 16, 9, 7), feed_holds(2));
+    AFTER_FEED(DESK_DONE, feed_next(), comes_at(3, 0, 5, 3072), stands(1, 6, 16, 16, 9, 7), keeps(1, 16, 18, 0), waits_on(3, 5, 16, 16),
+               feed_holds(2));
+    AFTER_FEED(DESK_BAD_MEMORY, feed_next_with(DESK_WINDOW_BYTES, 256, 256, 256, 256, 256, 255), ALL_AS_BEFORE);
+    AFTER_FEED(DESK_DONE, feed_next(), comes_at(1, 16, 6, 1040), waits_on(1, 6, 32, 16), closed(3), feed_holds(1));
+    AFTER_FEED(DESK_DONE, feed_next(), asks(1), waits_on(1, 6, 32, 0), keeps(1, 32, 2, 0), feed_holds(1));
+    AFTER_FEED(DESK_DONE, feed_next(), asks(1), feed_holds(1));
+    DONE(feed_end(1));
+    AFTER_FEED(DESK_DAMAGED, feed_next(), breaks_off(1, 32, DESK_SHORT), closed(1), feed_holds(0));
+    AFTER_FEED(DESK_DONE, feed_next(), ends_fed(), feed_holds(0));
+    put_head(0, 1025, 9, 7, 5);
+    DONE(feed_open(1)), DONE(feed_bytes(0, 16)); /* not ended, and bad all the same */
+    AFTER_FEED(DESK_DAMAGED, feed_next(), breaks_off(0, 0, DESK_BAD_LENGTH), closed(0), feed_holds(0));
+    ANSWERED(DESK_DONE, DESK_DAMAGED, DESK_BAD_MEMORY);
+}
+
 static void test_afterwards(void) {
     static const uint8_t patterns[] = {0x5A, 0xA5};
     for (size_t i = 0; i < sizeof patterns; i++) {
@@ -1618,6 +1887,10 @@ static void test_afterwards(void) {
         after_build_points();
         after_open();
         after_next();
+        after_feed_open();
+        after_feed_bytes();
+        after_feed_end();
+        after_feed_next();
     }
     IS(each_comes_once(0));
     IS(!each_comes_once(1)); /* the reading that 13 leaves *held: a record comes twice */
@@ -1635,6 +1908,7 @@ int main(void) {
     test_points();
     test_numbers_and_days();
     test_merge();
+    test_feed();
     test_metadata_open();
     test_metadata_memory();
     test_hint_of();

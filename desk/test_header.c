@@ -29,6 +29,10 @@ NO_NULL(desk_build_points);
 NO_NULL(desk_hint_of);
 NO_NULL(desk_open);
 NO_NULL(desk_next);
+NO_NULL(desk_feed_open);
+NO_NULL(desk_feed_bytes);
+NO_NULL(desk_feed_end);
+NO_NULL(desk_feed_next);
 
 #include "desk.h"
 
@@ -248,6 +252,44 @@ static void test_unwanted(void) {
     }
 }
 
+/* ---- Streams in portions: nothing lent, nothing wanted, a copy. */
+
+static void test_feed(void) {
+    static desk_feed feed, before;
+    desk_record record = {7, 7, 7, 7, 7, 7, 7, NULL};
+    desk_damage damage = {7, 7, 7};
+    size_t taken = 7;
+    IS_NUMBER(DESK_BAD_STREAMS, desk_feed_begin(&feed, 0, NULL, 0));
+    DONE(desk_feed_read(&feed, &record, &damage)); /* of a feed all of 0, which has no stream */
+    IS(record.found == 0 && record.stream == 0 && record.length == 0 && record.bytes == NULL && damage.stream == 7);
+    DONE(desk_feed_begin(&feed, 2, NULL, 0));
+    IS(feed.held == 2);
+    DONE(desk_feed_add(&feed, 0, NULL, 0, &taken));
+    IS(taken == 0);
+    DONE(desk_feed_add(&feed, 0, NULL, 0, NULL));
+    put(streams, 2, 16), put(streams + 2, 2, 9), put(streams + 4, 4, 7), put(streams + 8, 8, 5);
+    DONE(desk_feed_add(&feed, 1, streams, 19, NULL));
+    DONE(desk_feed_read(&feed, NULL, NULL));
+    DONE(desk_feed_read(&feed, &record, &damage));
+    IS(record.found == DESK_NEED_MORE && record.stream == 0 && record.bytes == NULL && record.time == 0 && damage.stream == 7);
+    DONE(desk_feed_finish(&feed, 0));
+    IS_NUMBER(DESK_BAD_STREAMS, desk_feed_finish(&feed, 0));
+    taken = 7;
+    IS_NUMBER(DESK_BAD_STREAMS, desk_feed_add(&feed, 0, NULL, 0, &taken));
+    IS(taken == 7);
+    DONE(desk_feed_read(&feed, &record, NULL));
+    IS(record.found == 1 && record.stream == 1 && record.kind == 9 && record.bytes == feed.window + DESK_WINDOW);
+    IS(memcmp(record.bytes, streams, 16) == 0);
+    DONE(desk_feed_finish(&feed, 1));
+    before = feed;
+    IS_NUMBER(DESK_DAMAGED, desk_feed_read(&feed, NULL, NULL));
+    IS_NUMBER(DESK_DAMAGED, desk_feed_read(&before, &record, &damage)); /* a copy goes its own way */
+    IS(record.found == 1 && damage.stream == 1 && damage.place == 16 && damage.reason == DESK_SHORT && before.held == 0);
+    DONE(desk_feed_read(&feed, &record, &damage));
+    IS(record.found == 0 && record.bytes == NULL);
+    IS(DESK_WINDOW_BYTES == DESK_STREAMS * DESK_WINDOW && DESK_WINDOW >= DESK_RECORD_BYTES);
+}
+
 /* ---- Names of numbers. */
 
 static void test_texts(void) {
@@ -280,6 +322,7 @@ static void test_texts(void) {
 int main(void) {
     test_nulls();
     test_unwanted();
+    test_feed();
     test_texts();
     printf("%u tried, %u failed\n", tried, failed);
     return failed != 0;

@@ -337,6 +337,92 @@ static uint32_t next_by_merge(const uint8_t *buffer, size_t buffer_len, const ui
     return number;
 }
 
+/* The same of a desk_feed. What a call is not handed holds a pattern, and has it afterwards. */
+static desk_feed feed;
+
+static void take_feed(const uint8_t *marks, const uint64_t *places, const uint64_t *heads, const uint64_t *spans) {
+    memset(&feed, 0x3C, sizeof feed - sizeof feed.window);
+    memcpy(feed.marks, marks, sizeof feed.marks), memcpy(feed.spans, spans, sizeof feed.spans);
+    if (places != NULL) memcpy(feed.places, places, sizeof feed.places), memcpy(feed.heads, heads, sizeof feed.heads);
+}
+
+static uint32_t open_by_feed(size_t streams, const uint64_t *hints, size_t hints_len, uint8_t *marks, size_t marks_len, uint64_t *times,
+                             size_t times_len, uint64_t *places, size_t places_len, uint64_t *heads, size_t heads_len, uint8_t *heap,
+                             size_t heap_len, uint64_t *spans, size_t spans_len, size_t *held) {
+    if (!whole_state(marks_len, times_len, places_len, heads_len, heap_len) || spans_len != DESK_STREAMS)
+        return desk_feed_open(streams, hints, hints_len, marks, marks_len, times, times_len, places, places_len, heads, heads_len, heap,
+                              heap_len, spans, spans_len, held);
+    take_feed(marks, places, heads, spans);
+    memcpy(feed.times, times, sizeof feed.times), memcpy(feed.heap, heap, sizeof feed.heap);
+    feed.held = *held;
+    uint32_t number = ASK(DESK_STACK, desk_feed_begin, &feed, streams, hints_len != 0 ? hints : NULL, hints_len);
+    memcpy(marks, feed.marks, sizeof feed.marks), memcpy(times, feed.times, sizeof feed.times);
+    memcpy(places, feed.places, sizeof feed.places), memcpy(heads, feed.heads, sizeof feed.heads);
+    memcpy(heap, feed.heap, sizeof feed.heap), memcpy(spans, feed.spans, sizeof feed.spans);
+    *held = feed.held;
+    return number;
+}
+
+static uint32_t bytes_by_feed(uint64_t stream, const uint8_t *portion, size_t portion_len, const uint8_t *marks, size_t marks_len,
+                              const uint64_t *places, size_t places_len, const uint64_t *heads, size_t heads_len, uint64_t *spans,
+                              size_t spans_len, uint8_t *window, size_t window_len, size_t *taken) {
+    static desk_feed was;
+    if (!whole_state(marks_len, spans_len, places_len, heads_len, DESK_STREAMS) || window_len != DESK_WINDOW_BYTES)
+        return desk_feed_bytes(stream, portion, portion_len, marks, marks_len, places, places_len, heads, heads_len, spans, spans_len,
+                               window, window_len, taken);
+    take_feed(marks, places, heads, spans);
+    memcpy(feed.window, window, sizeof feed.window);
+    was = feed;
+    uint32_t number = ASK(DESK_STACK, desk_feed_add, &feed, stream, portion_len != 0 ? portion : NULL, portion_len, taken);
+    memcpy(window, feed.window, sizeof feed.window), memcpy(spans, feed.spans, sizeof feed.spans);
+    memcpy(feed.window, was.window, sizeof feed.window), memcpy(feed.spans, was.spans, sizeof feed.spans);
+    is(memcmp(&feed, &was, sizeof feed) == 0, "desk_feed_add changes spans and window alone", __LINE__);
+    return number;
+}
+
+static uint32_t end_by_feed(uint64_t stream, const uint8_t *marks, size_t marks_len, uint64_t *spans, size_t spans_len) {
+    static desk_feed was;
+    if (marks_len != DESK_STREAMS || spans_len != DESK_STREAMS) return desk_feed_end(stream, marks, marks_len, spans, spans_len);
+    take_feed(marks, NULL, NULL, spans);
+    was = feed;
+    uint32_t number = ASK(DESK_STACK, desk_feed_finish, &feed, stream);
+    memcpy(spans, feed.spans, sizeof feed.spans), memcpy(feed.spans, was.spans, sizeof feed.spans);
+    is(memcmp(&feed, &was, sizeof feed) == 0, "desk_feed_finish changes spans alone", __LINE__);
+    return number;
+}
+
+static uint32_t next_by_feed(const uint8_t *window, size_t window_len, uint8_t *marks, size_t marks_len, uint64_t *times,
+                             size_t times_len, uint64_t *places, size_t places_len, uint64_t *heads, size_t heads_len, uint8_t *heap,
+                             size_t heap_len, uint64_t *spans, size_t spans_len, size_t *held, uint32_t *found, uint64_t *stream,
+                             uint64_t *place, size_t *at, uint16_t *length, uint16_t *kind, uint32_t *instrument, uint64_t *time,
+                             uint64_t *reason) {
+    if (!whole_state(marks_len, times_len, places_len, heads_len, heap_len) || spans_len != DESK_STREAMS || window_len != DESK_WINDOW_BYTES)
+        return desk_feed_next(window, window_len, marks, marks_len, times, times_len, places, places_len, heads, heads_len, heap, heap_len,
+                              spans, spans_len, held, found, stream, place, at, length, kind, instrument, time, reason);
+    desk_record r = {*found, *instrument, *stream, *place, *time, *length, *kind, window};
+    desk_damage broken = {*stream, *place, *reason};
+    take_feed(marks, places, heads, spans);
+    memcpy(feed.times, times, sizeof feed.times), memcpy(feed.heap, heap, sizeof feed.heap);
+    memcpy(feed.window, window, sizeof feed.window);
+    feed.held = *held;
+    uint32_t number = ASK(DESK_STACK, desk_feed_read, &feed, &r, &broken);
+    is(memcmp(feed.window, window, sizeof feed.window) == 0, "desk_feed_read leaves the window", __LINE__);
+    memcpy(marks, feed.marks, sizeof feed.marks), memcpy(times, feed.times, sizeof feed.times);
+    memcpy(places, feed.places, sizeof feed.places), memcpy(heads, feed.heads, sizeof feed.heads);
+    memcpy(heap, feed.heap, sizeof feed.heap), memcpy(spans, feed.spans, sizeof feed.spans);
+    *held = feed.held;
+    *found = r.found, *instrument = r.instrument, *time = r.time, *length = r.length, *kind = r.kind;
+    *stream = number == DESK_DAMAGED ? broken.stream : r.stream;
+    *place = number == DESK_DAMAGED ? broken.place : r.place;
+    *reason = broken.reason;
+    if (number == DESK_DONE) {
+        is((r.bytes == NULL) == (r.found != 1), "a record has bytes, and nothing else has", __LINE__);
+        *at = r.bytes != NULL ? (size_t)(r.bytes - feed.window) : 0;
+    } else
+        is(r.bytes == window, "a refusal leaves the record", __LINE__);
+    return number;
+}
+
 #define desk_check check_by_table
 #define desk_insert insert_by_table
 #define desk_get_for_ts get_by_table
@@ -361,4 +447,8 @@ static uint32_t next_by_merge(const uint8_t *buffer, size_t buffer_len, const ui
 #define desk_hint_of hint_by_metadata
 #define desk_open open_by_merge
 #define desk_next next_by_merge
+#define desk_feed_open open_by_feed
+#define desk_feed_bytes bytes_by_feed
+#define desk_feed_end end_by_feed
+#define desk_feed_next next_by_feed
 #include "test.c"

@@ -9,7 +9,8 @@
  *
  * Every call ends, on any content of the memory, and returns a number: DESK_DONE (0), or a refusal (desk_refusal_name, and
  * desk_refusal_text for a sentence). A refusal leaves everything as it was, with three exceptions, which the functions name again:
- * a refused build leaves an empty table, 6 sets its field and 13 its damage, and 13 from desk_merge_next moves the merge on.
+ * a refused build leaves an empty table, 6 sets its field and 13 its damage, and 13 from desk_merge_next and desk_feed_read moves the merge
+ * on.
  *
  * What a program owes, since none of it can be seen from inside:
  *   - lent memory is as long as the length beside it says; NULL with length 0 is fine. A result that is not wanted may be NULL, and
@@ -177,6 +178,14 @@ typedef struct desk_merge {
     uint8_t marks[DESK_STREAMS], heap[DESK_STREAMS];
 } desk_merge;
 
+/* A merge of record streams that arrive in portions, some 271 KB: static or allocated, not on a small stack. desk_feed_begin fills it,
+ * and no one else writes it. It holds at most DESK_WINDOW bytes of a stream, however long that is. */
+typedef struct desk_feed {
+    size_t held; /* streams not closed yet */
+    uint64_t times[DESK_STREAMS], places[DESK_STREAMS], heads[DESK_STREAMS], spans[DESK_STREAMS];
+    uint8_t marks[DESK_STREAMS], heap[DESK_STREAMS], window[DESK_WINDOW_BYTES];
+} desk_feed;
+
 /* ---- What functions tell. */
 
 /* A name's bytes, in the name list's memory; no zero byte ends them. */
@@ -209,11 +218,11 @@ typedef struct desk_explanation {
 
 /* A record that a merge hands out. At the end of the merge all of it is 0, and `bytes` is NULL. */
 typedef struct desk_record {
-    uint32_t found; /* 1, and 0 at the end */
+    uint32_t found; /* 1, and 0 at the end; of a desk_feed also DESK_NEED_MORE */
     uint32_t instrument;
     uint64_t stream, place, time; /* the place is counted from the stream's start */
     uint16_t length, kind;
-    const uint8_t *bytes; /* `length` of them, in the streams' buffer */
+    const uint8_t *bytes; /* `length` of them, in the streams' buffer or in the desk_feed */
 } desk_record;
 
 /* A stream that broke off, and where and why. */
@@ -556,6 +565,77 @@ static inline uint32_t desk_merge_next(desk_merge *merge, desk_record *record, d
         r->stream = stream;
         r->place = place;
         r->bytes = r->found != 0 && stream < merge->cuts_len ? merge->buffer + merge->cuts[stream] + place : NULL;
+    }
+    return number;
+}
+
+/* ---- Merging records of streams that arrive in portions:
+ *     for (;;) {
+ *         number = desk_feed_read(&feed, &record, &damage);
+ *         if (number == DESK_DONE && record.found == DESK_NEED_MORE) {
+ *             get bytes of stream record.stream, from the number taken so far on: desk_feed_add, and add *taken to that number;
+ *             or learn that there are none to come: desk_feed_finish;
+ *         } else if (number == DESK_DAMAGED) tell the damage;
+ *         else if (number != DESK_DONE || record.found == 0) break;
+ *         else use the record;
+ *     } */
+
+/* Opens streams of which nothing has come yet. A stream is first chosen by its hint; with no hints (NULL, 0) all are 0. 0; 15 never;
+ * 12 for no stream, over 256, or hints given and not one a stream.
+ * After 0: *feed stands before the first record. After 12: all as before. */
+static inline uint32_t desk_feed_begin(desk_feed *feed, size_t streams, const uint64_t *hints, size_t hints_len) {
+    uint64_t nothing = 0;
+    return desk_feed_open(streams, desk_longs_(hints, &nothing), hints_len, feed->marks, DESK_STREAMS, feed->times, DESK_STREAMS,
+                          feed->places, DESK_STREAMS, feed->heads, DESK_STREAMS, feed->heap, DESK_STREAMS, feed->spans, DESK_STREAMS,
+                          &feed->held);
+}
+
+/* The next bytes of a stream: as many are taken as fit; the rest is handed in later. A stream of which more is needed takes at least
+ * one, until it has taken 2^63. 0; 15 never; 12 for a stream that is not there, closed, or ended.
+ * After 0: *taken is the number of bytes taken from the portion's front, 0 too, and the bytes of a record that this stream handed out
+ * are no longer where they were. After 12: all as before. */
+static inline uint32_t desk_feed_add(desk_feed *feed, uint64_t stream, const uint8_t *portion, size_t portion_len, size_t *taken) {
+    uint64_t nothing = 0;
+    size_t unwanted = 0;
+    return desk_feed_bytes(stream, desk_read_(portion, &nothing), portion_len, feed->marks, DESK_STREAMS, feed->places, DESK_STREAMS,
+                           feed->heads, DESK_STREAMS, feed->spans, DESK_STREAMS, feed->window, DESK_WINDOW_BYTES,
+                           taken != NULL ? taken : &unwanted);
+}
+
+/* A stream has ended: no byte of it is to come. 0; 15 never; 12 for a stream that is not there, closed, or ended.
+ * After 0: *feed knows. After 12: all as before. */
+static inline uint32_t desk_feed_finish(desk_feed *feed, uint64_t stream) {
+    return desk_feed_end(stream, feed->marks, DESK_STREAMS, feed->spans, DESK_STREAMS);
+}
+
+/* The next record, by time, then stream; the damage of a stream, which is closed by it, while the others go on; the end, which stays;
+ * or that more of a stream is needed first. 0, 13, and 15 of a feed that desk_feed_begin did not make, which says nothing whatever the
+ * number is.
+ * After 0: *record is the record, whose bytes stand in the feed until the next desk_feed_read, or desk_feed_add to its stream; at the
+ * end all of it is 0; where more is needed `found` is DESK_NEED_MORE, `stream` the stream, and all else 0; *damage is as before. After
+ * 13: *damage is the damage, *record is as before. After both *feed stands before what comes next. After 15: all as before. */
+static inline uint32_t desk_feed_read(desk_feed *feed, desk_record *record, desk_damage *damage) {
+    uint64_t stream = 0, place = 0, time = 0, reason = 0;
+    uint32_t found = 0, instrument = 0, number;
+    uint16_t length = 0, kind = 0;
+    size_t at = 0;
+    number = desk_feed_next(feed->window, DESK_WINDOW_BYTES, feed->marks, DESK_STREAMS, feed->times, DESK_STREAMS, feed->places,
+                            DESK_STREAMS, feed->heads, DESK_STREAMS, feed->heap, DESK_STREAMS, feed->spans, DESK_STREAMS, &feed->held,
+                            &found, &stream, &place, &at, &length, &kind, &instrument, &time, &reason);
+    if (number == DESK_DAMAGED && damage != NULL) {
+        damage->stream = stream;
+        damage->place = place;
+        damage->reason = reason;
+    }
+    if (number == DESK_DONE && record != NULL) {
+        record->found = found;
+        record->instrument = instrument;
+        record->stream = stream;
+        record->place = place;
+        record->time = time;
+        record->length = length;
+        record->kind = kind;
+        record->bytes = found == 1 && at < DESK_WINDOW_BYTES ? feed->window + at : NULL;
     }
     return number;
 }

@@ -6,8 +6,8 @@
  *
  * What stands behind the pointers afterwards each function says by the number returned. "As before" is as it was at the call. What
  * is not named there is as before, and what a pointer to const leads to always is. In short: a refusal leaves all as before, but a
- * refused build leaves an empty table, 6 sets its field, 13 its reason, and 13 from desk_next its stream and place too, and it
- * moves the state of the merge on as 0 does.
+ * refused build leaves an empty table, 6 sets its field, 13 its reason, and 13 from desk_next and desk_feed_next its stream and
+ * place too, and it moves the state of the merge on as 0 does.
  *
  * What a caller owes. None of it can be seen from inside, so nothing tests it:
  *   - a pointer beside a length points to as many elements as the length says, one to a single number to that number;
@@ -41,6 +41,9 @@ extern "C" {
 #define DESK_NAME_LIST_BYTES 65536 /* the most bytes of all names together */
 #define DESK_NAME_BYTES 255       /* the most bytes of one name */
 #define DESK_STREAMS 256          /* the most streams of a merge, and the places of each of its arrays */
+#define DESK_WINDOW 1024          /* the most bytes of a stream that are held where streams arrive in portions */
+#define DESK_WINDOW_BYTES 262144  /* DESK_STREAMS windows */
+#define DESK_NEED_MORE 2          /* *found of desk_feed_next: more of *stream is needed first */
 #define DESK_RECORD_HEADER 16     /* a record's least length: whole length 2, kind 2, instrument 4, timestamp 8 */
 #define DESK_RECORD_BYTES 1024    /* a record's greatest length */
 #define DESK_SYMBOL_MAPPING 2     /* the kind of a symbol mapping record: start 8, end 8, then the name */
@@ -337,6 +340,59 @@ uint32_t desk_next(const uint8_t *buffer, size_t buffer_len, const uint64_t *cut
                    size_t marks_len, uint64_t *times, size_t times_len, uint64_t *places, size_t places_len, uint64_t *heads,
                    size_t heads_len, uint8_t *heap, size_t heap_len, size_t *held, uint32_t *found, uint64_t *stream,
                    uint64_t *place, uint16_t *length, uint16_t *kind, uint32_t *instrument, uint64_t *time, uint64_t *reason);
+
+/* ---- Merging records of streams that arrive in portions, in constant memory: a stream's bytes come as they come, and a separate word
+ * says that it has ended. Whatever the portions, the records, damages, places and the end are those of desk_next on the whole streams;
+ * where the next one is not certain yet, the answer is that more of one stream is needed first.
+ *
+ * The state stands in the five arrays of a merge, in `spans`, 256 places too, in the window, 1,024 bytes a stream, and in *held;
+ * between desk_feed_open and the last call on it the caller hands in the state as the call before left it, and changes none of it.
+ * Kept of a stream are the bytes that were taken and not yet read past; a record counts until the desk_feed_next after it is handed
+ * out.
+ *
+ * What a state says: marks, times, places, heap and *held as above, and heads of a stream that stands at a record. Of one that waits
+ * heads[p] is the length of the record that it handed out last, as long as that still counts, else 0. spans[p] of a stream that is not
+ * closed is start + 65536 x fill, and 4294967296 more where it has been ended: `fill` bytes are kept, in the window from 1024 x p +
+ * start on. The first of them is the stream's byte at places[p], or where a record still counts that record's first. What else arrays
+ * and window hold says nothing. */
+
+/* Opens `streams` streams of which nothing has come yet, each at its hint; an empty hint list means all hints 0. 15 where an array has
+ * not 256 places; 12 for no stream, over 256, or hints given and not one per stream.
+ * After 0: *held is the number of streams, and in the state each waits at place 0 with its hint; every other place of marks, times and
+ * heap and every place of places, heads and spans is 0. After any other answer: all as before. */
+uint32_t desk_feed_open(size_t streams, const uint64_t *hints, size_t hints_len, uint8_t *marks, size_t marks_len, uint64_t *times,
+                        size_t times_len, uint64_t *places, size_t places_len, uint64_t *heads, size_t heads_len, uint8_t *heap,
+                        size_t heap_len, uint64_t *spans, size_t spans_len, size_t *held);
+
+/* A portion of a stream, of any length, 0 too: as many of its bytes are taken as fit; the rest is handed in later. 15 where an array
+ * has not 256 places or the window not DESK_WINDOW_BYTES; 12 for a stream that is not there, closed, or ended.
+ * After 0: *taken is the number of bytes taken from the portion's front: as many as there are, but no more than make 1,024 kept and
+ * 2^63 in all since the opening. What is kept stands from 1024 x stream on, the bytes taken behind what was kept before, and
+ * spans[stream] says so; every other byte of the window is as before. A stream of which more is needed takes at least one byte of a
+ * portion that is not empty, unless 2^63 were taken. After any other answer: all as before. */
+uint32_t desk_feed_bytes(uint64_t stream, const uint8_t *portion, size_t portion_len, const uint8_t *marks, size_t marks_len,
+                         const uint64_t *places, size_t places_len, const uint64_t *heads, size_t heads_len, uint64_t *spans,
+                         size_t spans_len, uint8_t *window, size_t window_len, size_t *taken);
+
+/* The word that a stream has ended: no byte of it is to come. 15 where an array has not 256 places; 12 for a stream that is not there,
+ * closed, or ended.
+ * After 0: spans[stream] says that it has been ended. After any other answer: all as before. */
+uint32_t desk_feed_end(uint64_t stream, const uint8_t *marks, size_t marks_len, uint64_t *spans, size_t spans_len);
+
+/* As desk_next, of what has come so far; or that more of a stream is needed first: the least by time, then stream, waits to be read,
+ * was not ended, and what has come of it holds neither a whole record nor 16 bytes with a length outside 16 to 1,024. 0, 15 where an
+ * array has not 256 places, the window not DESK_WINDOW_BYTES, or *held is over 256, 13.
+ * After 0: *found is 1, and *stream, *place (from the stream's start), *length, *kind, *instrument and *time are the record's, whose
+ * bytes stand in the window from *at on until the next desk_feed_next or desk_feed_bytes of this stream; at the end *found and these
+ * seven are 0; where more is needed *found is DESK_NEED_MORE, *stream the stream, and the other six are 0. *held and the arrays are
+ * the state after the call; a call that needs more may have read other streams, to their ends too, and goes on from there. After 13:
+ * *stream is damaged at *place for *reason, and *held and the arrays are the state after the call too, with which the caller goes on;
+ * *found, *at, *length, *kind, *instrument and *time are as before. After 15: all as before. On a state that these calls did not make
+ * neither the number nor what the call writes says anything. */
+uint32_t desk_feed_next(const uint8_t *window, size_t window_len, uint8_t *marks, size_t marks_len, uint64_t *times, size_t times_len,
+                        uint64_t *places, size_t places_len, uint64_t *heads, size_t heads_len, uint8_t *heap, size_t heap_len,
+                        uint64_t *spans, size_t spans_len, size_t *held, uint32_t *found, uint64_t *stream, uint64_t *place, size_t *at,
+                        uint16_t *length, uint16_t *kind, uint32_t *instrument, uint64_t *time, uint64_t *reason);
 
 #ifdef __cplusplus
 }

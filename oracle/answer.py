@@ -8,7 +8,7 @@ memory, which the Rust has not.
 import sys
 
 import model
-from model import Lent, Metadata, NameList, PlainMerge, RecordMerge, Refused
+from model import FeedMerge, Lent, Metadata, NameList, PlainMerge, RecordMerge, Refused
 
 
 class Case:
@@ -177,16 +177,22 @@ def build_day(case):
     return words(*with_values(lambda: model.built_for_day(case.metadata(), names, model.ROOM, asked)))
 
 
-def records(case):
-    """Records of 16 bytes, so that a place is 16 times the record's number; three stray bytes are the damage."""
-    hints, streams = case.numbers(), []
+def streams_of(case):
+    """The buffer and the cuts of the streams of a case of `records`."""
+    streams = []
     for _ in range(case.number()):
         damaged, times = case.number(), case.numbers()
         streams.append(b"".join(model.FRAME.pack(16, 0, 0, time) for time in times) + bytes(3 * damaged))
     cuts = [0]
     for stream in streams:
         cuts.append(cuts[-1] + len(stream))
-    out = run(RecordMerge, b"".join(streams), cuts, hints)
+    return b"".join(streams), cuts
+
+
+def records(case):
+    """Records of 16 bytes, so that a place is 16 times the record's number; three stray bytes are the damage."""
+    hints = case.numbers()
+    out = run(RecordMerge, *streams_of(case), hints)
     return " ; ".join(
         f"r {given[1]} {int(given[2]) // 16} {given[6]}" if given[0] == "r" else given[0]
         for given in (answer.split() for answer in out)
@@ -320,6 +326,47 @@ def plain(case):
     return " ; ".join(run(PlainMerge, case.bytes(), case.numbers(), case.numbers()))
 
 
+WHOLE = 4095
+
+
+def feed(case):
+    """Calls to the second end, with portions unasked before each and asked for after "need more", as the script has them (README.md)."""
+    buffer, cuts, hints, script = case.bytes(), case.numbers(), case.numbers(), case.numbers()
+    streams = [buffer[first:end] for first, end in zip(cuts, cuts[1:])]
+    answer, merge = answer_of(lambda: FeedMerge(len(streams), hints))
+    if merge is None:
+        return words(answer)
+    come, out, used, ends = [0] * len(streams), [], 0, 0
+
+    def portion(stream, size):
+        left = streams[stream][come[stream] :] if stream < len(streams) else b""
+        if size == WHOLE and not left:
+            out.append("x " + words(answer_of(lambda: merge.end(stream))[0]))
+            return
+        answer, taken = answer_of(lambda: merge.add(stream, left[:size]))
+        out.append("p " + words(answer) + ("" if taken is None else f" {taken}"))
+        if taken:
+            come[stream] += taken
+
+    while ends < 2:
+        portion(*divmod(script[used % len(script)], 4096))
+        used += 1
+        answer, got = answer_of(merge.next)
+        if answer != (0,):
+            out.append("d " + words(answer[1:], len(merge.heads)))
+        elif got is None:
+            out.append("e")
+            ends += 1
+        elif len(got) == 1:
+            stream, size = got[0], script[used % len(script)] % 4096
+            used += 1
+            out.append(f"n {stream} {len(merge.heads)}")
+            portion(stream, max(1, size) if come[stream] < len(streams[stream]) else WHOLE)
+        else:
+            out.append("r " + words(got, len(merge.heads)))
+    return " ; ".join(out)
+
+
 def replay(case):
     return words(model.replay(case.bytes()).encode())
 
@@ -361,6 +408,7 @@ KINDS = {
     "open_metadata": open_metadata,
     "merge_metadata": merge_metadata,
     "streams": streams,
+    "feed": feed,
     "plain": plain,
     "replay": replay,
     "compare_program": compare_program,

@@ -2,7 +2,8 @@
 """Prints cases, one a line: cases.py PART SIZE [SEED].
 
 PART is `domain` (the rules' equality domain: the Rust and the model agree), `beyond` (outside it: they may not),
-`lent` (lent memory: the model and the port alone) or `plain` (the plain engine: the same two). SIZE is `quick` or `long`.
+`lent` (lent memory: the model and the port alone), `portions` (streams in portions: the same two) or `plain` (the plain
+engine: the same two). SIZE is `quick` or `long`.
 A seed that was not given is drawn, and printed on standard error. Exits with 2 for another PART, SIZE or SEED.
 """
 
@@ -12,7 +13,7 @@ from itertools import product
 
 import lent
 import model
-from answer import words
+from answer import Case, streams_of, words
 from model import TOP
 
 
@@ -218,6 +219,22 @@ def long_streams(rng, kind="records", damage=0.0):
     return f"{kind} {words(hints)} {count}{line}"
 
 
+def whole_streams(rng, long, fewer=1):
+    yield from ["records 0 0", "records 1 0 0", "records 1 0 2 0 0 0 0", "records 2 0 0 1 0 0"]
+    yield from (line for count in (1, 2) for line in short_streams(count, 3, 3, None))
+    yield from (line for count in (1, 2) for line in short_streams(count, 3, 3, range(3)))
+    yield from short_streams(3, 3 if long else 2, 3, None)
+    yield from short_streams(3, 2 if long else 1, 3, range(3))
+    yield from (long_streams(rng) for _ in range((3_000 if long else 300) // fewer))
+
+
+def damaged_streams(rng, long, fewer=1):
+    for count in (1, 2):
+        yield from short_streams(count, 2, 3, None, (0, 1))
+        yield from short_streams(count, 2, 3, range(2), (0, 1))
+    yield from (long_streams(rng, damage=0.2) for _ in range((1_000 if long else 100) // fewer))
+
+
 def domain(rng, long):
     """The equality domain; and reversed intervals in builds, on which both sides agree as well."""
     times = 10 if long else 1
@@ -233,12 +250,7 @@ def domain(rng, long):
     yield from (any_merge(rng) for _ in range(10_000 * times))
     yield from (build(rng, reversed_=0.05) for _ in range(10_000 * times))
     yield from (build_day(rng, reversed_=0.05) for _ in range(10_000 * times))
-    yield from ["records 0 0", "records 1 0 0", "records 1 0 2 0 0 0 0", "records 2 0 0 1 0 0"]
-    yield from (line for count in (1, 2) for line in short_streams(count, 3, 3, None))
-    yield from (line for count in (1, 2) for line in short_streams(count, 3, 3, range(3)))
-    yield from short_streams(3, 3 if long else 2, 3, None)
-    yield from short_streams(3, 2 if long else 1, 3, range(3))
-    yield from (long_streams(rng) for _ in range(300 * times))
+    yield from whole_streams(rng, long)
     yield from (long_streams(rng, "decoder") for _ in range(300 * times))
 
 
@@ -246,10 +258,7 @@ def beyond(rng, long):
     """Damage, dates out of range, and reversed intervals in a metadata merge."""
     times = 10 if long else 1
     outside = [*SOME_DATES, 19691231, 25540722, 99991231]
-    for count in (1, 2):
-        yield from short_streams(count, 2, 3, None, (0, 1))
-        yield from short_streams(count, 2, 3, range(2), (0, 1))
-    yield from (long_streams(rng, damage=0.2) for _ in range(100 * times))
+    yield from damaged_streams(rng, long)
     yield from (f"day {date}" for date in [19691231, 25540722, 99991231, 100000101, 4294967295])
     yield from (f"date {day}" for day in [213_504, 2_932_896, 2_932_897])
     yield from (any_merge(rng, reversed_=0.3) for _ in range(3_000 * times))
@@ -269,9 +278,34 @@ def plain(rng, long):
         yield words("plain", b"".join(streams), cuts, [rng.randrange(9) for _ in streams])
 
 
+def in_portions(rng, line):
+    """A case of `records` or `streams` again, its streams in drawn portions, some of them unasked; None where its cuts are wrong."""
+    case = Case(line)
+    if next(case.words) == "records":
+        hints = case.numbers()
+        buffer, cuts = streams_of(case)
+    else:
+        buffer, cuts, hints = case.bytes(), case.numbers(), case.numbers()
+    if cuts[0] != 0 or cuts != sorted(cuts) or cuts[-1] != len(buffer):
+        return None
+    drawn = [[0, 1, 5, 7], [3, 15, 16, 17], [100, 1023, 1024, 1025], [0, 1, 16, 300, 2000, 4094]]
+    sizes = rng.choice(drawn[2 if len(buffer) > 1000 else 0 :])
+    script = [4096 * rng.randrange(len(cuts)) + rng.choice([*sizes, 4095]) for _ in range(rng.randrange(1, 8))]
+    if rng.random() < 0.1:
+        script.append(4096 * rng.choice([len(cuts), 255, 256, 2**51]) + rng.choice([0, 5, 4095]))
+    return words("feed", buffer, cuts, hints, script)
+
+
+def portions(rng, long):
+    """Every case of `records`, of the drawn ones some, and cases of `streams`, again in portions (RULES, Requests, No. 5)."""
+    lines = [*whole_streams(rng, long, 3), *damaged_streams(rng, long, 3)]
+    lines += (lent.merge_case("streams", rng, faults) for faults in (0, 0.3) for _ in range(20_000 if long else 2_000))
+    yield from (line for line in (in_portions(rng, line) for line in lines) if line)
+
+
 def asked(part, size, seed=None):
     """The cases that the arguments ask for."""
-    maker = {"domain": domain, "beyond": beyond, "lent": lent.cases, "plain": plain}[part]
+    maker = {"domain": domain, "beyond": beyond, "lent": lent.cases, "plain": plain, "portions": portions}[part]
     long = {"quick": False, "long": True}[size]
     if seed is None:
         seed = random.randrange(2**32)
