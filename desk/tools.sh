@@ -23,10 +23,16 @@ case $how in cc | kit) ;; *) echo "desk: DESK_CC=$how: there are cc and kit" >&2
 make_archive() {
     mkdir -p target/desk || return
     if [ -e "$archive" ] && [ -z "$(find crates crates.txt -newer "$archive" -print -quit)" ]; then return; fi
-    local door
-    for door in "${doors[@]}"; do
-        if [ -t 2 ]; then echo "desk: proving and building $door" >&2; fi
-        rt staticlib "$door" >target/desk/staticlib.log 2>&1 || { cat target/desk/staticlib.log; echo "desk: the archive of $door failed"; return 1; }
+    local door job jobs=()
+    if [ -t 2 ]; then echo "desk: proving and building ${doors[*]}" >&2; fi
+    rt check "${doors[@]}" >target/desk/staticlib.log 2>&1 || { cat target/desk/staticlib.log; echo 'desk: the doors are not proved'; return 1; }
+    for door in "${doors[@]}"; do # side by side: what they share is proved by now
+        rt staticlib "$door" >"target/desk/staticlib.$door.log" 2>&1 &
+        jobs+=($!)
+    done
+    for job in "${!jobs[@]}"; do
+        door=${doors[job]}
+        wait "${jobs[job]}" || { cat "target/desk/staticlib.$door.log"; echo "desk: the archive of $door failed"; return 1; }
     done
     rm -f "$archive"
     { echo "create $archive"; printf 'addlib target/staticlib/lib%s.a\n' "${doors[@]}"; echo save; echo end; } | "$toolchain/bin/llvm-ar" -M ||
