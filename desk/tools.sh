@@ -19,7 +19,7 @@ fi
 if [ -n "${DESK_CC:-}" ]; then how=$DESK_CC; elif [ "$machine" = x86_64 ] && command -v cc >/dev/null; then how=cc; else how=kit; fi
 case $how in cc | kit) ;; *) echo "desk: DESK_CC=$how: there are cc and kit" >&2; exit 2 ;; esac
 
-# the archive of every door's exports, unless it is newer than everything that it is made of; a terminal is told of each door
+# the archive of every door's exports, unless it is newer than everything that it is made of; a terminal is told so
 make_archive() {
     mkdir -p target/desk || return
     if [ -e "$archive" ] && [ -z "$(find crates crates.txt -newer "$archive" -print -quit)" ]; then return; fi
