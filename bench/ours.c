@@ -333,6 +333,30 @@ static void plain_records(uint64_t steps, uint64_t most, size_t streams) {
     }
 }
 
+/* The same records of streams that arrive in portions of so many bytes, each handed in where more is needed, what was not taken again. */
+static void fed_records(uint64_t steps, uint64_t most, size_t streams, uint64_t portion) {
+    static desk_feed feed;
+    static uint64_t come[DESK_STREAMS];
+    lay_streams(most, streams);
+    if (desk_feed_begin(&feed, streams, NULL, 0) != DESK_DONE) stop("the streams were refused");
+    for (uint64_t i = 0; i < steps;) {
+        desk_record r;
+        if (desk_feed_read(&feed, &r, NULL) != DESK_DONE || r.found == 0) stop("a record was not handed out");
+        if (r.found == DESK_NEED_MORE) {
+            const uint8_t *at = buffer + cuts[r.stream] + come[r.stream];
+            uint64_t left = cuts[r.stream + 1] - cuts[r.stream] - come[r.stream];
+            size_t taken = 0;
+            if ((left == 0 ? desk_feed_finish(&feed, r.stream)
+                           : desk_feed_add(&feed, r.stream, at, left < portion ? left : portion, &taken)) != DESK_DONE)
+                stop("a portion or an end was refused");
+            come[r.stream] += taken;
+            continue;
+        }
+        digest = digest * 31 + (r.time ^ r.instrument);
+        i++;
+    }
+}
+
 /* ---- Metadata. */
 
 struct metadata {
@@ -449,6 +473,12 @@ int main(int words, char **word) {
     else if (!strcmp(row, "plain-4")) plain_records(steps, 200000, 4);
     else if (!strcmp(row, "plain-16")) plain_records(steps, 200000, 16);
     else if (!strcmp(row, "plain-256")) plain_records(steps, 200000, 256);
+    else if (!strcmp(row, "feed-4")) fed_records(steps, 200000, 4, 65536);
+    else if (!strcmp(row, "feed-16")) fed_records(steps, 200000, 16, 65536);
+    else if (!strcmp(row, "feed-256")) fed_records(steps, 200000, 256, 65536);
+    else if (!strcmp(row, "feed-small-4")) fed_records(steps, 200000, 4, 100);
+    else if (!strcmp(row, "feed-small-16")) fed_records(steps, 200000, 16, 100);
+    else if (!strcmp(row, "feed-small-256")) fed_records(steps, 200000, 256, 100);
     else if (!strcmp(row, "metadata-copy")) merges(steps, 4096, 0, 4096);
     else if (!strcmp(row, "metadata-apart")) merges(steps, 2048, 2048, 4096);
     else if (!strcmp(row, "build")) builds(steps, 4096, 0, 0);
