@@ -1,3 +1,4 @@
 pub mod Merge
 pub mod MergeLaws
 pub mod Hints
+pub mod Run
