@@ -1,4 +1,3 @@
 pub mod Merge
 pub mod MergeLaws
 pub mod Hints
-pub mod Run

@@ -1,4 +1,3 @@
-// The record merge exported to C, call by call and many calls at once, and a stream's hint from its metadata.
+// The record merge exported to C, and a stream's hint from its metadata.
 pub mod hints;
 pub mod merge;
-pub mod run;

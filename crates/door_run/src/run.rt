@@ -16,7 +16,7 @@ ghost use Rattle.leaves.specs.Refusal.{refused};
 ghost use Rattle.records_rules.specs.Bytes.{streamsOf};
 ghost use Rattle.records_rules.specs.State.{arraysFit, StateOk, Untouched};
 ghost use Rattle.records_run.specs.Run.{runFits, most};
-ghost use Rattle.door_records.specs.Run.{movedIn, RunHanded, RunMade};
+ghost use Rattle.door_run.specs.Run.{movedIn, RunHanded, RunMade};
 
 // Bad memory.
 const BAD_MEMORY: u32 = 15;

@@ -1,10 +1,10 @@
 -- Each arm of the match is what its case says. Assumes nothing.
 use Rattle.records_run.specs.Run.{lastOf}
 use Rattle.door_answers.specs.AnswersLaws.{answer-same}
-use Rattle.door_records.specs.Run.{makes-same, ran-done, ran-not}
+use Rattle.door_run.specs.Run.{makes-same, ran-done, ran-not}
 use borrow.Author.Needs.{needs}
-use Rattle.door_records.proofs.run.desk_run.Statement.{statement}
-use Rattle.door_records.proofs.run.desk_run.Tie as tie
+use Rattle.door_run.proofs.run.desk_run.Statement.{statement}
+use Rattle.door_run.proofs.run.desk_run.Tie as tie
 
 run-requires : tie.Need-run-requires
 run-requires c κs = search needs

@@ -1,10 +1,10 @@
 -- The number tells bad memory from every other refusal. Assumes nothing.
 use mathlib.Core.Path.{sym, _∙_}
 use borrow.Author.Tests.{eq-eqb, ne-eqb}
-use Rattle.door_records.specs.Run.{movedIn}
+use Rattle.door_run.specs.Run.{movedIn}
 use borrow.Author.Needs.{needs}
-use Rattle.door_records.proofs.run.moved.Statement.{statement}
-use Rattle.door_records.proofs.run.moved.Tie as tie
+use Rattle.door_run.proofs.run.moved.Statement.{statement}
+use Rattle.door_run.proofs.run.moved.Tie as tie
 
 number-requires : tie.Need-number-requires
 number-requires c κs = search needs
