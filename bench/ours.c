@@ -304,6 +304,31 @@ static void records(uint64_t steps, uint64_t most, size_t streams) {
     }
 }
 
+/* The same records by runs of 100, as a desktop asks for a page of them. */
+static void run_records(uint64_t steps, uint64_t most, size_t streams) {
+    static uint64_t list[100 * DESK_RUN_WORDS];
+    lay_streams(most, streams);
+    size_t opened, held;
+    if (desk_open(buffer, cuts[streams], cuts, streams + 1, cuts, 0, marks, DESK_STREAMS, times, DESK_STREAMS, places, DESK_STREAMS,
+                  heads, DESK_STREAMS, heap, DESK_STREAMS, &opened, &held) != DESK_DONE)
+        stop("the streams were refused");
+    for (uint64_t i = 0; i < steps; i += 100) {
+        size_t calls, written;
+        uint32_t last;
+        uint64_t stream, place, reason;
+        if (desk_run(buffer, cuts[streams], cuts, streams + 1, marks, DESK_STREAMS, times, DESK_STREAMS, places, DESK_STREAMS, heads,
+                     DESK_STREAMS, heap, DESK_STREAMS, &held, 100, list, 100 * DESK_RUN_WORDS, &calls, &written, &last, &stream, &place,
+                     &reason) != DESK_DONE || written != 100)
+            stop("a page was not handed out");
+        for (size_t k = 0; k < written; k++) {
+            const uint64_t *row = list + DESK_RUN_WORDS * k;
+            const uint8_t *at = buffer + cuts[row[0]] + row[1];
+            uint32_t number = at[4] | (uint32_t)at[5] << 8 | (uint32_t)at[6] << 16 | (uint32_t)at[7] << 24;
+            digest = digest * 31 + (row[2] ^ number);
+        }
+    }
+}
+
 /* The plain engine's exports (crates/bench_plain), which are in no library and no header. */
 uint32_t plain_open(const uint8_t *buffer, size_t buffer_len, const uint64_t *cuts, size_t cuts_len, const uint64_t *hints,
                     size_t hints_len, uint8_t *marks, size_t marks_len, uint64_t *times, size_t times_len, uint64_t *places,
@@ -467,6 +492,9 @@ int main(int words, char **word) {
     else if (!strcmp(row, "explain")) explanations(steps, explain);
     else if (!strcmp(row, "explain-check")) explanations(steps, check_once);
     else if (!strcmp(row, "explain-lookup")) explanations(steps, look_once);
+    else if (!strcmp(row, "run-4")) run_records(steps, 200000, 4);
+    else if (!strcmp(row, "run-16")) run_records(steps, 200000, 16);
+    else if (!strcmp(row, "run-256")) run_records(steps, 200000, 256);
     else if (!strcmp(row, "merge-4") || !strcmp(row, "ready-4")) records(steps, 200000, 4);
     else if (!strcmp(row, "merge-16") || !strcmp(row, "ready-16")) records(steps, 200000, 16);
     else if (!strcmp(row, "merge-256") || !strcmp(row, "ready-256")) records(steps, 200000, 256);

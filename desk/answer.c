@@ -487,6 +487,40 @@ static void streams(void) {
     merge(buffer, len, cuts, cuts_len, hints, hints_len, 1);
 }
 
+/* Runs one after the other on one opening, each with its allowance and a list of so many words of 9; every number held 9 before. */
+static void runs(void) {
+    size_t len, cuts_len, hints_len, asked_len, streams = 0, held = 0;
+    const uint8_t *buffer = bytes(&len);
+    const uint64_t *cuts = numbers(&cuts_len), *hints = numbers(&hints_len), *asked = numbers(&asked_len);
+    uint32_t answer = desk_open(buffer, len, cuts, cuts_len, hints, hints_len, marks, DESK_STREAMS, times, DESK_STREAMS, places,
+                                DESK_STREAMS, heads, DESK_STREAMS, heap, DESK_STREAMS, &streams, &held);
+    if (answer != DESK_DONE) {
+        put_number(answer);
+        return;
+    }
+    for (size_t i = 0; i + 1 < asked_len; i += 2) {
+        size_t words = asked[i + 1], calls = 9, written = 9, taken = 0, behind = 0;
+        uint32_t last = 9;
+        uint64_t stream = 9, place = 9, reason = 9, *list = lend(words * 8);
+        for (size_t k = 0; k < words; k++) list[k] = 9;
+        answer = desk_run(buffer, len, cuts, cuts_len, marks, DESK_STREAMS, times, DESK_STREAMS, places, DESK_STREAMS, heads,
+                          DESK_STREAMS, heap, DESK_STREAMS, &held, asked[i], list, words, &calls, &written, &last, &stream, &place,
+                          &reason);
+        next_answer();
+        put_number(answer), put_number(calls), put_number(written), put_number(last);
+        put_number(stream), put_number(place), put_number(reason);
+        if (answer == DESK_BAD_MEMORY) {
+            for (size_t k = 0; k < words; k++)
+                if (list[k] != 9) fail("a refused run wrote to its list");
+            continue;
+        }
+        put_number(DESK_RUN_WORDS * written);
+        for (; taken < DESK_RUN_WORDS * written && taken < words; taken++) put_number(list[taken]);
+        for (size_t k = taken; k < words; k++) behind += list[k] != 9;
+        put_number(behind);
+    }
+}
+
 /* Each stream's hint in the place of its metadata's start, by the door; the number of the first that is refused. */
 static uint32_t starts_to_hints(uint64_t *starts, size_t len) {
     for (size_t p = 0; p < len; p++) {
@@ -856,6 +890,7 @@ static void answer_case(void) {
     else if (is(kind, len, "decoder")) records(1);
     else if (is(kind, len, "streams")) streams();
     else if (is(kind, len, "feed")) fed();
+    else if (is(kind, len, "runs")) runs();
     else if (is(kind, len, "merge")) merge_all();
     else if (is(kind, len, "open_metadata")) open_metadata();
     else if (is(kind, len, "merge_metadata")) merge_metadata();

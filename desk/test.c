@@ -18,21 +18,21 @@ static void is(int holds, const char *what, int line) {
 
 /* ---- What is lent, all in one piece, so that one comparison finds any change. */
 
-enum { ROOM = 4, POINTS = 3, NAMES = 4, NAME_ROOM = 300, BUFFER = 96, STRETCHES = 6 };
+enum { ROOM = 4, POINTS = 3, NAMES = 4, NAME_ROOM = 300, BUFFER = 96, STRETCHES = 6, RUN_ROOM = 12 };
 enum { SYMBOLS, PARTIAL, NOT_FOUND, MAPPINGS, INTERVALS, LISTS }; /* of a metadata */
 enum { LIST_ROOM = 24 };                                          /* words of each */
 
 static struct desk {
     uint64_t hint, moment, reason, stream, place, time, index, from, to, next_from, next_to;
     uint64_t times[DESK_STREAMS + 1], places[DESK_STREAMS + 1], heads[DESK_STREAMS + 1], spans[DESK_STREAMS + 1];
-    size_t used, points_used, names, name_bytes, first, end, streams, held, count, at, taken;
-    uint32_t found, symbol, day, date, value, instrument, told, next_symbol;
+    size_t used, points_used, names, name_bytes, first, end, streams, held, count, at, taken, calls, written;
+    uint32_t found, last, symbol, day, date, value, instrument, told, next_symbol;
     uint32_t ends[NAMES + 1];
     uint16_t length, kind;
     uint8_t table[(ROOM + 1) * DESK_INTERVAL_BYTES], points[(POINTS + 1) * DESK_POINT_BYTES], bytes[NAME_ROOM + 1];
     uint8_t other[(ROOM + 1) * DESK_INTERVAL_BYTES], stretches[STRETCHES * DESK_STRETCH_BYTES];
     uint8_t marks[DESK_STREAMS + 1], heap[DESK_STREAMS + 1];
-    uint64_t header[DESK_HEADER_WORDS + 1];
+    uint64_t header[DESK_HEADER_WORDS + 1], rows[RUN_ROOM];
     uint32_t list[LISTS][LIST_ROOM], field;
 } d, was;
 
@@ -761,6 +761,112 @@ static void test_feed(void) {
         d.held = held;
         for (uint64_t i = 0; i < 3; i++) feed_next(), feed_bytes(i, 2000), feed_end(i);
         IS(d.held <= held && d.marks[256] == 0xA5 && d.heap[256] == 0xA5 && window[DESK_WINDOW_BYTES] == 0xA5);
+
+/* A run of so many calls at most, its list of so many words; `less` places of the marks are missing. */
+static uint32_t run(size_t len, const uint64_t *cuts, size_t cuts_len, size_t less, size_t allowance, size_t words) {
+    return desk_run(buffer, len, cuts, cuts_len, d.marks, DESK_STREAMS - less, d.times, DESK_STREAMS, d.places, DESK_STREAMS, d.heads,
+                    DESK_STREAMS, d.heap, DESK_STREAMS, &d.held, allowance, d.rows, words, &d.calls, &d.written, &d.last, &d.stream,
+                    &d.place, &d.reason);
+}
+
+/* The row i of the list. */
+static int row_is(size_t i, uint64_t stream, uint64_t place, uint64_t time) {
+    return d.rows[3 * i] == stream && d.rows[3 * i + 1] == place && d.rows[3 * i + 2] == time;
+}
+
+/* What a run counted, and how it stopped. */
+static int ran(size_t calls, size_t written, uint32_t last) {
+    return d.calls == calls && d.written == written && d.last == last;
+}
+
+static void test_run(void) {
+    static const uint64_t cuts[] = {0, 19, 35}, one[] = {0, 32}, bad[] = {0, 3}, none[1];
+    const uint64_t old = UINT64_C(0xA5A5A5A5A5A5A5A5);
+    begin();
+    memset(buffer, 0, sizeof buffer);
+    put(buffer, 2, 16), put(buffer + 8, 8, 5);
+    put(buffer + 19, 2, 16), put(buffer + 19 + 8, 8, 6);
+
+    /* the printed example, with room enough: the damage stops it, then the end */
+    DONE(open_whole(35, cuts, 3, none, 0));
+    was = d;
+    IS(run(35, cuts, 3, 0, DESK_RUN_CALLS, RUN_ROOM) == DESK_DAMAGED);
+    IS(d.calls == 2 && d.written == 1 && d.last == was.last && row_is(0, 0, 0, 5) && d.rows[3] == old);
+    IS(d.stream == 0 && d.place == 16 && d.reason == DESK_SHORT && d.held == 1);
+    d.reason = old;
+    DONE(run(35, cuts, 3, 0, DESK_RUN_CALLS, RUN_ROOM));
+    IS(ran(2, 1, 0) && row_is(0, 1, 0, 6) && d.stream == 0 && d.place == 0 && d.reason == old && d.held == 0);
+    DONE(run(35, cuts, 3, 0, DESK_RUN_CALLS, RUN_ROOM));
+    IS(ran(1, 0, 0) && row_is(0, 1, 0, 6));
+    DONE(run(35, cuts, 3, 0, 0, RUN_ROOM)); /* no call */
+    IS(ran(0, 0, 1) && d.held == 0);
+
+    /* 15 is judged before any call, and everything is as before */
+    DONE(open_whole(35, cuts, 3, none, 0));
+    REFUSES(DESK_BAD_MEMORY, run(35, cuts, 3, 0, DESK_RUN_CALLS + 1, RUN_ROOM));
+    REFUSES(DESK_BAD_MEMORY, run(35, cuts, 3, 0, DESK_RUN_CALLS + 1, 0));
+    REFUSES(DESK_BAD_MEMORY, run(35, cuts, 3, 0, SIZE_MAX, 3));
+    REFUSES(DESK_BAD_MEMORY, run(35, cuts, 3, 0, 1, 4));
+    REFUSES(DESK_BAD_MEMORY, run(35, cuts, 3, 1, 1, 3));
+    d.held = DESK_STREAMS + 1;
+    REFUSES(DESK_BAD_MEMORY, run(35, cuts, 3, 0, 1, 3));
+    d.held = 2;
+
+    /* a list of one row: it is full before the damage is seen */
+    DONE(run(35, cuts, 3, 0, 10, 3));
+    IS(ran(1, 1, 1) && row_is(0, 0, 0, 5) && d.stream == 0 && d.place == 0);
+    IS(run(35, cuts, 3, 0, 10, 3) == DESK_DAMAGED && d.calls == 1 && d.written == 0 && d.place == 16 && row_is(0, 0, 0, 5));
+    DONE(run(35, cuts, 3, 0, 1, RUN_ROOM)); /* an allowance of one: a record, then the end, again and again */
+    IS(ran(1, 1, 1) && row_is(0, 1, 0, 6));
+    DONE(run(35, cuts, 3, 0, 1, RUN_ROOM));
+    IS(ran(1, 0, 0));
+    DONE(run(35, cuts, 3, 0, 1, RUN_ROOM));
+    IS(ran(1, 0, 0));
+
+    /* no room, no call, whatever would come */
+    memcpy(buffer, "xxx", 3);
+    DONE(open_whole(3, bad, 2, none, 0));
+    DONE(run(3, bad, 2, 0, 10, 0));
+    IS(ran(0, 0, 1) && d.held == 1);
+    IS(run(3, bad, 2, 0, 10, 3) == DESK_DAMAGED && d.calls == 1 && d.written == 0 && d.stream == 0 && d.place == 0);
+    DONE(run(3, bad, 2, 0, 10, 3));
+    IS(ran(1, 0, 0));
+
+    /* one stream of two records: the end is seen where a call is left for it */
+    memset(buffer, 0, sizeof buffer);
+    put(buffer, 2, 16), put(buffer + 8, 8, 1), put(buffer + 16, 2, 16), put(buffer + 24, 8, 2);
+    static const size_t of[][5] = {{10, 6, 2, 2, 1}, {2, 9, 2, 2, 1}, {3, 9, 3, 2, 0}, {3, 6, 2, 2, 1}}; /* allowance, words; calls, written, last */
+    for (size_t i = 0; i < sizeof of / sizeof *of; i++) {
+        DONE(open_whole(32, one, 2, none, 0));
+        DONE(run(32, one, 2, 0, of[i][0], of[i][1]));
+        IS(ran(of[i][2], of[i][3], (uint32_t)of[i][4]) && row_is(0, 0, 0, 1) && row_is(1, 0, 16, 2));
+    }
+
+    /* any division leaves the arrays of single calls, byte for byte */
+    for (size_t first = 0; first <= 3; first++) {
+        DONE(open_whole(32, one, 2, none, 0));
+        for (int i = 0; i < 3; i++) DONE(next(32, one, 2, 0));
+        was = d;
+        DONE(open_whole(32, one, 2, none, 0));
+        DONE(run(32, one, 2, 0, first, RUN_ROOM));
+        DONE(run(32, one, 2, 0, 3 - first, RUN_ROOM));
+        IS(memcmp(d.marks, was.marks, sizeof d.marks) == 0 && memcmp(d.times, was.times, sizeof d.times) == 0);
+        IS(memcmp(d.places, was.places, sizeof d.places) == 0 && memcmp(d.heads, was.heads, sizeof d.heads) == 0);
+        IS(memcmp(d.heap, was.heap, sizeof d.heap) == 0 && d.held == was.held);
+    }
+
+    /* 5,000 records: a run stops at its allowance, and the next goes on */
+    static uint8_t many[5000 * 16];
+    static uint64_t list[15000];
+    static const uint64_t ends[] = {0, sizeof many};
+    for (size_t i = 0; i < 5000; i++) put(many + 16 * i, 2, 16), put(many + 16 * i + 8, 8, i);
+    DONE(desk_open(many, sizeof many, ends, 2, none, 0, d.marks, 256, d.times, 256, d.places, 256, d.heads, 256, d.heap, 256, &d.streams,
+                   &d.held));
+    for (int part = 0; part < 2; part++) {
+        DONE(desk_run(many, sizeof many, ends, 2, d.marks, 256, d.times, 256, d.places, 256, d.heads, 256, d.heap, 256, &d.held,
+                      DESK_RUN_CALLS, list, 15000, &d.calls, &d.written, &d.last, &d.stream, &d.place, &d.reason));
+        if (part == 0) IS(ran(4096, 4096, 1) && list[3 * 4095 + 1] == 16 * 4095 && list[3 * 4095 + 2] == 4095 && list[12288] == 0);
+        else IS(ran(905, 904, 0) && list[0] == 0 && list[1] == 65536 && list[2] == 4096);
     }
 }
 
@@ -1909,6 +2015,7 @@ int main(void) {
     test_numbers_and_days();
     test_merge();
     test_feed();
+    test_run();
     test_metadata_open();
     test_metadata_memory();
     test_hint_of();

@@ -341,6 +341,23 @@ uint32_t desk_next(const uint8_t *buffer, size_t buffer_len, const uint64_t *cut
                    size_t heads_len, uint8_t *heap, size_t heap_len, size_t *held, uint32_t *found, uint64_t *stream,
                    uint64_t *place, uint16_t *length, uint16_t *kind, uint32_t *instrument, uint64_t *time, uint64_t *reason);
 
+#define DESK_RUN_CALLS 4096 /* the most calls of a run */
+#define DESK_RUN_WORDS 3    /* of a record in a run's list: stream, place, time */
+
+/* A run: at most `allowance` calls of desk_next, each record's stream, place and time into the list, DESK_RUN_WORDS words a record,
+ * from its front. It stops after the end, after damage, before a call where the list is full, and when the allowance is used. What
+ * is lent is judged once: 0, 15 where an array has not 256 places, *held is over 256, the allowance over DESK_RUN_CALLS or the list
+ * no multiple of DESK_RUN_WORDS, 13.
+ * After 0: *calls is the number of calls made, *written the number of records in the list, *last 1 where a further call may be made
+ * and 0 at the end, which was the last call; *stream and *place are 0. After 13, the last call: *calls and *written are these too,
+ * *stream is damaged at *place for *reason, and *last is as before. After both *held and the arrays are the state after these calls,
+ * and the list's words behind 3 x *written are as before. *reason is as before after 0. After 15: all as before.
+ * On a state that desk_open did not make for this buffer and these cuts neither the number nor what the call writes says anything. */
+uint32_t desk_run(const uint8_t *buffer, size_t buffer_len, const uint64_t *cuts, size_t cuts_len, uint8_t *marks, size_t marks_len,
+                  uint64_t *times, size_t times_len, uint64_t *places, size_t places_len, uint64_t *heads, size_t heads_len,
+                  uint8_t *heap, size_t heap_len, size_t *held, size_t allowance, uint64_t *list, size_t list_len, size_t *calls,
+                  size_t *written, uint32_t *last, uint64_t *stream, uint64_t *place, uint64_t *reason);
+
 /* ---- Merging records of streams that arrive in portions, in constant memory: a stream's bytes come as they come, and a separate word
  * says that it has ended. Whatever the portions, the records, damages, places and the end are those of desk_next on the whole streams;
  * where the next one is not certain yet, the answer is that more of one stream is needed first.

@@ -322,6 +322,28 @@ def streams(case):
     return " ; ".join(run(RecordMerge, case.bytes(), case.numbers(), case.numbers()))
 
 
+def runs(case):
+    """Runs one after the other on one opening, each with its allowance and a list of so many words of 9; every number held 9 before."""
+    given, asked = (case.bytes(), case.numbers(), case.numbers()), case.numbers()
+    answer, merge = answer_of(lambda: RecordMerge(*given))
+    if merge is None:
+        return words(answer)
+    out = []
+    for allowance, room in zip(asked[::2], asked[1::2]):
+        listed = [9] * room
+        answer, made = answer_of(lambda: merge.run(allowance, listed))
+        if made is None:
+            out.append(words(answer[0], (9,) * 6))
+            continue
+        calls, written, last = made
+        held, behind = listed[: 3 * written], sum(word != 9 for word in listed[3 * written :])
+        if isinstance(last, tuple):
+            out.append(words(13, calls, written, 9, last[1:], held, behind))
+        else:
+            out.append(words(0, calls, written, 0 if last is None else 1, 0, 0, 9, held, behind))
+    return " ; ".join(out)
+
+
 def plain(case):
     return " ; ".join(run(PlainMerge, case.bytes(), case.numbers(), case.numbers()))
 
@@ -409,6 +431,7 @@ KINDS = {
     "merge_metadata": merge_metadata,
     "streams": streams,
     "feed": feed,
+    "runs": runs,
     "plain": plain,
     "replay": replay,
     "compare_program": compare_program,

@@ -218,7 +218,19 @@ def stream_case(rng, faults):
         sections = [pack("<IH", 6 + len(stream), 1) + stream for stream in streams]
         bundle = b"".join(sections)
         return words("replay", damaged(rng, bundle) if rng.random() < faults else bundle)
-    return merge_case("streams", rng, faults)
+    return run_case(rng, faults) if rng.random() < 0.3 else merge_case("streams", rng, faults)
+
+
+def run_case(rng, faults):
+    """Streams, and runs on them: few calls and short lists, sometimes too many calls or a list of no whole rows (No. 14)."""
+    asked = []
+    for _ in range(rng.randrange(1, 9)):
+        asked += [rng.choice([0, 1, 2, 3, 5, 9, 4096]), 3 * rng.choice([0, 1, 2, 3, 5, 30])]
+        if rng.random() < faults / 4:
+            asked[-2 + rng.randrange(2)] = rng.choice([4097, 4099, TOP])
+        if asked[-1] > 4099:
+            asked[-1] = 4
+    return merge_case("runs", rng, faults) + " " + words(asked)
 
 
 def merge_case(kind, rng, faults):

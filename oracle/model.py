@@ -10,7 +10,7 @@ from struct import Struct
 
 NAME, NAMES, NAME_BYTES = 255, 4_096, 65_536
 ROOM, MAPPINGS, ENTRIES, INTERVALS = 65_536, 4_096, 4_096, 65_536
-STREAMS, RECORD, HEAD = 256, 1_024, 16
+STREAMS, RECORD, HEAD, RUN_CALLS = 256, 1_024, 16, 4_096
 TOP = 2**64 - 1  # the largest number of 64 bits; as a time of a mapping record: missing
 DAY = 86_400_000_000_000
 INSTRUMENT_ID = 0
@@ -695,6 +695,25 @@ class RecordMerge:
                 return (stream, self.places[stream], *self.records[stream])
             self.read(stream)
         return None
+
+    def run(self, allowance, listed):
+        """At most so many calls of `next` (No. 14), each record's stream, place and time to the list, three words a record.
+
+        The calls, the records written, and the refusal, None at the end, or 0 where a further call may be made.
+        """
+        refuse_if(allowance > RUN_CALLS or len(listed) % 3 != 0, 15)
+        calls = written = 0
+        while calls < allowance and 3 * written < len(listed):
+            calls += 1
+            try:
+                handed = self.next()
+            except Refused as refused:
+                return calls, written, refused.answer
+            if handed is None:
+                return calls, written, None
+            listed[3 * written : 3 * written + 3] = handed[0], handed[1], handed[5]
+            written += 1
+        return calls, written, 0
 
 
 class PlainMerge(RecordMerge):

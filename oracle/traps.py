@@ -439,6 +439,54 @@ def plain_traps():
         yield "No. 12, 12", (words("plain", record(5), cuts, hints), "12")
 
 
+def run_traps():
+    """Many calls at once (RULES, Requests, No. 14), over whole buffers: each run is its allowance and the words of its list."""
+
+    def running(trap, streams, *runs):
+        cuts = [sum(map(len, streams[:n])) for n in range(len(streams) + 1)]
+        asked = [number for run in runs for number in run[:2]]
+        return f"No. 14, {trap}", (words("runs", b"".join(streams), cuts, [], asked), " ; ".join(run[2] for run in runs))
+
+    def made(number, calls, last, at, listed):
+        return words(number, calls, len(listed), last, at, [number for row in listed for number in row], 0)
+
+    def going(calls, *listed):
+        return made(0, calls, 1, (0, 0, 9), listed)
+
+    def ended(calls, *listed):
+        return made(0, calls, 0, (0, 0, 9), listed)
+
+    def damaged(calls, place, *listed):
+        return made(13, calls, 9, (0, place, 1), listed)
+
+    bad = words(15, (9,) * 6)
+    five, six, printed = (0, 0, 5), (1, 0, 6), [record(5) + b"\0\0\0", record(6)]
+    two, one, other = [record(1) + record(2)], (0, 0, 1), (0, 16, 2)
+    most = 4096, 12288
+    yield running(1, printed, (*most, damaged(2, 16, five)), (*most, ended(2, six)), (*most, ended(1)))
+    yield running(2, printed, (0, 9, going(0)), (4, 12, damaged(2, 16, five)), (4, 12, ended(2, six)), (0, 9, going(0)))
+    yield running(3, printed, (4097, 12288, bad), (4097, 0, bad), (*most, damaged(2, 16, five)))
+    yield running(4, printed, (1, 4, bad))
+    yield running(4, [b"xxx"], (10, 0, going(0)), (10, 3, damaged(1, 0)), (10, 3, ended(1)))
+    yield running(5, printed, (10, 3, going(1, five)), (10, 3, damaged(1, 16)))
+    steps = [going(1, five), damaged(1, 16), going(1, six), ended(1), ended(1)]
+    yield running(6, printed, *((1, 9, step) for step in steps))
+    yield running(7, two, (10, 6, going(2, one, other)), (10, 6, ended(1)))
+    yield running(7, two, (2, 9, going(2, one, other)))
+    yield running(7, two, (3, 9, ended(3, one, other)))
+    yield running(7, two, (3, 6, going(2, one, other)))
+    yield running(8, printed, *((1, 12, step) for step in steps[:4]))
+    yield running(8, printed, (2, 12, damaged(2, 16, five)), (2, 12, ended(2, six)))
+    yield running(8, printed, (2, 12, damaged(2, 16, five)), (1, 12, going(1, six)), (1, 12, ended(1)))
+    yield running(8, printed, (4, 12, damaged(2, 16, five)), (4, 12, ended(2, six)))
+    yield running(9, [record(5) + b"xxx"], (2, 3, going(1, five)), (2, 3, damaged(1, 16)), (2, 3, ended(1)))
+    many = [(0, 16 * i, i) for i in range(5000)]
+    whole = b"".join(record(i) for i in range(5000))
+    yield running(10, [whole], (4096, 15000, going(4096, *many[:4096])), (4096, 15000, ended(905, *many[4096:])))
+    yield running(14, [record(5) + record(7), record(6)], (4, 12, ended(4, five, six, (0, 16, 7))))
+    yield running(15, printed, (5000, 9, bad), (1, 4, bad), (3, 9, damaged(2, 16, five)), (3, 9, ended(2, six)))
+
+
 def compare_traps():
     """Two tables side by side (RULES, Requests, No. 1)."""
 
@@ -729,7 +777,7 @@ def answers_to_end(ask):
 
 def traps():
     base = [examples, map_traps, name_traps, record_traps, build_traps, metadata_traps, merge_traps]
-    requests = [complaint_traps, plain_traps, compare_traps, compare_program_traps, explain_traps, explain_program_traps]
+    requests = [complaint_traps, plain_traps, run_traps, compare_traps, compare_program_traps, explain_traps, explain_program_traps]
     for part in (*base, *requests):
         yield from part()
 

@@ -1,13 +1,15 @@
 -- A run over whole buffers: at most a stated number of calls of the record merge, and what it hands back (RULES, Requests, No. 14).
 -- Assumes nothing.
-use mathlib.Core.Path.{_≡_}
+use mathlib.Core.Path.{_≡_, refl, ap}
 use Prim.Native.Nat.{ℕ, zero, suc, _+_, _*_, _/_, _%_, _≤_, _<_, min}
+use native.Mathlib.Omega.{arith}
 use mathlib.Core.Bool.{Bool, true, false, _&&_}
 use mathlib.Core.List.{List, [], _∷_, _++_}
 use lib.ListN.{length, set, drop}
 use lib.Dec.{eqb, leb}
 use Rattle.theory.specs.Answer.{Answer, answer}
-use Rattle.leaves.specs.Refusal.{refused}
+use Rattle.leaves.specs.Refusal.{numberOf, refused}
+use Rattle.leaves.specs.RefusalLaws.{refused-not-done, refused-one}
 use Rattle.run_rules.specs.Batch.{Ran, ran}
 use Rattle.records_rules.specs.Machine.{Stream, record-at, damage-at, Status, says, end, next, rest}
 use Rattle.records_rules.specs.Machine as machine
@@ -91,6 +93,18 @@ abbrev pub lastOf : Last → Answer
 lastOf last.Going = going
 lastOf last.End = ended
 lastOf (last.Refused r) = refused r
+
+-- only one answer fits
+pub last-one : (x y : Last) → lastOf x ≡ lastOf y → x ≡ y
+last-one last.Going last.Going z = refl
+last-one last.Going last.End z = let n : _≡_ {A = ℕ} 1 0 = cc in absurd (omega arith)
+last-one last.Going (last.Refused q) z = let n : numberOf q ≡ 0 = cc in absurd (refused-not-done q n)
+last-one last.End last.Going z = let n : _≡_ {A = ℕ} 0 1 = cc in absurd (omega arith)
+last-one last.End last.End z = refl
+last-one last.End (last.Refused q) z = let n : numberOf q ≡ 0 = cc in absurd (refused-not-done q n)
+last-one (last.Refused r) last.Going z = let n : numberOf r ≡ 0 = cc in absurd (refused-not-done r n)
+last-one (last.Refused r) last.End z = let n : numberOf r ≡ 0 = cc in absurd (refused-not-done r n)
+last-one (last.Refused r) (last.Refused q) z = ap last.Refused (refused-one r q z)
 
 -- ---- a run's contract
 
