@@ -232,6 +232,24 @@ static void test_unwanted(void) {
 
     put(streams, 2, 16), put(streams + 4, 4, 7), put(streams + 8, 8, 5);
     put(streams + 19, 2, 16), put(streams + 21, 2, 9), put(streams + 23, 4, 8), put(streams + 27, 8, 6);
+    {
+        uint64_t page[2 * DESK_RUN_WORDS] = {9, 9, 9, 9, 9, 9};
+        size_t calls = 9, written = 9;
+        uint32_t last = 9;
+        desk_damage damage = {9, 9, 9};
+        DONE(desk_merge_open(&merge, streams, 35, cuts, 3, NULL, 0)); /* by runs: a record, damage; a record, the end */
+        IS_NUMBER(DESK_BAD_MEMORY, desk_merge_run(&merge, DESK_RUN_CALLS + 1, page, 2, &calls, &written, &last, &damage));
+        IS(calls == 9 && written == 9 && last == 9 && damage.stream == 9 && page[0] == 9 && merge.held == 2);
+        IS_NUMBER(DESK_DAMAGED, desk_merge_run(&merge, DESK_RUN_CALLS, page, 2, &calls, &written, &last, &damage));
+        IS(calls == 2 && written == 1 && last == 9 && damage.stream == 0 && damage.place == 16 && damage.reason == DESK_SHORT);
+        IS(page[0] == 0 && page[1] == 0 && page[2] == 5 && page[3] == 9);
+        DONE(desk_merge_run(&merge, 1, page, 2, &calls, &written, &last, &damage));
+        IS(calls == 1 && written == 1 && last == 1 && page[0] == 1 && page[1] == 0 && page[2] == 6 && damage.place == 16);
+        DONE(desk_merge_run(&merge, 5, NULL, 0, &calls, NULL, NULL, NULL)); /* no room: no call */
+        IS(calls == 0 && merge.held == 1);
+        DONE(desk_merge_run(&merge, 5, page, 2, NULL, &written, &last, NULL));
+        IS(written == 0 && last == 0 && merge.held == 0);
+    }
     DONE(desk_merge_open(&merge, streams, 35, cuts, 3, NULL, 0));
     DONE(desk_merge_next(&merge, NULL, NULL));
     IS_NUMBER(DESK_DAMAGED, desk_merge_next(&merge, NULL, NULL));

@@ -9,8 +9,8 @@
  *
  * Every call ends, on any content of the memory, and returns a number: DESK_DONE (0), or a refusal (desk_refusal_name, and
  * desk_refusal_text for a sentence). A refusal leaves everything as it was, with three exceptions, which the functions name again:
- * a refused build leaves an empty table, 6 sets its field and 13 its damage, and 13 from desk_merge_next and desk_feed_read moves the merge
- * on.
+ * a refused build leaves an empty table, 6 sets its field and 13 its damage, and 13 from desk_merge_next, desk_merge_run and desk_feed_read
+ * moves the merge on.
  *
  * What a program owes, since none of it can be seen from inside:
  *   - lent memory is as long as the length beside it says; NULL with length 0 is fine. A result that is not wanted may be NULL, and
@@ -565,6 +565,30 @@ static inline uint32_t desk_merge_next(desk_merge *merge, desk_record *record, d
         r->stream = stream;
         r->place = place;
         r->bytes = r->found != 0 && stream < merge->cuts_len ? merge->buffer + merge->cuts[stream] + place : NULL;
+    }
+    return number;
+}
+
+/* Many calls of desk_merge_next at once: at most `allowance` of them, up to DESK_RUN_CALLS, and no more than the list has room for,
+ * `list_len` records. Each record's stream, place and time go to the list, DESK_RUN_WORDS words a record, from its front. It stops after
+ * the end and after damage too. 0, 13, 15 for more calls than that.
+ * After 0: *calls is the number of calls made, *written that of records in the list, and *last 1 where a further call may be made and 0 at
+ * the end. After 13, which was the last call: *calls and *written too, *damage is the damage, and *last is as before. After both *merge
+ * stands before what comes next, and the list's words behind the records written are as before. After 15: all as before. */
+static inline uint32_t desk_merge_run(desk_merge *merge, size_t allowance, uint64_t *list, size_t list_len, size_t *calls, size_t *written,
+                                      uint32_t *last, desk_damage *damage) {
+    uint64_t nothing = 0, stream = 0, place = 0;
+    size_t made = 0, laid = 0;
+    uint32_t going = 0;
+    desk_damage no_damage, *d = damage != NULL ? damage : &no_damage;
+    uint32_t number = desk_run(desk_read_(merge->buffer, &nothing), merge->buffer_len, desk_longs_(merge->cuts, &nothing),
+                               merge->cuts_len, merge->marks, DESK_STREAMS, merge->times, DESK_STREAMS, merge->places, DESK_STREAMS,
+                               merge->heads, DESK_STREAMS, merge->heap, DESK_STREAMS, &merge->held, allowance,
+                               list != NULL ? list : &nothing, desk_count_(list_len, DESK_RUN_WORDS), calls != NULL ? calls : &made,
+                               written != NULL ? written : &laid, last != NULL ? last : &going, &stream, &place, &d->reason);
+    if (number == DESK_DAMAGED) {
+        d->stream = stream;
+        d->place = place;
     }
     return number;
 }

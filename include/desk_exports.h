@@ -6,8 +6,8 @@
  *
  * What stands behind the pointers afterwards each function says by the number returned. "As before" is as it was at the call. What
  * is not named there is as before, and what a pointer to const leads to always is. In short: a refusal leaves all as before, but a
- * refused build leaves an empty table, 6 sets its field, 13 its reason, and 13 from desk_next and desk_feed_next its stream and
- * place too, and it moves the state of the merge on as 0 does.
+ * refused build leaves an empty table, 6 sets its field, 13 its reason, and 13 from desk_next, desk_feed_next and desk_run its
+ * stream and place too, and it moves the state of the merge on as 0 does, and in a run the calls, the records written and the list.
  *
  * What a caller owes. None of it can be seen from inside, so nothing tests it:
  *   - a pointer beside a length points to as many elements as the length says, one to a single number to that number;
