@@ -19,20 +19,14 @@ fi
 if [ -n "${DESK_CC:-}" ]; then how=$DESK_CC; elif [ "$machine" = x86_64 ] && command -v cc >/dev/null; then how=cc; else how=kit; fi
 case $how in cc | kit) ;; *) echo "desk: DESK_CC=$how: there are cc and kit" >&2; exit 2 ;; esac
 
-# the archive of every door's exports, unless it is newer than everything that it is made of; a terminal is told so
+# the archive of every door's exports, unless it is newer than everything that it is made of; a terminal is told of each door
 make_archive() {
     mkdir -p target/desk || return
     if [ -e "$archive" ] && [ -z "$(find crates crates.txt -newer "$archive" -print -quit)" ]; then return; fi
-    local door job jobs=()
-    if [ -t 2 ]; then echo "desk: proving and building ${doors[*]}" >&2; fi
-    rt check "${doors[@]}" >target/desk/staticlib.log 2>&1 || { cat target/desk/staticlib.log; echo 'desk: the doors are not proved'; return 1; }
-    for door in "${doors[@]}"; do # side by side: what they share is proved by now
-        rt staticlib "$door" >"target/desk/staticlib.$door.log" 2>&1 &
-        jobs+=($!)
-    done
-    for job in "${!jobs[@]}"; do
-        door=${doors[job]}
-        wait "${jobs[job]}" || { cat "target/desk/staticlib.$door.log"; echo "desk: the archive of $door failed"; return 1; }
+    local door
+    for door in "${doors[@]}"; do # one after the other: rt can't prove beside itself in one target/
+        if [ -t 2 ]; then echo "desk: proving and building $door" >&2; fi
+        rt staticlib "$door" >target/desk/staticlib.log 2>&1 || { cat target/desk/staticlib.log; echo "desk: the archive of $door failed"; return 1; }
     done
     rm -f "$archive"
     { echo "create $archive"; printf 'addlib target/staticlib/lib%s.a\n' "${doors[@]}"; echo save; echo end; } | "$toolchain/bin/llvm-ar" -M ||
