@@ -1899,6 +1899,7 @@ static void after_feed_open(void) {
 static void adds(size_t p, size_t start, size_t kept, size_t taken) {
     for (size_t i = 0; i < kept; i++) window_was[DESK_WINDOW * p + i] = window_was[DESK_WINDOW * p + start + i];
     memcpy(window_was + DESK_WINDOW * p + kept, portion, taken);
+    for (size_t i = kept + taken; i < DESK_WINDOW; i++) window_was[DESK_WINDOW * p + i] = window[DESK_WINDOW * p + i]; /* says nothing */
     was.taken = taken;
     keeps(p, 0, kept + taken, 0);
 }
