@@ -761,6 +761,10 @@ static void test_feed(void) {
         d.held = held;
         for (uint64_t i = 0; i < 3; i++) feed_next(), feed_bytes(i, 2000), feed_end(i);
         IS(d.held <= held && d.marks[256] == 0xA5 && d.heap[256] == 0xA5 && window[DESK_WINDOW_BYTES] == 0xA5);
+    }
+}
+
+/* ---- Many calls at once. */
 
 /* A run of so many calls at most, its list of so many words; `less` places of the marks are missing. */
 static uint32_t run(size_t len, const uint64_t *cuts, size_t cuts_len, size_t less, size_t allowance, size_t words) {
