@@ -1,5 +1,5 @@
 #!/usr/bin/env python3
-"""Writes the bundles of samples/: python3 tools/make_samples.py
+"""Writes the bundles and streams of samples/: python3 tools/make_samples.py
 
 samples/README.md says what each shows.
 """
@@ -20,13 +20,14 @@ def morning(start, step, count, instrument):
 OPEN = 1767366000000000000
 SECOND = 1000000000
 
+WHOLE = morning(OPEN, 3 * SECOND, 4, 1001)
+BROKEN = morning(OPEN + SECOND, 3 * SECOND, 4, 1002)[:-9]
+
 SAMPLES = {
     "printed.bundle": bundle([record(5, 7) + b"\1\2\3", record(6, 7)]),
-    "damaged.bundle": bundle([
-        morning(OPEN, 3 * SECOND, 4, 1001),
-        (morning(OPEN + SECOND, 3 * SECOND, 4, 1002))[:-9],
-        morning(OPEN + 2 * SECOND, 3 * SECOND, 4, 1003),
-    ]),
+    "damaged.bundle": bundle([WHOLE, BROKEN, morning(OPEN + 2 * SECOND, 3 * SECOND, 4, 1003)]),
+    "one.stream": WHOLE,
+    "two.stream": BROKEN,
     "sorted.bundle": bundle([morning(10, 10, 3, 7), b"", morning(5, 20, 2, 8), morning(30, 1, 2, 9)]),
     "bad.bundle": section(record(5, 7)) + section(record(6, 7), kind=2),
 }
