@@ -37,12 +37,13 @@ static struct desk {
 } d, was;
 
 /* The call answers the number and leaves everything as it was. */
-#define REFUSES(number, call)                                 \
+#define KEEPS(number, call)                                   \
     do {                                                      \
         was = d;                                              \
         is((call) == (number), #call " is " #number, __LINE__); \
         is(memcmp(&d, &was, sizeof d) == 0, #call " changes nothing", __LINE__); \
     } while (0)
+#define REFUSES(number, call) KEEPS(number, call)
 
 #define DONE(call) is((call) == DESK_DONE, #call " is done", __LINE__)
 
@@ -675,6 +676,7 @@ static void test_feed(void) {
     DONE(feed_open(1)); /* nothing has come; a portion of nothing; the end */
     IS(d.held == 1 && d.spans[256] == d.places[256] && d.marks[256] == 0xA5 && all(window, sizeof window, 0xA5));
     IS(needs(0) && takes(0, 0, 0) && needs(0));
+    KEEPS(DESK_DONE, feed_next()); /* asked again without more bytes it changes nothing */
     DONE(feed_end(0));
     REFUSES(DESK_BAD_STREAMS, feed_end(0));
     REFUSES(DESK_BAD_STREAMS, feed_bytes(0, 0));
@@ -695,7 +697,9 @@ static void test_feed(void) {
     IS(takes(0, 16, 16) && needs(0));
     memset(portion, 7, sizeof portion);
     IS(takes(0, 2000, 1008) && hands_out(0, 0, 5, 0) && d.length == 1024 && d.kind == 3 && d.instrument == 4);
-    IS(takes(0, 10, 0) && needs(0) && takes(0, 10, 10));
+    IS(takes(0, 10, 0) && needs(0));
+    KEEPS(DESK_DONE, feed_next());
+    IS(takes(0, 10, 10));
     IS(all(window, 10, 7) && all(window + 1024, sizeof window - 1024, 0xA5));
     DONE(feed_end(0));
     IS(breaks(0, 1024, DESK_SHORT));
@@ -707,6 +711,7 @@ static void test_feed(void) {
 
     DONE(feed_open(2)); /* no other record instead of the one that is needed first; a stream that is found ended is closed */
     IS(takes(1, 16, 16) && needs(0) && d.held == 2);
+    KEEPS(DESK_DONE, feed_next());
     put_head(0, 16, 0, 9, 7);
     IS(takes(0, 16, 16) && hands_out(1, 0, 5, 1024) && needs(1));
     DONE(feed_end(1));
