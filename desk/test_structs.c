@@ -337,6 +337,27 @@ static uint32_t next_by_merge(const uint8_t *buffer, size_t buffer_len, const ui
     return number;
 }
 
+/* A list of whole records; of another length, and arrays of other than 256 places, the export is asked. */
+static uint32_t run_by_merge(const uint8_t *buffer, size_t buffer_len, const uint64_t *cuts, size_t cuts_len, uint8_t *marks,
+                             size_t marks_len, uint64_t *times, size_t times_len, uint64_t *places, size_t places_len, uint64_t *heads,
+                             size_t heads_len, uint8_t *heap, size_t heap_len, size_t *held, size_t allowance, uint64_t *list,
+                             size_t list_len, size_t *calls, size_t *written, uint32_t *last, uint64_t *stream, uint64_t *place,
+                             uint64_t *reason) {
+    desk_damage broken = {*stream, *place, *reason};
+    if (!whole_state(marks_len, times_len, places_len, heads_len, heap_len) || list_len % DESK_RUN_WORDS != 0)
+        return desk_run(buffer, buffer_len, cuts, cuts_len, marks, marks_len, times, times_len, places, places_len, heads, heads_len, heap,
+                        heap_len, held, allowance, list, list_len, calls, written, last, stream, place, reason);
+    take_state(marks, times, places, heads, heap);
+    merge.held = *held, merge.buffer = buffer, merge.buffer_len = buffer_len, merge.cuts = cuts, merge.cuts_len = cuts_len;
+    uint32_t number = ASK(DESK_STACK, desk_merge_run, &merge, allowance, list, list_len / DESK_RUN_WORDS, calls, written, last, &broken);
+    give_state(marks, times, places, heads, heap);
+    *held = merge.held;
+    *reason = broken.reason;
+    if (number == DESK_DAMAGED) *stream = broken.stream, *place = broken.place;
+    if (number == DESK_DONE) *stream = 0, *place = 0; /* the function has no such results */
+    return number;
+}
+
 /* The same of a desk_feed. What a call is not handed holds a pattern, and has it afterwards. */
 static desk_feed feed;
 
@@ -447,6 +468,7 @@ static uint32_t next_by_feed(const uint8_t *window, size_t window_len, uint8_t *
 #define desk_hint_of hint_by_metadata
 #define desk_open open_by_merge
 #define desk_next next_by_merge
+#define desk_run run_by_merge
 #define desk_feed_open open_by_feed
 #define desk_feed_bytes bytes_by_feed
 #define desk_feed_end end_by_feed
