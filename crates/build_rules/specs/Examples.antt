@@ -5,7 +5,7 @@ use Prim.Native.Nat.{ℕ, _*_}
 use mathlib.Core.Bool.{false}
 use mathlib.Core.List.{List, [], _∷_}
 use Rattle.theory.specs.Runs.{All}
-use Rattle.leaves.specs.NumberText.{numberText, someDigits, digits, isDigit}
+use Rattle.leaves_text.specs.NumberText.{numberText, someDigits, digits, isDigit}
 use Rattle.leaves_days.specs.Days.{dayOf}
 use Rattle.leaves_days.specs.Calendar.{isDate, dayNumber, isLeap, monthDays, daysOfYears, daysBefore}
 use Rattle.map_rules.specs.Table.{Row, entered}

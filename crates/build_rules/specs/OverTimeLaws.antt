@@ -11,7 +11,7 @@ use lib.Seq.{drop-nil, drop-append-add}
 use lib.Dec.{ltb, eqb, leb}
 use Rattle.theory.specs.Answer.{Answer, answer}
 use Rattle.theory.specs.RunsTools.{cond-case, ltb-case, cond-lt, cond-ge}
-use Rattle.leaves.specs.NumberText.{numberText, someDigits, digits, isDigit, stuck}
+use Rattle.leaves_text.specs.NumberText.{numberText, someDigits, digits, isDigit, stuck}
 use Rattle.leaves_days.specs.Days.{dayOf, inRange}
 use Rattle.leaves_days.specs.Calendar.{isDate, dayNumber}
 use Rattle.map_rules.specs.Table.{Row, refusedBy, stored}

@@ -13,7 +13,7 @@ use borrow.Author.Tests.{lt-ltb, le-ltb, le-leb, lt-leb}
 use Rattle.theory.specs.Answer.{Answer, answer}
 use Rattle.theory.specs.Fields.{putField, length-put, put-byte}
 use Rattle.theory.specs.RunsTools.{cond-case, ltb-case, T-snd}
-use Rattle.leaves.specs.NumberText.{numberText, someDigits, digits, isDigit}
+use Rattle.leaves_text.specs.NumberText.{numberText, someDigits, digits, isDigit}
 use Rattle.leaves_days.specs.Calendar.{isDate, dayNumber}
 use Rattle.leaves_days.specs.Days.{dayOf, inRange}
 use Rattle.leaves.specs.Refusal.{refused}

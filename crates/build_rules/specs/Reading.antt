@@ -6,7 +6,7 @@ use mathlib.Core.List.{List, [], _∷_}
 use lib.Dec.{ltb, eqb}
 use lib.ListN.{length, getD}
 use Rattle.theory.specs.Answer.{Answer, answer}
-use Rattle.leaves.specs.NumberText.{numberText}
+use Rattle.leaves_text.specs.NumberText.{numberText}
 use Rattle.leaves_days.specs.Days.{dayOf}
 use Rattle.metadata_rules.specs.Metadata.{Fields}
 use Rattle.leaves.specs.Refusal.{numberOf}

@@ -15,9 +15,9 @@ use Rattle.leaves.specs.declared.refusal.Refusal.{Refusal}
 use Rattle.leaves.specs.RefusalLaws.{refused-not-done}
 use Rattle.leaves_days.specs.declared.days.Moment.{Moment}
 use Rattle.leaves_days.specs.declared.days.Moment.the-variants as moment
-use Rattle.leaves.specs.NumberText.{numberText, readingOf}
-use Rattle.leaves.specs.declared.number_text.Reading.{Reading}
-use Rattle.leaves.specs.declared.number_text.Reading.the-variants.{Value, Stuck}
+use Rattle.leaves_text.specs.NumberText.{numberText, readingOf}
+use Rattle.leaves_text.specs.declared.number_text.Reading.{Reading}
+use Rattle.leaves_text.specs.declared.number_text.Reading.the-variants.{Value, Stuck}
 use Rattle.leaves_days.specs.Days.{dayOf, dayStart, dayAnswerOf, momentAnswerOf}
 use Rattle.leaves_days.specs.declared.days.Day.{Day}
 use Rattle.leaves_days.specs.declared.days.Day.the-variants as day

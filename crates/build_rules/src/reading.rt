@@ -1,9 +1,9 @@
 // What both builds read of a metadata (RULES, The map over time): the direction, what stands under a name's number, an instrument's
 // number, a date; and the table emptied.
-use leaves::number_text::Reading;
 use leaves::refusal::Refusal;
 use leaves_days::days::Day;
 use leaves_days::days::Moment;
+use leaves_text::number_text::Reading;
 ghost use mathlib.Core.Path.{_≡_};
 ghost use Prim.Native.Nat.{_≤_, _<_};
 ghost use mathlib.Core.List.{[]};
@@ -78,7 +78,7 @@ pub fn number_named(bytes: &[u8], ends: &[u32], names: usize, number: u32) -> In
     let n = number as usize;
     let start = leaves_names::names::name_start(ends, n);
     let end = leaves_names::names::name_end(ends, n);
-    let read = leaves::number_text::number_within(bytes, start, end);
+    let read = leaves_text::number_text::number_within(bytes, start, end);
     match read {
         Reading::Value(value) => Instrument::Number(value),
         Reading::Stuck(place) => Instrument::Refused(Refusal::NotNumber),

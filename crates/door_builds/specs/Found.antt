@@ -11,7 +11,7 @@ use lib.ListN.{length, replicate}
 use lib.Dec.{T, ltb, leb, eqb}
 use Rattle.theory.specs.Answer.{Answer, answer}
 use Rattle.theory.specs.RunsTools.{cond-case}
-use Rattle.leaves.specs.NumberText.{numberText, someDigits, digits, isDigit}
+use Rattle.leaves_text.specs.NumberText.{numberText, someDigits, digits, isDigit}
 use Rattle.leaves_days.specs.Calendar.{isDate}
 use Rattle.leaves_days.specs.Days.{dayOf, inRange}
 use Rattle.leaves_names.specs.Names.{namesOf, wellFormed}

@@ -1,8 +1,8 @@
 // Number text and UTF-8 at the C door (RULES, Names, numbers, days).
 use door_answers::DONE;
-use leaves::number_text::Reading;
+use leaves_text::number_text::Reading;
 ghost use mathlib.Core.Path.{_≡_};
-ghost use Rattle.leaves.specs.NumberText.{numberText};
+ghost use Rattle.leaves_text.specs.NumberText.{numberText};
 ghost use Rattle.leaves_names.specs.Utf8.{isUtf8};
 ghost use Rattle.door_answers.specs.Answers.{numberIn, valueIn, utf8Answer};
 
@@ -17,7 +17,7 @@ pub extern "C" fn desk_number_text(text: &[u8], value: &mut u32) -> u32
     ensures { λ r. ⌜ r ≡ numberIn (numberText (now (text .entry))) ⌝ }
     ensures { λ _. ⌜ now (value .exit) ≡ valueIn (now (value .entry)) 0 (numberText (now (text .entry))) ⌝ }
 {
-    let reading = leaves::number_text::number(text);
+    let reading = leaves_text::number_text::number(text);
     match reading {
         Reading::Value(n) => {
             *value = n;

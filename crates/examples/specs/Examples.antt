@@ -9,7 +9,7 @@ use lib.ListN.{length, replicate}
 use Rattle.theory.specs.Answer.{Answer, answer}
 use Rattle.theory.specs.Runs.{Mem}
 use Rattle.theory.specs.Fields.{field}
-use Rattle.leaves.specs.NumberText.{isDigit, digits, someDigits, numberText}
+use Rattle.leaves_text.specs.NumberText.{isDigit, digits, someDigits, numberText}
 use Rattle.leaves_days.specs.Calendar.{isLeap, monthDays, daysOfYears, daysBefore, isDate, dayNumber}
 use Rattle.leaves_days.specs.Days.{dayOf}
 use Rattle.leaves.specs.Frame.{frameAt}

@@ -170,7 +170,7 @@ fn show(input: &[u8], text: &mut [u8]) -> u8
     if end == 0 {
         return say(b"bad bundle\n", BAD);
     }
-    let names = leaves::fields::u32_at(input, PART_HEAD) as usize;
+    let names = leaves_fields::fields::u32_at(input, PART_HEAD) as usize;
     let begin = NAMES_BYTES + PART_HEAD;
     let next = end + PART_HEAD;
     answer_all(&input[begin..end], names, &input[next..], text)

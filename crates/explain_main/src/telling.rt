@@ -117,8 +117,8 @@ fn tell(
     requires { ⌜ Ready (now table) used checked × (k * 12 + 12 ≤ length (now questions)) × (at + 218 ≤ length (now text)) ⌝ }
     ensures { λ r. ⌜ Lays (now (text .entry)) at (questionText (now (table .entry)) used checked (now (questions .entry)) k) r (now (text .exit)) × (r ≤ at + 218) ⌝ }
 {
-    let instrument = leaves::fields::u32_at(questions, k * QUESTION);
-    let moment = leaves::fields::u64_at(questions, k * QUESTION + MOMENT_AT);
+    let instrument = leaves_fields::fields::u32_at(questions, k * QUESTION);
+    let moment = leaves_fields::fields::u64_at(questions, k * QUESTION + MOMENT_AT);
     let explained = answer(table, used, checked, instrument, moment);
     line(text, at, instrument, moment, explained)
 }

@@ -1,9 +1,9 @@
 // A record's frame (RULES, Merging records): what stands at a place of a stream's bytes, and a symbol
 // mapping's parts where the bytes are exactly one record.
-use crate::fields::u16_at;
-use crate::fields::u32_at;
-use crate::fields::u64_at;
 use crate::refusal::Refusal;
+use leaves_fields::fields::u16_at;
+use leaves_fields::fields::u32_at;
+use leaves_fields::fields::u64_at;
 ghost use mathlib.Core.Path.{_≡_};
 ghost use Prim.Native.Nat.{_-_, min};
 ghost use lib.ListN.{length};

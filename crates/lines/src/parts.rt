@@ -18,14 +18,14 @@ pub fn part_end(bytes: &[u8], at: usize, kind: u16) -> usize
     if left < PART_HEAD {
         return 0;
     }
-    let size = leaves::fields::u32_at(bytes, at) as usize;
+    let size = leaves_fields::fields::u32_at(bytes, at) as usize;
     if size < PART_HEAD {
         return 0;
     }
     if left < size {
         return 0;
     }
-    if leaves::fields::u16_at(bytes, at + KIND_AT) != kind {
+    if leaves_fields::fields::u16_at(bytes, at + KIND_AT) != kind {
         return 0;
     }
     at + size

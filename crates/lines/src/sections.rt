@@ -31,14 +31,14 @@ fn section_size(bundle: &[u8], at: usize) -> usize
     if left < HEAD {
         return 0;
     }
-    let size = leaves::fields::u32_at(bundle, at) as usize;
+    let size = leaves_fields::fields::u32_at(bundle, at) as usize;
     if size < HEAD {
         return 0;
     }
     if left < size {
         return 0;
     }
-    if leaves::fields::u16_at(bundle, at + KIND_AT) != STREAM {
+    if leaves_fields::fields::u16_at(bundle, at + KIND_AT) != STREAM {
         return 0;
     }
     size

@@ -29,9 +29,9 @@ pub fn put_stretch(stretches: &mut [u8], i: usize, s: Stretch)
     let o = i * STRETCH_WIDTH;
     let left = symbol(s.left, s.x);
     let right = symbol(s.right, s.y);
-    leaves::fields::put_u32(stretches, o, s.instrument);
-    leaves::fields::put_u32(stretches, o + 4, left);
-    leaves::fields::put_u32(stretches, o + 8, right);
-    leaves::fields::put_u64(stretches, o + 12, s.start);
-    leaves::fields::put_u64(stretches, o + 20, s.end);
+    leaves_fields::fields::put_u32(stretches, o, s.instrument);
+    leaves_fields::fields::put_u32(stretches, o + 4, left);
+    leaves_fields::fields::put_u32(stretches, o + 8, right);
+    leaves_fields::fields::put_u64(stretches, o + 12, s.start);
+    leaves_fields::fields::put_u64(stretches, o + 20, s.end);
 }

@@ -1,7 +1,7 @@
 // The entries of a point-in-time table in lent bytes: 8 bytes an entry, little-endian, instrument 4, symbol 4.
 // Above this file nobody speaks of bytes.
-use leaves::fields::put_u32;
-use leaves::fields::u32_at;
+use leaves_fields::fields::put_u32;
+use leaves_fields::fields::u32_at;
 ghost use mathlib.Core.Path.{_≡_};
 ghost use Prim.Native.Nat.{_+_, _-_, _*_, _≤_};
 ghost use lib.ListN.{length};

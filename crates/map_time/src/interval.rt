@@ -32,10 +32,10 @@ pub fn interval_at(table: &[u8], i: usize) -> Interval
 {
     let o = i * WIDTH;
     Interval {
-        instrument: leaves::fields::u32_at(table, o),
-        symbol: leaves::fields::u32_at(table, o + 4),
-        start: leaves::fields::u64_at(table, o + 8),
-        end: leaves::fields::u64_at(table, o + 16),
+        instrument: leaves_fields::fields::u32_at(table, o),
+        symbol: leaves_fields::fields::u32_at(table, o + 4),
+        start: leaves_fields::fields::u64_at(table, o + 8),
+        end: leaves_fields::fields::u64_at(table, o + 16),
     }
 }
 
@@ -45,8 +45,8 @@ pub fn put_interval(table: &mut [u8], i: usize, x: Interval)
     ensures { λ _. ⌜ RowSet (now (table .entry)) i (rowOf x) (now (table .exit)) ⌝ }
 {
     let o = i * WIDTH;
-    leaves::fields::put_u32(table, o, x.instrument);
-    leaves::fields::put_u32(table, o + 4, x.symbol);
-    leaves::fields::put_u64(table, o + 8, x.start);
-    leaves::fields::put_u64(table, o + 16, x.end);
+    leaves_fields::fields::put_u32(table, o, x.instrument);
+    leaves_fields::fields::put_u32(table, o + 4, x.symbol);
+    leaves_fields::fields::put_u64(table, o + 8, x.start);
+    leaves_fields::fields::put_u64(table, o + 16, x.end);
 }

@@ -8,7 +8,7 @@ use Rattle.theory.specs.Answer.{answer}
 use Rattle.leaves.specs.Refusal.{numberOf, refused}
 use Rattle.leaves.specs.RefusalLaws.{refused-not-done, refused-one}
 use Rattle.leaves_days.specs.Days.{dayAnswerOf, dateAnswerOf, momentAnswerOf}
-use Rattle.leaves.specs.NumberText.{readingOf}
+use Rattle.leaves_text.specs.NumberText.{readingOf}
 use Rattle.leaves_names.specs.Names.{checkedOf, namedOf, placedOf}
 use Rattle.leaves.specs.declared.refusal.Refusal.{Refusal}
 use Rattle.leaves_days.specs.declared.days.Day.{Day}
@@ -17,8 +17,8 @@ use Rattle.leaves_days.specs.declared.days.Date.{Date}
 use Rattle.leaves_days.specs.declared.days.Date.the-variants as date
 use Rattle.leaves_days.specs.declared.days.Moment.{Moment}
 use Rattle.leaves_days.specs.declared.days.Moment.the-variants as moment
-use Rattle.leaves.specs.declared.number_text.Reading.{Reading}
-use Rattle.leaves.specs.declared.number_text.Reading.the-variants.{Value, Stuck}
+use Rattle.leaves_text.specs.declared.number_text.Reading.{Reading}
+use Rattle.leaves_text.specs.declared.number_text.Reading.the-variants.{Value, Stuck}
 use Rattle.leaves_names.specs.declared.names.Checked.{Checked}
 use Rattle.leaves_names.specs.declared.names.Checked.the-variants as checked
 use Rattle.leaves_names.specs.declared.names.Named.{Named}

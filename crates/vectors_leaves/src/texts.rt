@@ -1,5 +1,5 @@
 // Cases of texts: UTF-8 or not, and numbers.
-use leaves::number_text::Reading;
+use leaves_text::number_text::Reading;
 ghost use mathlib.Core.Path.{_≡_};
 ghost use lib.ListN.{length};
 
@@ -27,7 +27,7 @@ pub fn number(text: &[u8], at: usize) -> bool {
     let mut bytes = room();
     let word = vectors_text::bytes_at(text, expected.next, &mut bytes);
     let n = word.count;
-    match leaves::number_text::number(&bytes[..n]) {
+    match leaves_text::number_text::number(&bytes[..n]) {
         Reading::Value(v) => vectors_text::byte_at(text, sign) == b'+'
             && v as u64 == expected.value,
         Reading::Stuck(place) => vectors_text::byte_at(text, sign) == b'-'

@@ -1,6 +1,6 @@
 -- Each arm of the match is what its case says. Assumes nothing.
 use mathlib.Core.Path.{ap}
-use Rattle.leaves.specs.NumberText.{readingOf}
+use Rattle.leaves_text.specs.NumberText.{readingOf}
 use Rattle.door_answers.specs.Answers.{numberIn, valueIn}
 use Rattle.door_answers.specs.AnswersLaws.{answer-same, done-number, done-value}
 use borrow.Author.Needs.{needs}

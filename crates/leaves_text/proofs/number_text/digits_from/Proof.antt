@@ -1,9 +1,9 @@
 -- `number_text::digits_from` meets its contract: each way out has its law.
 -- Assumes nothing.
 use borrow.Author.Needs.{needs}
-use Rattle.leaves.specs.NumberTextLaws.{begin-nothing, begin-plus, begin-bare}
-use Rattle.leaves.proofs.number_text.digits_from.Statement.{statement}
-use Rattle.leaves.proofs.number_text.digits_from.Tie as tie
+use Rattle.leaves_text.specs.NumberTextLaws.{begin-nothing, begin-plus, begin-bare}
+use Rattle.leaves_text.proofs.number_text.digits_from.Statement.{statement}
+use Rattle.leaves_text.proofs.number_text.digits_from.Tie as tie
 
 returns : tie.Need-returns
 returns c = search (needs, begin-nothing)

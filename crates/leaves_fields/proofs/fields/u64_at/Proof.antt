@@ -2,8 +2,8 @@
 use native.Mathlib.Omega.{arith}
 use Rattle.theory.specs.Fields.{field-8}
 use borrow.Author.Needs.{needs}
-use Rattle.leaves.proofs.fields.u64_at.Statement.{statement}
-use Rattle.leaves.proofs.fields.u64_at.Tie as tie
+use Rattle.leaves_fields.proofs.fields.u64_at.Statement.{statement}
+use Rattle.leaves_fields.proofs.fields.u64_at.Tie as tie
 
 u32-at-requires : tie.Need-u32-at-requires
 u32-at-requires c κs = search needs

@@ -4,9 +4,9 @@ use mathlib.Core.Path.{sym, ap, _∙_}
 use Prim.Native.Nat.{ℕ, _+_, _*_}
 use native.Mathlib.Omega.{arith}
 use borrow.Author.Needs.{needs}
-use Rattle.leaves.specs.NumberTextLaws.{under, over, digit}
-use Rattle.leaves.proofs.number_text.append.Statement.{statement}
-use Rattle.leaves.proofs.number_text.append.Tie as tie
+use Rattle.leaves_text.specs.NumberTextLaws.{under, over, digit}
+use Rattle.leaves_text.proofs.number_text.append.Statement.{statement}
+use Rattle.leaves_text.proofs.number_text.append.Tie as tie
 
 add-result : tie.Need-add-result
 add-result c = search needs

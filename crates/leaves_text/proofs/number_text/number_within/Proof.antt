@@ -4,9 +4,9 @@
 use Prim.Native.Nat.{_-_}
 use native.Mathlib.Omega.{arith}
 use borrow.Author.Needs.{needs}
-use Rattle.leaves.specs.NumberTextLaws.{Left, left-missing, left-first, left-turn, left-stop, left-done}
-use Rattle.leaves.proofs.number_text.number_within.Statement.{statement}
-use Rattle.leaves.proofs.number_text.number_within.Tie as tie
+use Rattle.leaves_text.specs.NumberTextLaws.{Left, left-missing, left-first, left-turn, left-stop, left-done}
+use Rattle.leaves_text.proofs.number_text.number_within.Statement.{statement}
+use Rattle.leaves_text.proofs.number_text.number_within.Tie as tie
 
 abbrev Inv-loop : tie.InvT-loop
 Inv-loop text from to at₀ value₀ at value = Left text from to at value

@@ -3,8 +3,8 @@ use native.Mathlib.Omega.{arith}
 use lib.ListN.{length-set}
 use Rattle.theory.specs.Fields.{put-4}
 use borrow.Author.Needs.{needs}
-use Rattle.leaves.proofs.fields.put_u32.Statement.{statement}
-use Rattle.leaves.proofs.fields.put_u32.Tie as tie
+use Rattle.leaves_fields.proofs.fields.put_u32.Statement.{statement}
+use Rattle.leaves_fields.proofs.fields.put_u32.Tie as tie
 
 cast-b : tie.Need-cast-b
 cast-b c = search needs

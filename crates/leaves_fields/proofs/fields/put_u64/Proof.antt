@@ -1,8 +1,8 @@
 -- The field is put as its lower half and its upper half. Assumes nothing.
 use Rattle.theory.specs.Fields.{put-8}
 use borrow.Author.Needs.{needs}
-use Rattle.leaves.proofs.fields.put_u64.Statement.{statement}
-use Rattle.leaves.proofs.fields.put_u64.Tie as tie
+use Rattle.leaves_fields.proofs.fields.put_u64.Statement.{statement}
+use Rattle.leaves_fields.proofs.fields.put_u64.Tie as tie
 
 cast-put-u32 : tie.Need-cast-put-u32
 cast-put-u32 c = search needs

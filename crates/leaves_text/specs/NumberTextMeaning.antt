@@ -13,7 +13,7 @@ use lib.Dec.{leb, eqb}
 use lib.ListN.{length, take}
 use lib.Seq.{take-take}
 use Rattle.theory.specs.Answer.{answer}
-use Rattle.leaves.specs.NumberText.{isDigit, stuck, digits, someDigits, numberText}
+use Rattle.leaves_text.specs.NumberText.{isDigit, stuck, digits, someDigits, numberText}
 
 -- every byte is a digit
 unfoldable pub allDigits : List ℕ → Bool

@@ -5,8 +5,8 @@ use mathlib.Core.List.{List, [], _∷_}
 use mathlib.Core.Bool.{Bool, cond, _&&_}
 use lib.Dec.{leb, eqb}
 use Rattle.theory.specs.Answer.{Answer, answer}
-use Rattle.leaves.specs.declared.number_text.Reading.{Reading}
-use Rattle.leaves.specs.declared.number_text.Reading.the-variants.{Value, Stuck}
+use Rattle.leaves_text.specs.declared.number_text.Reading.{Reading}
+use Rattle.leaves_text.specs.declared.number_text.Reading.the-variants.{Value, Stuck}
 
 -- the answer: 0 with the number, or 8 with the place of the first byte at which no reading could go on
 abbrev pub readingOf : Reading → Answer

@@ -11,7 +11,7 @@ use lib.ListN.{length, getD}
 use lib.Seq.{slice}
 use Rattle.theory.specs.Answer.{answer}
 use Rattle.theory.specs.Slices.{cut, none-left}
-use Rattle.leaves.specs.NumberText.{isDigit, stuck, digits, someDigits, numberText}
+use Rattle.leaves_text.specs.NumberText.{isDigit, stuck, digits, someDigits, numberText}
 
 -- the value with one more digit; one past the largest where the byte is no digit
 unfoldable pub appended : ℕ → ℕ → ℕ

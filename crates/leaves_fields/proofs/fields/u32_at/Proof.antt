@@ -2,8 +2,8 @@
 use native.Mathlib.Omega.{arith}
 use Rattle.theory.specs.Fields.{field-4}
 use borrow.Author.Needs.{needs}
-use Rattle.leaves.proofs.fields.u32_at.Statement.{statement}
-use Rattle.leaves.proofs.fields.u32_at.Tie as tie
+use Rattle.leaves_fields.proofs.fields.u32_at.Statement.{statement}
+use Rattle.leaves_fields.proofs.fields.u32_at.Tie as tie
 
 shared-slice-read-wide : tie.Need-shared-slice-read-wide
 shared-slice-read-wide c = search needs

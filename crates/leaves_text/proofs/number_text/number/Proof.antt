@@ -2,10 +2,10 @@
 -- Assumes nothing.
 use mathlib.Core.Path.{ap, _∙_}
 use borrow.Author.Needs.{needs}
-use Rattle.leaves.specs.NumberText.{numberText}
+use Rattle.leaves_text.specs.NumberText.{numberText}
 use Rattle.theory.specs.Slices.{whole}
-use Rattle.leaves.proofs.number_text.number.Statement.{statement}
-use Rattle.leaves.proofs.number_text.number.Tie as tie
+use Rattle.leaves_text.proofs.number_text.number.Statement.{statement}
+use Rattle.leaves_text.proofs.number_text.number.Tie as tie
 
 number-within-requires : tie.Need-number-within-requires
 number-within-requires c κs = search needs

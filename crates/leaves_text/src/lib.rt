@@ -1,0 +1,2 @@
+// Numbers in text.
+pub mod number_text;
