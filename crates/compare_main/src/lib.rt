@@ -5,13 +5,13 @@ use lines::parts::PART_HEAD;
 use lines::parts::part_end;
 use map_compare::compare::both_formed;
 use map_compare::compare::compare_fits;
-use map_compare::walk::Position;
+use map_compare_walk::walk::Position;
 use map_time::interval::WIDTH;
 use standard::Input;
 ghost use mathlib.Core.Path.{_≡_};
 ghost use Prim.Native.Nat.{_≤_};
 ghost use lib.ListN.{length};
-ghost use Rattle.map_compare.specs.Walk.{InOrder};
+ghost use Rattle.map_compare_walk.specs.Walk.{InOrder};
 ghost use Rattle.compare_main.specs.Asked.{leftEnd, Apart, tablesStatus, statusOf, Ends};
 
 // The status of two tables that were compared.

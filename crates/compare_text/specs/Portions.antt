@@ -13,10 +13,10 @@ use Rattle.lines.specs.Lines.{decimal, blank, newline, laid, Lays}
 use Rattle.map_rules.specs.Table.{Row}
 use Rattle.map_compare_rules.specs.Compare.{Difference, Stretches}
 use Rattle.map_compare_rules.specs.Memory.{Value}
-use Rattle.map_compare.specs.declared.walk.Position.{Position}
-use Rattle.map_compare.specs.declared.walk.Stretch.{Stretch}
-use Rattle.map_compare.specs.declared.walk.Step.{Step}
-use Rattle.map_compare.specs.Walk.{ahead, turnsLeft, Ready, More, Stepped, stretchOf, told, toldOf}
+use Rattle.map_compare_walk.specs.declared.walk.Position.{Position}
+use Rattle.map_compare_walk.specs.declared.walk.Stretch.{Stretch}
+use Rattle.map_compare_walk.specs.declared.walk.Step.{Step}
+use Rattle.map_compare_walk.specs.Walk.{ahead, turnsLeft, Ready, More, Stepped, stretchOf, told, toldOf}
 use Rattle.compare_text.specs.Text.{sideText, numbersText, sidesText, turnText}
 
 -- a stretch's line: instrument, start, end, left symbol or `-`, right symbol or `-`

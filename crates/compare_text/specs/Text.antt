@@ -12,8 +12,8 @@ use Rattle.lines.specs.Lines.{decimal, blank, newline, laid, Lays}
 use Rattle.lines.specs.LinesLaws.{lays-then}
 use Rattle.map_time.specs.Interval.{rowOf}
 use Rattle.map_compare_rules.specs.Memory.{Value}
-use Rattle.map_compare.specs.declared.walk.Stretch.{Stretch}
-use Rattle.map_compare.specs.Walk.{saying}
+use Rattle.map_compare_walk.specs.declared.walk.Stretch.{Stretch}
+use Rattle.map_compare_walk.specs.Walk.{saying}
 
 -- a symbol's number, or `-` for nothing
 unfoldable pub sideText : Option Value → List ℕ

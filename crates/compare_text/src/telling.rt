@@ -1,16 +1,16 @@
 // A stretch's line: instrument, start, end, left symbol or `-`, right symbol or `-`.
 use lines::lines::number;
 use lines::lines::word;
-use map_compare::walk::Position;
-use map_compare::walk::Stretch;
-use map_compare::walk::next_step;
+use map_compare_walk::walk::Position;
+use map_compare_walk::walk::Stretch;
+use map_compare_walk::walk::next_step;
 use map_time::interval::Interval;
 ghost use mathlib.Core.Path.{_≡_};
 ghost use Prim.Native.Nat.{_+_, _≤_};
 ghost use lib.ListN.{length};
 ghost use Rattle.lines.specs.Lines.{Lays};
 ghost use Rattle.map_time.specs.Interval.{rowOf};
-ghost use Rattle.map_compare.specs.Walk.{saying, Ready};
+ghost use Rattle.map_compare_walk.specs.Walk.{saying, Ready};
 ghost use Rattle.compare_text.specs.Text.{sideText, numbersText, sidesText, turnText};
 ghost use Rattle.compare_text.specs.Portions.{Portioned};
 

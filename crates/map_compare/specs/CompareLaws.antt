@@ -21,11 +21,11 @@ use Rattle.map_compare_rules.specs.Laws.{compared-length}
 use Rattle.map_compare_rules.specs.Memory.{Value, stretchWidth, putStretch, compareFits, bothFormed, stretchesOf, compareOutcome, comparedAnswer, comparedMemory, Compares}
 use Rattle.map_compare_rules.specs.MemoryLaws.{layStretches, length-put-stretch, lay-memory}
 use Rattle.map_compare.specs.Compare.{Needed}
-use Rattle.map_compare.specs.declared.walk.Position.{Position}
-use Rattle.map_compare.specs.declared.walk.Stretch.{Stretch}
-use Rattle.map_compare.specs.declared.walk.Step.{Step}
-use Rattle.map_compare.specs.Walk.{headAt, headed, from, ahead, InOrder, Sound, Ready, More, Stepped, stretchOf, told, toldOf, tellsOf, writtenOf}
-use Rattle.map_compare.specs.WalkLaws.{from-end, headed-zero, row-not-empty}
+use Rattle.map_compare_walk.specs.declared.walk.Position.{Position}
+use Rattle.map_compare_walk.specs.declared.walk.Stretch.{Stretch}
+use Rattle.map_compare_walk.specs.declared.walk.Step.{Step}
+use Rattle.map_compare_walk.specs.Walk.{headAt, headed, from, ahead, InOrder, Sound, Ready, More, Stepped, stretchOf, told, toldOf, tellsOf, writtenOf}
+use Rattle.map_compare_walk.specs.WalkLaws.{from-end, headed-zero, row-not-empty}
 
 -- ---- the walk from its start to its end
 

@@ -1,5 +1,2 @@
-pub mod Walk
-pub mod WalkLaws
-pub mod TurnLaws
 pub mod Compare
 pub mod CompareLaws

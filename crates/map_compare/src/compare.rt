@@ -1,7 +1,7 @@
 // Two tables side by side (RULES, Requests, No. 1): the list of every stretch in which they disagree, its room judged before a byte is written.
 use crate::stretch_bytes::STRETCH_WIDTH;
-use crate::walk::Position;
-use crate::walk::Stretch;
+use map_compare_walk::walk::Position;
+use map_compare_walk::walk::Stretch;
 use leaves::refusal::Refusal;
 ghost use mathlib.Core.Path.{_≡_};
 ghost use Prim.Native.Nat.{_+_, _*_, _≤_};
@@ -9,7 +9,7 @@ ghost use lib.ListN.{length};
 ghost use Rattle.map_compare_rules.specs.Memory.{stretchWidth, compareFits, bothFormed, stretchesOf, compareOutcome, Compares};
 ghost use Rattle.map_rules.specs.Memory.{width};
 ghost use Rattle.map_compare_rules.specs.MemoryLaws.{layStretches};
-ghost use Rattle.map_compare.specs.Walk.{tellsOf, writtenOf, InOrder};
+ghost use Rattle.map_compare_walk.specs.Walk.{tellsOf, writtenOf, InOrder};
 ghost use Rattle.map_compare.specs.Compare.{Needed, comparedOf};
 
 // A comparison's answer: done, with the number of stretches, or refused.
@@ -40,7 +40,7 @@ fn count(left: &[u8], n: usize, right: &[u8], m: usize) -> usize
     let mut r = Position { place: 0, from: 0 };
     let mut total: usize = 0;
     while l.place < n || r.place < m {
-        let s = crate::walk::next_step(left, n, right, m, l, r);
+        let s = map_compare_walk::walk::next_step(left, n, right, m, l, r);
         total += tells(s.stretch);
         l = s.left;
         r = s.right;
@@ -80,7 +80,7 @@ fn lay(left: &[u8], n: usize, right: &[u8], m: usize, stretches: &mut [u8]) -> u
     let mut r = Position { place: 0, from: 0 };
     let mut i: usize = 0;
     while l.place < n || r.place < m {
-        let s = crate::walk::next_step(left, n, right, m, l, r);
+        let s = map_compare_walk::walk::next_step(left, n, right, m, l, r);
         write(stretches, i, s.stretch);
         i += tells(s.stretch);
         l = s.left;

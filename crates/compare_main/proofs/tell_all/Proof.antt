@@ -5,7 +5,7 @@ use native.Mathlib.Omega.{arith}
 use lib.ListN.{length}
 use lib.Seq.{length-take-le}
 use borrow.Author.Needs.{needs}
-use Rattle.map_compare.specs.Walk.{turnsLeft, Ready}
+use Rattle.map_compare_walk.specs.Walk.{turnsLeft, Ready}
 use Rattle.map_compare.specs.CompareLaws.{ready-start, more-left, more-right}
 use Rattle.compare_main.proofs.tell_all.Statement.{statement}
 use Rattle.compare_main.proofs.tell_all.Tie as tie

@@ -2,7 +2,7 @@
 use mathlib.Core.Logic.{⊎-elim}
 use native.Mathlib.Omega.{arith}
 use borrow.Author.Needs.{needs}
-use Rattle.map_compare.specs.Walk.{turnsLeft}
+use Rattle.map_compare_walk.specs.Walk.{turnsLeft}
 use Rattle.map_compare.specs.CompareLaws.{more-left, more-right}
 use Rattle.compare_text.specs.Portions.{Telling, telling-start, telling-on, telling-full, telling-end}
 use Rattle.compare_text.proofs.telling.lay_portion.Statement.{statement}

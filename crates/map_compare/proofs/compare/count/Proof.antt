@@ -2,7 +2,7 @@
 use mathlib.Core.Logic.{⊎-elim}
 use native.Mathlib.Omega.{arith}
 use borrow.Author.Needs.{needs}
-use Rattle.map_compare.specs.Walk.{turnsLeft}
+use Rattle.map_compare_walk.specs.Walk.{turnsLeft}
 use Rattle.map_compare.specs.CompareLaws.{Counting, count-start, more-left, more-right, count-few, count-on, count-end}
 use Rattle.map_compare.proofs.compare.count.Statement.{statement}
 use Rattle.map_compare.proofs.compare.count.Tie as tie

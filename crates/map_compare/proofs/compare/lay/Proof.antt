@@ -2,7 +2,7 @@
 use mathlib.Core.Logic.{⊎-elim}
 use native.Mathlib.Omega.{arith}
 use borrow.Author.Needs.{needs}
-use Rattle.map_compare.specs.Walk.{turnsLeft}
+use Rattle.map_compare_walk.specs.Walk.{turnsLeft}
 use Rattle.map_compare.specs.CompareLaws.{Laying, lay-start, more-left, more-right, count-few, lay-room, lay-on, count-end, lay-end}
 use Rattle.map_compare.proofs.compare.lay.Statement.{statement}
 use Rattle.map_compare.proofs.compare.lay.Tie as tie

@@ -1,6 +1,6 @@
 -- Each way through the tests is one law. Assumes nothing.
 use borrow.Author.Needs.{needs}
-use Rattle.map_compare.specs.TurnLaws.{tells-left, tells-right, tells-none}
+use Rattle.map_compare_walk.specs.TurnLaws.{tells-left, tells-right, tells-none}
 use Rattle.map_compare.proofs.compare.tells.Statement.{statement}
 use Rattle.map_compare.proofs.compare.tells.Tie as tie
 

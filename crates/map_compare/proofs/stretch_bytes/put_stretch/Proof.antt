@@ -1,6 +1,6 @@
 -- Five stores are the stretch put at its place. Assumes nothing.
 use Rattle.map_compare_rules.specs.Memory.{putStretch}
-use Rattle.map_compare.specs.Walk.{stretchOf}
+use Rattle.map_compare_walk.specs.Walk.{stretchOf}
 use borrow.Author.Needs.{needs}
 use Rattle.map_compare.proofs.stretch_bytes.put_stretch.Statement.{statement}
 use Rattle.map_compare.proofs.stretch_bytes.put_stretch.Tie as tie

@@ -1,6 +1,6 @@
 -- Each way through the test is one law. Assumes nothing.
 use borrow.Author.Needs.{needs}
-use Rattle.map_compare.specs.TurnLaws.{symbol-said, symbol-none}
+use Rattle.map_compare_walk.specs.TurnLaws.{symbol-said, symbol-none}
 use Rattle.map_compare.proofs.stretch_bytes.symbol.Statement.{statement}
 use Rattle.map_compare.proofs.stretch_bytes.symbol.Tie as tie
 

@@ -12,10 +12,10 @@ use Rattle.map_rules.specs.Table.{Row}
 use Rattle.map_rules.specs.Memory.{sameValue}
 use Rattle.map_compare_rules.specs.Compare.{over}
 use Rattle.map_compare_rules.specs.Memory.{Value, symbolIn, nothing}
-use Rattle.map_compare.specs.declared.walk.Onward.{Onward}
-use Rattle.map_compare.specs.declared.walk.Turn.{Turn}
-use Rattle.map_compare.specs.declared.walk.Stretch.{Stretch}
-use Rattle.map_compare.specs.Walk.{goesOn, cutTo, turnBy, bothOf, turnOf, saying, instrumentOf, tellsOf}
+use Rattle.map_compare_walk.specs.declared.walk.Onward.{Onward}
+use Rattle.map_compare_walk.specs.declared.walk.Turn.{Turn}
+use Rattle.map_compare_walk.specs.declared.walk.Stretch.{Stretch}
+use Rattle.map_compare_walk.specs.Walk.{goesOn, cutTo, turnBy, bothOf, turnOf, saying, instrumentOf, tellsOf}
 
 is-true : (b : Bool) → T b → b ≡ true
 is-true true t = refl

@@ -1,8 +1,8 @@
 -- The interval from the later of its start and the moment. Assumes nothing.
-use Rattle.map_compare.specs.WalkLaws.{head-made}
+use Rattle.map_compare_walk.specs.WalkLaws.{head-made}
 use borrow.Author.Needs.{needs}
-use Rattle.map_compare.proofs.walk.head.Statement.{statement}
-use Rattle.map_compare.proofs.walk.head.Tie as tie
+use Rattle.map_compare_walk.proofs.walk.head.Statement.{statement}
+use Rattle.map_compare_walk.proofs.walk.head.Tie as tie
 
 interval-at-requires : tie.Need-interval-at-requires
 interval-at-requires c κs = search needs

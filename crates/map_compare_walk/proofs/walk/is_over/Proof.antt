@@ -1,8 +1,8 @@
 -- Each way through the tests is one law. Assumes nothing.
 use borrow.Author.Needs.{needs}
-use Rattle.map_compare.specs.TurnLaws.{over-lower, over-own, over-higher}
-use Rattle.map_compare.proofs.walk.is_over.Statement.{statement}
-use Rattle.map_compare.proofs.walk.is_over.Tie as tie
+use Rattle.map_compare_walk.specs.TurnLaws.{over-lower, over-own, over-higher}
+use Rattle.map_compare_walk.proofs.walk.is_over.Statement.{statement}
+use Rattle.map_compare_walk.proofs.walk.is_over.Tie as tie
 
 returns : tie.Need-returns
 returns c = search (needs, over-lower, over-own, over-higher)

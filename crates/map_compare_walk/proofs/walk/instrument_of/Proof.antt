@@ -1,8 +1,8 @@
 -- Each way through the test is one law. Assumes nothing.
 use borrow.Author.Needs.{needs}
-use Rattle.map_compare.specs.TurnLaws.{instrument-left, instrument-right}
-use Rattle.map_compare.proofs.walk.instrument_of.Statement.{statement}
-use Rattle.map_compare.proofs.walk.instrument_of.Tie as tie
+use Rattle.map_compare_walk.specs.TurnLaws.{instrument-left, instrument-right}
+use Rattle.map_compare_walk.proofs.walk.instrument_of.Statement.{statement}
+use Rattle.map_compare_walk.proofs.walk.instrument_of.Tie as tie
 
 returns : tie.Need-returns
 returns c = search (needs, instrument-left, instrument-right)

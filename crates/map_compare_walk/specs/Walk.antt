@@ -14,11 +14,11 @@ use Rattle.map_time.specs.declared.interval.Interval.{Interval}
 use Rattle.map_time.specs.Interval.{rowOf}
 use Rattle.map_compare_rules.specs.Compare.{Difference, Stretches, stretch, over, since, compared}
 use Rattle.map_compare_rules.specs.Memory.{Value, putStretch}
-use Rattle.map_compare.specs.declared.walk.Position.{Position}
-use Rattle.map_compare.specs.declared.walk.Onward.{Onward}
-use Rattle.map_compare.specs.declared.walk.Turn.{Turn}
-use Rattle.map_compare.specs.declared.walk.Stretch.{Stretch}
-use Rattle.map_compare.specs.declared.walk.Step.{Step}
+use Rattle.map_compare_walk.specs.declared.walk.Position.{Position}
+use Rattle.map_compare_walk.specs.declared.walk.Onward.{Onward}
+use Rattle.map_compare_walk.specs.declared.walk.Turn.{Turn}
+use Rattle.map_compare_walk.specs.declared.walk.Stretch.{Stretch}
+use Rattle.map_compare_walk.specs.declared.walk.Step.{Step}
 
 -- ---- one turn
 

@@ -20,13 +20,13 @@ use Rattle.map_time.specs.Interval.{rowOf}
 use Rattle.map_compare_rules.specs.Compare.{Difference, Stretches, stretch, leftOnly, rightOnly, over, since, lead, common, against, compared}
 use Rattle.map_compare_rules.specs.Laws.{Past, Overlap, overlap-of, not-past, over-no}
 use Rattle.map_compare_rules.specs.Memory.{Value}
-use Rattle.map_compare.specs.declared.walk.Position.{Position}
-use Rattle.map_compare.specs.declared.walk.Onward.{Onward}
-use Rattle.map_compare.specs.declared.walk.Turn.{Turn}
-use Rattle.map_compare.specs.declared.walk.Stretch.{Stretch}
-use Rattle.map_compare.specs.declared.walk.Step.{Step}
-use Rattle.map_compare.specs.Walk.{goesOn, cutTo, turnBy, bothOf, turnOf, saying, instrumentOf, partOf, told, remains, headAt, headed, from, ahead, turnsLeft}
-use Rattle.map_compare.specs.Walk.{InOrder, Sound, Ready, More, takenOf, stretchOf, toldOf, Stepped}
+use Rattle.map_compare_walk.specs.declared.walk.Position.{Position}
+use Rattle.map_compare_walk.specs.declared.walk.Onward.{Onward}
+use Rattle.map_compare_walk.specs.declared.walk.Turn.{Turn}
+use Rattle.map_compare_walk.specs.declared.walk.Stretch.{Stretch}
+use Rattle.map_compare_walk.specs.declared.walk.Step.{Step}
+use Rattle.map_compare_walk.specs.Walk.{goesOn, cutTo, turnBy, bothOf, turnOf, saying, instrumentOf, partOf, told, remains, headAt, headed, from, ahead, turnsLeft}
+use Rattle.map_compare_walk.specs.Walk.{InOrder, Sound, Ready, More, takenOf, stretchOf, toldOf, Stepped}
 
 -- what becomes of a head: it goes on, or counts from a moment of its own
 pub record Kept {A : Type 0} (o : Onward) (x : Row A) : Type 0 where

@@ -8,7 +8,7 @@ ghost use lib.ListN.{length};
 ghost use Rattle.map_rules.specs.Memory.{sameValue, width};
 ghost use Rattle.map_time.specs.Interval.{rowOf};
 ghost use Rattle.map_compare_rules.specs.Compare.{over};
-ghost use Rattle.map_compare.specs.Walk.{turnBy, goesOn, cutTo, bothOf, turnOf, instrumentOf, headAt, takenOf, More, Ready, Stepped};
+ghost use Rattle.map_compare_walk.specs.Walk.{turnBy, goesOn, cutTo, bothOf, turnOf, instrumentOf, headAt, takenOf, More, Ready, Stepped};
 
 // How far a table is walked: the place of its head, and the moment from which that still counts.
 pub struct Position {

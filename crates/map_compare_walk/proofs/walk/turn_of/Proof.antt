@@ -1,8 +1,8 @@
 -- Each way through the tests is one law. Assumes nothing.
-use Rattle.map_compare.specs.TurnLaws.{turn-left, turn-right, turn-left-part, turn-right-part, turn-both}
+use Rattle.map_compare_walk.specs.TurnLaws.{turn-left, turn-right, turn-left-part, turn-right-part, turn-both}
 use borrow.Author.Needs.{needs}
-use Rattle.map_compare.proofs.walk.turn_of.Statement.{statement}
-use Rattle.map_compare.proofs.walk.turn_of.Tie as tie
+use Rattle.map_compare_walk.proofs.walk.turn_of.Statement.{statement}
+use Rattle.map_compare_walk.proofs.walk.turn_of.Tie as tie
 
 is-over-requires : tie.Need-is-over-requires
 is-over-requires c κs = search needs

@@ -1,8 +1,8 @@
 -- Each way through the tests is one law. Assumes nothing.
-use Rattle.map_compare.specs.TurnLaws.{both-left, both-right, both-whole}
+use Rattle.map_compare_walk.specs.TurnLaws.{both-left, both-right, both-whole}
 use borrow.Author.Needs.{needs}
-use Rattle.map_compare.proofs.walk.both.Statement.{statement}
-use Rattle.map_compare.proofs.walk.both.Tie as tie
+use Rattle.map_compare_walk.proofs.walk.both.Statement.{statement}
+use Rattle.map_compare_walk.proofs.walk.both.Tie as tie
 
 same-value-requires : tie.Need-same-value-requires
 same-value-requires c κs = search needs

@@ -1,8 +1,8 @@
 -- The parts are those of the definition. Assumes nothing.
-use Rattle.map_compare.specs.WalkLaws.{taken-made}
+use Rattle.map_compare_walk.specs.WalkLaws.{taken-made}
 use borrow.Author.Needs.{needs}
-use Rattle.map_compare.proofs.walk.taken.Statement.{statement}
-use Rattle.map_compare.proofs.walk.taken.Tie as tie
+use Rattle.map_compare_walk.proofs.walk.taken.Statement.{statement}
+use Rattle.map_compare_walk.proofs.walk.taken.Tie as tie
 
 instrument-of-requires : tie.Need-instrument-of-requires
 instrument-of-requires c κs = search needs
