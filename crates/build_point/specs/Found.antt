@@ -25,7 +25,8 @@ use Rattle.build_rules.specs.declared.reading.Direction.{Direction}
 use Rattle.build_rules.specs.Reading.{value, dayIn, directionOf}
 use Rattle.build_rules.specs.OverTime.{Build, stopped, built, buildAnswer}
 use Rattle.build_rules.specs.PointInTime.{pointInTime}
-use Rattle.build_rules.specs.PointInTimeLaws.{AllNarrow, Sorted, Sound, point-sound, settings, point-latest}
+use Rattle.build_rules.specs.PointInTimeLaws.{AllNarrow, Sorted, Sound, point-sound}
+use Rattle.build_rules.specs.PointInTimeLatest.{settings, point-latest}
 use Rattle.build_point.specs.Build.{buildFits, pointBuild, pointInTimeAnswer, builtMemory, pointInTimeMemory}
 
 -- entries with known symbols, of instruments of 32 bits, can be read back

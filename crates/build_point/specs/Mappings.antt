@@ -28,7 +28,8 @@ use Rattle.build_rules.specs.Reading.{fault, value, readOf}
 use Rattle.build_rules.specs.ReadingLaws.{refused-read}
 use Rattle.build_rules.specs.OverTime.{give, Build, built, buildAnswer}
 use Rattle.build_rules.specs.PointInTime.{pointStep, counting, pointTaken, pickMapping, pickMappings}
-use Rattle.build_rules.specs.PointInTimeLaws.{pick-end, pick-stored, pick-refused, pick-is, taken-stop, taken-skip, taken-set, taken-full, entries-over, set-longer}
+use Rattle.build_rules.specs.PointInTimeLaws.{pick-end, pick-stored, pick-refused, pick-is, taken-stop, taken-skip, taken-set, taken-full}
+use Rattle.build_rules.specs.PointInTimeLatest.{entries-over, set-longer}
 use Rattle.build_point.specs.declared.entry.Wanted.{Wanted}
 use Rattle.build_point.specs.declared.entry.Wanted.the-variants as wanted
 use Rattle.build_point.specs.Entry.{wantedOf}

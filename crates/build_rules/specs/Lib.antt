@@ -6,4 +6,5 @@ pub mod OverTimeLaws
 pub mod OverTimeHistory
 pub mod Examples
 pub mod PointInTimeLaws
+pub mod PointInTimeLatest
 pub mod Fitting

@@ -1,2 +1,3 @@
 pub mod OverTime
 pub mod OverTimeLaws
+pub mod OverTimeMappings

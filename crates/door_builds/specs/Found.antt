@@ -33,10 +33,11 @@ use Rattle.build_rules.specs.Reading.{Read, fault, value, readOf, andThen, text
 use Rattle.build_rules.specs.OverTime.{Step, stop, skip, give, reading, unlessEmpty, dated, forwardStep, inverseStep, taken, Build, stopped, built, onward, further, layIntervals, layRead, layMapping, layMappings, directed, overTime, buildAnswer}
 use Rattle.build_rules.specs.OverTimeHistory.{insertsAsked}
 use Rattle.build_rules.specs.PointInTime.{pointInTime}
-use Rattle.build_rules.specs.PointInTimeLaws.{pointRefusal, Sound, point-sound, settings}
+use Rattle.build_rules.specs.PointInTimeLaws.{pointRefusal, Sound, point-sound}
+use Rattle.build_rules.specs.PointInTimeLatest.{settings}
 use Rattle.build_time.specs.OverTime as time
 use Rattle.build_time.specs.OverTime.{overTimeBuild, overTimeAnswer, overTimeMemory}
-use Rattle.build_time.specs.OverTimeLaws.{over-traced}
+use Rattle.build_time.specs.OverTimeMappings.{over-traced}
 use Rattle.build_point.specs.Build as point
 use Rattle.build_point.specs.Build.{pointBuild, pointInTimeAnswer, pointInTimeMemory}
 use Rattle.build_point.specs.Found.{built-there, built-found}

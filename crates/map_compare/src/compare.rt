@@ -1,8 +1,8 @@
 // Two tables side by side (RULES, Requests, No. 1): the list of every stretch in which they disagree, its room judged before a byte is written.
 use crate::stretch_bytes::STRETCH_WIDTH;
+use leaves::refusal::Refusal;
 use map_compare_walk::walk::Position;
 use map_compare_walk::walk::Stretch;
-use leaves::refusal::Refusal;
 ghost use mathlib.Core.Path.{_≡_};
 ghost use Prim.Native.Nat.{_+_, _*_, _≤_};
 ghost use lib.ListN.{length};

@@ -1,3 +1,4 @@
 pub mod Walk
 pub mod WalkLaws
+pub mod StepLaws
 pub mod TurnLaws

@@ -1,4 +1,5 @@
 pub mod Room
 pub mod Outcome
+pub mod OutcomeCalls
 pub mod Merger
 pub mod ReadBack

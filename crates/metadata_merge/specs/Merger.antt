@@ -27,7 +27,8 @@ use Rattle.metadata_form.specs.declared.header.Counts.{Counts}
 use Rattle.metadata_form.specs.Header.{Lists, lists, lengthsOf, headerFields, metadataOf, metadataFits, mergedHeader, countedHeader, MetadataFitting, metadata-fitting, outcomeFits, numbersOf}
 use Rattle.metadata_form.specs.Over.{over}
 use Rattle.metadata_gather.specs.Sets.{AllUnited}
-use Rattle.metadata_merge.specs.Outcome.{given, Outcomes, Deciding, Decided, Fitted, Plannable, Commit, Fits1, committed, lists-same, countsOf, front}
+use Rattle.metadata_merge.specs.Outcome.{given, Deciding, Decided, Fitted, countsOf, front}
+use Rattle.metadata_merge.specs.OutcomeCalls.{Outcomes, Plannable, Commit, Fits1, committed, lists-same}
 use Rattle.metadata_merge.specs.Room.{names-length}
 use Rattle.metadata_merge.specs.declared.outcome.Verdict.{Verdict}
 use Rattle.metadata_merge.specs.declared.outcome.Verdict.the-variants as verdict

@@ -13,7 +13,8 @@ ghost use mathlib.Core.Path.{_≡_};
 ghost use Prim.Native.Nat.{_+_, _*_, _<_, _≤_};
 ghost use lib.ListN.{length};
 ghost use Rattle.metadata_form.specs.Header.{lists};
-ghost use Rattle.metadata_merge.specs.Outcome.{refusalOf, restOf, decideOf, Plannable, Outcomes, Commit, committed};
+ghost use Rattle.metadata_merge.specs.Outcome.{refusalOf, restOf, decideOf};
+ghost use Rattle.metadata_merge.specs.OutcomeCalls.{Plannable, Outcomes, Commit, committed};
 
 // What comes of a merge: a refusal, or how many of each list the outcome has.
 pub enum Verdict {

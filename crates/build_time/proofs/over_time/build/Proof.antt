@@ -2,7 +2,7 @@
 use mathlib.Core.Path.{sym, _∙_}
 use Rattle.leaves_names.specs.Names.{namesOf}
 use Rattle.metadata_rules.specs.Words.{mappingsFrom}
-use Rattle.build_time.specs.OverTimeLaws.{build-undirected, build-done, build-cleared}
+use Rattle.build_time.specs.OverTimeMappings.{build-undirected, build-done, build-cleared}
 use borrow.Author.Needs.{needs}
 use Rattle.build_time.proofs.over_time.build.Statement.{statement}
 use Rattle.build_time.proofs.over_time.build.Tie as tie

@@ -1,5 +1,5 @@
 -- Each way through the tests is one law. Assumes nothing.
-use Rattle.build_time.specs.OverTimeLaws.{fits-table, fits-metadata, fits-list}
+use Rattle.build_time.specs.OverTimeMappings.{fits-table, fits-metadata, fits-list}
 use borrow.Author.Needs.{needs}
 use Rattle.build_time.proofs.over_time.build_fits.Statement.{statement}
 use Rattle.build_time.proofs.over_time.build_fits.Tie as tie

@@ -1,7 +1,7 @@
 -- Forward, the intervals are the mapping; inverse, its name is read first. Assumes nothing.
 use Rattle.metadata_rules.specs.Words.{stretch}
 use Rattle.map_rules.specs.Memory.{rows, roomOf}
-use Rattle.build_time.specs.OverTimeLaws.{mapping-forward, mapping-number, mapping-refused}
+use Rattle.build_time.specs.OverTimeMappings.{mapping-forward, mapping-number, mapping-refused}
 use borrow.Author.Needs.{needs}
 use Rattle.build_time.proofs.over_time.lay_mapping.Statement.{statement}
 use Rattle.build_time.proofs.over_time.lay_mapping.Tie as tie

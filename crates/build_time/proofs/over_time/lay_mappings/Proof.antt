@@ -4,7 +4,7 @@ use Prim.Native.Nat.{_-_}
 use native.Mathlib.Omega.{arith}
 use Rattle.leaves_names.specs.Names.{namesOf}
 use Rattle.leaves_names.specs.NamesLaws.{holds, fails}
-use Rattle.build_time.specs.OverTimeLaws.{Mapped, mapping-start, mapping-within, mapping-turn, mapping-stop, mapping-end}
+use Rattle.build_time.specs.OverTimeMappings.{Mapped, mapping-start, mapping-within, mapping-turn, mapping-stop, mapping-end}
 use borrow.Author.Needs.{needs}
 use Rattle.build_time.proofs.over_time.lay_mappings.Statement.{statement}
 use Rattle.build_time.proofs.over_time.lay_mappings.Tie as tie

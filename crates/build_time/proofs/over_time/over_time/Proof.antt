@@ -2,7 +2,7 @@
 use mathlib.Core.Path.{ap}
 use Rattle.metadata_form.specs.declared.header.Lengths.{Lengths}
 use Rattle.metadata_form.specs.Header.{lists}
-use Rattle.build_time.specs.OverTimeLaws.{over-15, over-list, over-14, over-ready, over-built}
+use Rattle.build_time.specs.OverTimeMappings.{over-15, over-list, over-14, over-ready, over-built}
 use borrow.Author.Needs.{needs}
 use Rattle.build_time.proofs.over_time.over_time.Statement.{statement}
 use Rattle.build_time.proofs.over_time.over_time.Tie as tie

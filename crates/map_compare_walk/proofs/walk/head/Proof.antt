@@ -1,5 +1,5 @@
 -- The interval from the later of its start and the moment. Assumes nothing.
-use Rattle.map_compare_walk.specs.WalkLaws.{head-made}
+use Rattle.map_compare_walk.specs.StepLaws.{head-made}
 use borrow.Author.Needs.{needs}
 use Rattle.map_compare_walk.proofs.walk.head.Statement.{statement}
 use Rattle.map_compare_walk.proofs.walk.head.Tie as tie

@@ -1,5 +1,5 @@
 -- Both heads, or the one that is left: one law each. Assumes nothing.
-use Rattle.map_compare_walk.specs.WalkLaws.{room-right, few-both, few-left, few-right, step-both, step-left, step-right}
+use Rattle.map_compare_walk.specs.StepLaws.{room-right, few-both, few-left, few-right, step-both, step-left, step-right}
 use borrow.Author.Needs.{needs}
 use Rattle.map_compare_walk.proofs.walk.next_step.Statement.{statement}
 use Rattle.map_compare_walk.proofs.walk.next_step.Tie as tie

@@ -1,5 +1,5 @@
 -- The parts are those of the definition. Assumes nothing.
-use Rattle.map_compare_walk.specs.WalkLaws.{taken-made}
+use Rattle.map_compare_walk.specs.StepLaws.{taken-made}
 use borrow.Author.Needs.{needs}
 use Rattle.map_compare_walk.proofs.walk.taken.Statement.{statement}
 use Rattle.map_compare_walk.proofs.walk.taken.Tie as tie

@@ -1,6 +1,6 @@
 -- `outcome::commit` meets its contract: one list after the other. Assumes nothing.
 use mathlib.Core.Path.{_≡_, refl, sym, ap, _∙_, subst}
-use Rattle.metadata_merge.specs.Outcome.{lists-same}
+use Rattle.metadata_merge.specs.OutcomeCalls.{lists-same}
 use native.Mathlib.Omega.{arith}
 use Rattle.metadata_merge.proofs.outcome.commit.Statement.{statement}
 use Rattle.metadata_merge.proofs.outcome.commit.Tie as tie

@@ -1,7 +1,7 @@
 -- `outcome::outcome` meets its contract: the sets, the plan of the mappings, and the room make the verdict. Assumes nothing.
 use mathlib.Core.Path.{_≡_, refl, sym, ap, _∙_, subst}
 use denote.Ref.{now}
-use Rattle.metadata_merge.specs.Outcome.{set-a, set-b, set-c, planable, outcomes}
+use Rattle.metadata_merge.specs.OutcomeCalls.{set-a, set-b, set-c, planable, outcomes}
 use Rattle.metadata_merge.proofs.outcome.outcome.Statement.{statement}
 use Rattle.metadata_merge.proofs.outcome.outcome.Tie as tie
 
