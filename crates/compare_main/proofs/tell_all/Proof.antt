@@ -38,7 +38,8 @@ returns : tie.Need-returns Inv-loop μ-loop
 returns c = λ h. absurd (h refl)
 
 loop-less : tie.Need-loop-less Inv-loop μ-loop
-loop-less c = c .before .before .before .before .before .before .before .lay-portion .ensures .nearer (⊎-elim (λ w. more-left (w .taken)) (λ w. more-right (w .2 .taken)) (c .before .before .before .before .before .before .before .before .before .if1 .came))
+loop-less c = c .before .before .before .before .before .before .before .lay-portion .ensures .nearer
+    (⊎-elim (λ w. more-left (w .taken)) (λ w. more-right (w .2 .taken)) (c .before .before .before .before .before .before .before .before .before .if1 .came))
 
 loop-again : tie.Need-loop-again Inv-loop μ-loop
 loop-again c = (c .before .before .before .before .before .before .before .lay-portion .ensures .ready, search needs)

@@ -27,24 +27,39 @@ same-length c = search needs
 
 returns : tie.Need-returns
 returns c =
-    let a = c .before .before .before .before .before .before .before .before .before .before .before .before .before .before .before .args in
-    build-done (a .names) (a .table .now) (namesOf (a .bytes .now) (a .ends .now) (a .names)) (mappingsFrom (a .mappings .now) (a .intervals .now) 0 0 (a .count)) (a .stype-in) (a .stype-out) (c .before .before .before .before .before .before .before .before .before .direction-by .ensures) (c .before .before .before .before .before .before .before .heading2 .given .1) (c .before .before .before .before .lay-mappings .result) (c .before .before .before .before .lay-mappings .last .0) (c .before .before .before .before .lay-mappings .kept .0) (c .before .before .before .before .lay-mappings .ensures) (sym (c .before .is-done .ensures) ∙ c .if1 .taken)
+    let c4 = c .before .before .before .before in
+    let c15 = c4 .before .before .before .before .before .before .before .before .before .before .before in
+    let a = c15 .args in
+    build-done (a .names) (a .table .now) (namesOf (a .bytes .now) (a .ends .now) (a .names))
+        (mappingsFrom (a .mappings .now) (a .intervals .now) 0 0 (a .count)) (a .stype-in) (a .stype-out)
+        (c4 .before .before .before .before .before .direction-by .ensures) (c4 .before .before .before .heading2 .given .1) (c4 .lay-mappings .result)
+        (c4 .lay-mappings .last .0) (c4 .lay-mappings .kept .0) (c4 .lay-mappings .ensures) (sym (c .before .is-done .ensures) ∙ c .if1 .taken)
 
 clear-requires : tie.Need-clear-requires
 clear-requires c κs = search needs
 
 returns-2 : tie.Need-returns-2
 returns-2 c =
-    let a = c .before .before .before .before .before .before .before .before .before .args in
-    build-undirected (a .names) (a .table .now) (namesOf (a .bytes .now) (a .ends .now) (a .names)) (mappingsFrom (a .mappings .now) (a .intervals .now) 0 0 (a .count)) (a .stype-in) (a .stype-out) (c .before .before .before .before .before .before .before .before .before .pre .1) (c .before .before .before .direction-by .ensures) (c .before .heading .given .1)
+    let c9 = c .before .before .before .before .before .before .before .before .before in
+    let a = c9 .args in
+    build-undirected (a .names) (a .table .now) (namesOf (a .bytes .now) (a .ends .now) (a .names))
+        (mappingsFrom (a .mappings .now) (a .intervals .now) 0 0 (a .count)) (a .stype-in) (a .stype-out) (c9 .pre .1)
+        (c .before .before .before .direction-by .ensures) (c .before .heading .given .1)
 
 same-length-2 : tie.Need-same-length-2
 same-length-2 c = search needs
 
 returns-3 : tie.Need-returns-3
 returns-3 c =
-    let a = c .before .before .before .before .before .before .before .before .before .before .before .before .before .before .before .before .before .before .before .args in
-    build-cleared (a .names) (a .table .now) (namesOf (a .bytes .now) (a .ends .now) (a .names)) (mappingsFrom (a .mappings .now) (a .intervals .now) 0 0 (a .count)) (a .stype-in) (a .stype-out) (c .before .before .before .before .before .before .before .before .before .before .before .before .before .direction-by .ensures) (c .before .before .before .before .before .before .before .before .before .before .before .heading2 .given .1) (c .before .before .before .before .before .before .before .before .lay-mappings .result) (c .before .before .before .before .before .before .before .before .lay-mappings .last .0) (c .before .before .before .before .before .before .before .before .lay-mappings .kept .0) (c .before .before .before .before .before .before .before .before .lay-mappings .ensures) (c .before .before .clear .last .0) (sym (c .before .before .before .before .before .is-done .ensures) ∙ c .before .before .before .before .if1 .left) (c .before .before .clear .ensures)
+    let c8 = c .before .before .before .before .before .before .before .before in
+    let c13 = c8 .before .before .before .before .before in
+    let c19 = c13 .before .before .before .before .before .before in
+    let a = c19 .args in
+    build-cleared (a .names) (a .table .now) (namesOf (a .bytes .now) (a .ends .now) (a .names))
+        (mappingsFrom (a .mappings .now) (a .intervals .now) 0 0 (a .count)) (a .stype-in) (a .stype-out) (c13 .direction-by .ensures)
+        (c8 .before .before .before .heading2 .given .1) (c8 .lay-mappings .result) (c8 .lay-mappings .last .0) (c8 .lay-mappings .kept .0)
+        (c8 .lay-mappings .ensures) (c .before .before .clear .last .0)
+        (sym (c .before .before .before .before .before .is-done .ensures) ∙ c .before .before .before .before .if1 .left) (c .before .before .clear .ensures)
 
 pub build-spec : {M : Type 1} → statement M
 build-spec =

@@ -26,10 +26,12 @@ returns : tie.Need-returns
 returns c = insert-start _ _ _ (c .before .before .before .moment-of .ensures) (c .before .first .given .1)
 
 returns-2 : tie.Need-returns-2
-returns-2 c = insert-end _ _ _ (c .before .before .before .before .before .before .before .moment-of .ensures) (c .before .before .before .before .before .first2 .given .1) (c .before .before .before .moment-of2 .ensures) (c .before .last .given .1)
+returns-2 c = insert-end _ _ _ (c .before .before .before .before .before .before .before .moment-of .ensures)
+    (c .before .before .before .before .before .first2 .given .1) (c .before .before .before .moment-of2 .ensures) (c .before .last .given .1)
 
 returns-3 : tie.Need-returns-3
-returns-3 c = insert-row _ _ _ (c .before .before .before .before .before .before .before .moment-of .ensures) (c .before .before .before .before .before .first2 .given .1) (c .before .before .before .moment-of2 .ensures) (c .before .last2 .given .1)
+returns-3 c = insert-row _ _ _ (c .before .before .before .before .before .before .before .moment-of .ensures)
+    (c .before .before .before .before .before .first2 .given .1) (c .before .before .before .moment-of2 .ensures) (c .before .last2 .given .1)
 
 pub dated-insert-spec : {M : Type 1} → statement M
 dated-insert-spec =

@@ -35,24 +35,34 @@ returns c =
 
 returns-2 : tie.Need-returns-2
 returns-2 c =
-    let a = c .before .before .before .before .before .before .args in
-    took-skip (a .names) (namesOf (a .bytes .now) (a .ends .now) (a .names)) (a .way) (a .interval) (a .table .now) (a .used) (c .before .before .before .before .before .before .pre .1) (c .before .before .step .ensures) (c .enum-told .given .1)
+    let c6 = c .before .before .before .before .before .before in
+    let a = c6 .args in
+    took-skip (a .names) (namesOf (a .bytes .now) (a .ends .now) (a .names)) (a .way) (a .interval) (a .table .now) (a .used) (c6 .pre .1)
+        (c .before .before .step .ensures) (c .enum-told .given .1)
 
 same-length : tie.Need-same-length
 same-length c = search needs
 
 returns-3 : tie.Need-returns-3
 returns-3 c =
-    let a = c .before .before .before .before .before .before .before .before .before .before .before .before .before .before .args in
-    took-insert (a .names) (namesOf (a .bytes .now) (a .ends .now) (a .names)) (a .way) (a .interval) (a .table .now) (a .used) (c .before .before .before .before .before .enter .last .0) (c .before .before .before .before .before .before .before .before .before .before .before .before .before .before .pre .1) (c .before .before .before .before .before .enter .kept .0) (c .before .before .before .before .before .before .before .before .before .before .step .ensures) (c .before .before .before .before .before .before .before .before .asked2 .given .1) (c .before .before .before .before .before .enter .ensures) (c .before .inserted .given .1)
+    let c5 = c .before .before .before .before .before in
+    let c14 = c5 .before .before .before .before .before .before .before .before .before in
+    let a = c14 .args in
+    took-insert (a .names) (namesOf (a .bytes .now) (a .ends .now) (a .names)) (a .way) (a .interval) (a .table .now) (a .used) (c5 .enter .last .0)
+        (c14 .pre .1) (c5 .enter .kept .0) (c5 .before .before .before .before .before .step .ensures) (c5 .before .before .before .asked2 .given .1)
+        (c5 .enter .ensures) (c .before .inserted .given .1)
 
 same-length-2 : tie.Need-same-length-2
 same-length-2 c = search needs
 
 returns-4 : tie.Need-returns-4
 returns-4 c =
-    let a = c .before .before .before .before .before .before .before .before .before .before .before .before .before .before .args in
-    took-full (a .names) (namesOf (a .bytes .now) (a .ends .now) (a .names)) (a .way) (a .interval) (a .table .now) (a .used) (c .before .before .before .before .before .enter .last .0) (c .before .before .before .before .before .before .before .before .before .before .step .ensures) (c .before .before .before .before .before .before .before .before .asked2 .given .1) (c .before .before .before .before .before .enter .ensures) (c .before .inserted2 .given .1)
+    let c5 = c .before .before .before .before .before in
+    let c14 = c5 .before .before .before .before .before .before .before .before .before in
+    let a = c14 .args in
+    took-full (a .names) (namesOf (a .bytes .now) (a .ends .now) (a .names)) (a .way) (a .interval) (a .table .now) (a .used) (c5 .enter .last .0)
+        (c5 .before .before .before .before .before .step .ensures) (c5 .before .before .before .asked2 .given .1) (c5 .enter .ensures)
+        (c .before .inserted2 .given .1)
 
 pub lay-interval-spec : {M : Type 1} → statement M
 lay-interval-spec =

@@ -36,9 +36,13 @@ same-length c = c .before .before .before .before .lay-interval .kept .0 ∙ c .
 
 returns : tie.Need-returns Inv-loop μ-loop
 returns c =
-    let a = c .before .before .before .before .before .before .before .before .before .before .before .before .before .args in
-    let l = c .before .before .before .before .before .before .before .before .loop in
-    laying-stop (a .names) (namesOf (a .bytes .now) (a .ends .now) (a .names)) (a .way) (a .intervals .now) (a .from) (a .count) (a .table .now) (a .used) (l .table) (l .then) (l .k) (l .inv) (omega arith) (c .before .before .before .before .lay-interval .last .0) (c .before .before .before .before .lay-interval .result) (c .before .before .before .before .before .before .interval-at .result) (c .before .before .before .before .before .before .interval-at .ensures) (c .before .before .before .before .lay-interval .ensures) (fails (c .before .is-done .ensures) (c .if1 .taken))
+    let c4 = c .before .before .before .before in
+    let c13 = c4 .before .before .before .before .before .before .before .before .before in
+    let a = c13 .args in
+    let l = c4 .before .before .before .before .loop in
+    laying-stop (a .names) (namesOf (a .bytes .now) (a .ends .now) (a .names)) (a .way) (a .intervals .now) (a .from) (a .count) (a .table .now) (a .used)
+        (l .table) (l .then) (l .k) (l .inv) (omega arith) (c4 .lay-interval .last .0) (c4 .lay-interval .result) (c4 .before .before .interval-at .result)
+        (c4 .before .before .interval-at .ensures) (c4 .lay-interval .ensures) (fails (c .before .is-done .ensures) (c .if1 .taken))
 
 used-of-requires : tie.Need-used-of-requires Inv-loop μ-loop
 used-of-requires c κs = search needs
@@ -51,9 +55,14 @@ loop-less c = search needs
 
 loop-again : tie.Need-loop-again Inv-loop μ-loop
 loop-again c =
-    let a = c .before .before .before .before .before .before .before .before .before .before .before .before .before .before .args in
-    let l = c .before .before .before .before .before .before .before .before .before .loop in
-    laying-turn (a .names) (namesOf (a .bytes .now) (a .ends .now) (a .names)) (a .way) (a .intervals .now) (a .from) (a .count) (a .table .now) (a .used) (l .table) (l .then) (l .k) (l .inv) (omega arith) (c .before .before .before .before .before .lay-interval .last .0) (c .before .before .before .before .before .lay-interval .result) (c .used-of .result) (c .before .before .before .before .before .before .before .interval-at .result) (c .before .before .before .before .before .before .before .interval-at .ensures) (c .before .before .before .before .before .lay-interval .kept .0) (c .before .before .before .before .before .lay-interval .ensures) (holds (c .before .before .is-done .ensures) (c .before .if1 .left)) (c .used-of .ensures)
+    let c5 = c .before .before .before .before .before in
+    let c14 = c5 .before .before .before .before .before .before .before .before .before in
+    let a = c14 .args in
+    let l = c5 .before .before .before .before .loop in
+    laying-turn (a .names) (namesOf (a .bytes .now) (a .ends .now) (a .names)) (a .way) (a .intervals .now) (a .from) (a .count) (a .table .now) (a .used)
+        (l .table) (l .then) (l .k) (l .inv) (omega arith) (c5 .lay-interval .last .0) (c5 .lay-interval .result) (c .used-of .result)
+        (c5 .before .before .interval-at .result) (c5 .before .before .interval-at .ensures) (c5 .lay-interval .kept .0) (c5 .lay-interval .ensures)
+        (holds (c .before .before .is-done .ensures) (c .before .if1 .left)) (c .used-of .ensures)
 
 same-length-2 : tie.Need-same-length-2 Inv-loop μ-loop
 same-length-2 c = c .before .loop .inv .long

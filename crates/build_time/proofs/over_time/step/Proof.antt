@@ -46,13 +46,19 @@ returns : tie.Need-returns
 returns c = step-unknown _ (c .before .before .before .before .before .args .interval) (c .before .before .before .before .before .args .way) (c .before .before .look .ensures) (c .enum-told .given .1)
 
 returns-2 : tie.Need-returns-2
-returns-2 c = ap askedOf (c .skip .ensures) ∙ step-empty _ (c .before .before .before .before .before .before .args .interval) (c .before .before .before .before .before .before .args .way) (c .before .before .before .look .ensures) (c .before .enum-told2 .given .1)
+returns-2 c =
+    let a = c .before .before .before .before .before .before .args in
+    ap askedOf (c .skip .ensures) ∙ step-empty _ (a .interval) (a .way) (c .before .before .before .look .ensures) (c .before .enum-told2 .given .1)
 
 returns-3 : tie.Need-returns-3
-returns-3 c = step-no-number _ _ _ (c .before .before .before .before .before .before .before .before .before .look .ensures) (c .before .before .before .before .before .before .before .enum-told3 .given .1) (c .before .before .before .before .before .way .given .1) (c .before .before .before .number-named .ensures) (c .before .read .given .1)
+returns-3 c = step-no-number _ _ _ (c .before .before .before .before .before .before .before .before .before .look .ensures)
+    (c .before .before .before .before .before .before .before .enum-told3 .given .1) (c .before .before .before .before .before .way .given .1)
+    (c .before .before .before .number-named .ensures) (c .before .read .given .1)
 
 returns-4 : tie.Need-returns-4
-returns-4 c = c .dated-insert .ensures ∙ step-number _ _ _ (c .before .before .before .before .before .before .before .before .before .before .look .ensures) (c .before .before .before .before .before .before .before .before .enum-told3 .given .1) (c .before .before .before .before .before .before .way .given .1) (c .before .before .before .before .number-named .ensures) (c .before .before .read2 .given .1)
+returns-4 c = c .dated-insert .ensures ∙ step-number _ _ _ (c .before .before .before .before .before .before .before .before .before .before .look .ensures)
+    (c .before .before .before .before .before .before .before .before .enum-told3 .given .1) (c .before .before .before .before .before .before .way .given .1)
+    (c .before .before .before .before .number-named .ensures) (c .before .before .read2 .given .1)
 
 returns-5 : tie.Need-returns-5
 returns-5 c = c .dated-insert2 .ensures ∙ step-inverse _ _ _ (c .before .before .before .before .before .before .look .ensures) (c .before .before .before .before .enum-told3 .given .1) (c .before .before .way2 .given .1)

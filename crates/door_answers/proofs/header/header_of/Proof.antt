@@ -37,7 +37,9 @@ word-requires-5 : tie.Need-word-requires-5
 word-requires-5 c κs = search needs
 
 of-8-requires-3 : tie.Need-of-8-requires-3
-of-8-requires-3 c κs = word-fits (now (c .before .before .before .before .before .before .before .before .before .before .args .words)) (c .before .before .before .before .before .before .before .before .before .before .pre) 7 (omega arith) (c .word5 .ensures)
+of-8-requires-3 c κs =
+    let c10 = c .before .before .before .before .before .before .before .before .before .before in
+    word-fits (now (c10 .args .words)) (c10 .pre) 7 (omega arith) (c .word5 .ensures)
 
 word-requires-6 : tie.Need-word-requires-6
 word-requires-6 c κs = search needs
@@ -71,16 +73,22 @@ word-requires-14 c κs = search needs
 
 returns : tie.Need-returns
 returns c =
-    header-same (now (c .before .before .before .before .before .before .before .before .before .before .before .before .before .before .before .before .before .before .before .before .before .args .words))
-    (c .before .before .before .before .before .before .before .before .before .before .before .before .before .before .before .before .before .before .of-8 .ensures ∙ c .before .before .before .before .before .before .before .before .before .before .before .before .before .before .before .before .before .before .before .word .ensures)
-    (c .before .before .before .before .before .before .before .before .before .before .before .before .before .before .before .before .of-32 .ensures ∙ c .before .before .before .before .before .before .before .before .before .before .before .before .before .before .before .before .before .word2 .ensures)
-    (c .before .before .before .before .before .before .before .before .before .before .before .before .before .before .of-16 .ensures ∙ c .before .before .before .before .before .before .before .before .before .before .before .before .before .before .before .word3 .ensures)
+    let c12 = c .before .before .before .before .before .before .before .before .before .before .before .before in
+    let c15 = c12 .before .before .before in
+    let c18 = c15 .before .before .before in
+    let c21 = c18 .before .before .before in
+    header-same (now (c21 .args .words))
+    (c18 .of-8 .ensures ∙ c18 .before .word .ensures)
+    (c15 .before .of-32 .ensures ∙ c15 .before .before .word2 .ensures)
+    (c12 .before .before .of-16 .ensures ∙ c15 .word3 .ensures)
     (c .before .before .before .before .before .before .before .word7 .ensures)
     (c .before .before .before .before .before .before .word8 .ensures)
     (c .before .before .before .before .before .word9 .ensures)
-    (c .before .before .before .before .before .before .before .before .before .before .before .before .of-82 .ensures ∙ c .before .before .before .before .before .before .before .before .before .before .before .before .before .word4 .ensures)
-    (c .before .before .before .before .before .before .before .before .before .before .of-83 .ensures ∙ c .before .before .before .before .before .before .before .before .before .before .before .word5 .ensures)
-    (c .before .before .before .before .before .before .before .before .is-one .ensures ∙ ap (λ (n : ℕ). eqb n 1) (c .before .before .before .before .before .before .before .before .before .word6 .ensures))
+    (c12 .of-82 .ensures ∙ c12 .before .word4 .ensures)
+    (c .before .before .before .before .before .before .before .before .before .before .of-83 .ensures ∙
+        c .before .before .before .before .before .before .before .before .before .before .before .word5 .ensures)
+    (c .before .before .before .before .before .before .before .before .is-one .ensures ∙ ap (λ (n : ℕ). eqb n 1)
+        (c .before .before .before .before .before .before .before .before .before .word6 .ensures))
     (c .before .before .before .before .word10 .ensures)
     (c .before .before .before .word11 .ensures)
     (c .before .before .word12 .ensures)

@@ -22,8 +22,15 @@ same-length c = search needs
 
 returns : tie.Need-returns
 returns c =
-    let a = c .before .before .before .before .before .before .before .before .before .before .before .before .before .before .before .args in
-    build-unfit (length (now (a .table))) (now (a .header)) (λ h. pointInTimeAnswer (length (now (a .table))) h (lists (now (a .symbols)) (now (a .partial)) (now (a .not-found)) (now (a .mappings)) (now (a .intervals))) (now (a .bytes)) (now (a .ends)) (a .names) (a .name-bytes) (a .date)) (λ h. pointInTimeMemory (length (now (a .table))) h (lists (now (a .symbols)) (now (a .partial)) (now (a .not-found)) (now (a .mappings)) (now (a .intervals))) (now (a .bytes)) (now (a .ends)) (a .names) (a .name-bytes) (a .date)) _ (c .before .before .before .before .before .is-header .ensures) (not-true _ (c .before .before .before .before .if1 .taken)) (c .before .before .clear .ensures)
+    let c15 = c .before .before .before .before .before .before .before .before .before .before .before .before .before .before .before in
+    let a = c15 .args in
+    build-unfit (length (now (a .table))) (now (a .header))
+        (λ h. pointInTimeAnswer (length (now (a .table))) h
+        (lists (now (a .symbols)) (now (a .partial)) (now (a .not-found)) (now (a .mappings)) (now (a .intervals))) (now (a .bytes)) (now (a .ends)) (a .names)
+        (a .name-bytes) (a .date)) (λ h. pointInTimeMemory (length (now (a .table))) h
+        (lists (now (a .symbols)) (now (a .partial)) (now (a .not-found)) (now (a .mappings)) (now (a .intervals))) (now (a .bytes)) (now (a .ends)) (a .names)
+        (a .name-bytes) (a .date)) _ (c .before .before .before .before .before .is-header .ensures)
+        (not-true _ (c .before .before .before .before .if1 .taken)) (c .before .before .clear .ensures)
 
 header-of-requires : tie.Need-header-of-requires
 header-of-requires c κs = sym (c .before .is-header .ensures) ∙ not-false _ (c .if1 .left)
@@ -45,16 +52,33 @@ same-length-2 c = search needs
 
 returns-2 : tie.Need-returns-2
 returns-2 c =
-    let a = c .before .before .before .before .before .before .before .before .before .before .before .before .before .before .before .before .before .before .before .args in
-    build-done (length (now (a .table))) (now (a .header)) (λ h. pointInTimeAnswer (length (now (a .table))) h (lists (now (a .symbols)) (now (a .partial)) (now (a .not-found)) (now (a .mappings)) (now (a .intervals))) (now (a .bytes)) (now (a .ends)) (a .names) (a .name-bytes) (a .date)) (λ h. pointInTimeMemory (length (now (a .table))) h (lists (now (a .symbols)) (now (a .partial)) (now (a .not-found)) (now (a .mappings)) (now (a .intervals))) (now (a .bytes)) (now (a .ends)) (a .names) (a .name-bytes) (a .date)) builtOf _ (c .before .before .before .before .before .before .before .before .before .is-header .ensures) (not-false _ (c .before .before .before .before .before .before .before .before .if1 .left)) _ (c .before .before .before .before .before .before .before .header-of .ensures) (c .before .before .before .before .before .point-in-time .ensures .0) (c .before .before .before .before .before .point-in-time .ensures .1) Done (λ n. refl) _ (c .before .built .given .1)
+    let c5 = c .before .before .before .before .before in
+    let c19 = c5 .before .before .before .before .before .before .before .before .before .before .before .before .before .before in
+    let a = c19 .args in
+    build-done (length (now (a .table))) (now (a .header))
+        (λ h. pointInTimeAnswer (length (now (a .table))) h
+        (lists (now (a .symbols)) (now (a .partial)) (now (a .not-found)) (now (a .mappings)) (now (a .intervals))) (now (a .bytes)) (now (a .ends)) (a .names)
+        (a .name-bytes) (a .date)) (λ h. pointInTimeMemory (length (now (a .table))) h
+        (lists (now (a .symbols)) (now (a .partial)) (now (a .not-found)) (now (a .mappings)) (now (a .intervals))) (now (a .bytes)) (now (a .ends)) (a .names)
+        (a .name-bytes) (a .date)) builtOf _ (c5 .before .before .before .before .is-header .ensures) (not-false _ (c5 .before .before .before .if1 .left)) _
+        (c5 .before .before .header-of .ensures) (c5 .point-in-time .ensures .0) (c5 .point-in-time .ensures .1) Done (λ n. refl) _ (c .before .built .given .1)
 
 same-length-3 : tie.Need-same-length-3
 same-length-3 c = search needs
 
 returns-3 : tie.Need-returns-3
 returns-3 c =
-    let a = c .before .before .before .before .before .before .before .before .before .before .before .before .before .before .before .before .before .before .before .before .args in
-    build-refused (length (now (a .table))) (now (a .header)) (λ h. pointInTimeAnswer (length (now (a .table))) h (lists (now (a .symbols)) (now (a .partial)) (now (a .not-found)) (now (a .mappings)) (now (a .intervals))) (now (a .bytes)) (now (a .ends)) (a .names) (a .name-bytes) (a .date)) (λ h. pointInTimeMemory (length (now (a .table))) h (lists (now (a .symbols)) (now (a .partial)) (now (a .not-found)) (now (a .mappings)) (now (a .intervals))) (now (a .bytes)) (now (a .ends)) (a .names) (a .name-bytes) (a .date)) builtOf _ (c .before .before .before .before .before .before .before .before .before .before .is-header .ensures) (not-false _ (c .before .before .before .before .before .before .before .before .before .if1 .left)) _ (c .before .before .before .before .before .before .before .before .header-of .ensures) (c .before .before .before .before .before .before .point-in-time .ensures .0) (c .before .before .before .before .before .before .point-in-time .ensures .1) Refused (λ r. refl) _ (c .before .before .built2 .given .1) _ (c .number .ensures)
+    let c6 = c .before .before .before .before .before .before in
+    let c20 = c6 .before .before .before .before .before .before .before .before .before .before .before .before .before .before in
+    let a = c20 .args in
+    build-refused (length (now (a .table))) (now (a .header))
+        (λ h. pointInTimeAnswer (length (now (a .table))) h
+        (lists (now (a .symbols)) (now (a .partial)) (now (a .not-found)) (now (a .mappings)) (now (a .intervals))) (now (a .bytes)) (now (a .ends)) (a .names)
+        (a .name-bytes) (a .date)) (λ h. pointInTimeMemory (length (now (a .table))) h
+        (lists (now (a .symbols)) (now (a .partial)) (now (a .not-found)) (now (a .mappings)) (now (a .intervals))) (now (a .bytes)) (now (a .ends)) (a .names)
+        (a .name-bytes) (a .date)) builtOf _ (c6 .before .before .before .before .is-header .ensures) (not-false _ (c6 .before .before .before .if1 .left)) _
+        (c6 .before .before .header-of .ensures) (c6 .point-in-time .ensures .0) (c6 .point-in-time .ensures .1) Refused (λ r. refl) _
+        (c .before .before .built2 .given .1) _ (c .number .ensures)
 
 pub desk-build-points-spec : {M : Type 1} → statement M
 desk-build-points-spec =

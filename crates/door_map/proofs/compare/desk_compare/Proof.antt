@@ -30,9 +30,10 @@ same-length-2 c = search needs
 
 returns-2 : tie.Need-returns-2
 returns-2 c =
-    let e = answer-same comparedOf (c .before .before .before .before .before .before .compare .ensures .answers) (c .before .before .compared2 .given .1) in
+    let c6 = c .before .before .before .before .before .before in
+    let e = answer-same comparedOf (c6 .compare .ensures .answers) (c .before .before .compared2 .given .1) in
     let r = c .before .before .compared2 .given .0 .0 in
-    (not-number r (c .number .ensures) e, (not-value r (c .before .before .before .before .before .before .before .before .before .before .before .args .count .now) 0 e, c .before .before .before .before .before .before .compare .ensures .memory))
+    (not-number r (c .number .ensures) e, (not-value r (c6 .before .before .before .before .before .args .count .now) 0 e, c6 .compare .ensures .memory))
 
 pub desk-compare-spec : {M : Type 1} → statement M
 desk-compare-spec =

@@ -25,13 +25,15 @@ same-length-2 c = search needs
 
 returns : tie.Need-returns
 returns c =
-    let e = answer-same namedOf (c .before .before .before .before .before .before .before .number-of .ensures .0) (c .before .named .given .1) in (
+    let c7 = c .before .before .before .before .before .before .before in
+    let a = c7 .before .before .before .before .before .before .before .before .args in
+    let e = answer-same namedOf (c7 .number-of .ensures .0) (c .before .named .given .1) in (
       done-number e,
       (
-        done-value (c .before .before .before .before .before .before .before .before .before .before .before .before .before .before .before .args .symbol .now) 0 e,
+        done-value (a .symbol .now) 0 e,
         (
-          done-value (c .before .before .before .before .before .before .before .before .before .before .before .before .before .before .before .args .names .now) 1 e,
-          (done-value (c .before .before .before .before .before .before .before .before .before .before .before .before .before .before .before .args .name-bytes .now) 2 e, c .before .before .before .before .before .before .before .number-of .ensures .1),
+          done-value (a .names .now) 1 e,
+          (done-value (a .name-bytes .now) 2 e, c7 .number-of .ensures .1),
         ),
       ),
     )
@@ -44,14 +46,16 @@ same-length-4 c = search needs
 
 returns-2 : tie.Need-returns-2
 returns-2 c =
-    let e = answer-same namedOf (c .before .before .before .before .before .before .before .before .number-of .ensures .0) (c .before .before .named2 .given .1) in
+    let c8 = c .before .before .before .before .before .before .before .before in
+    let a = c8 .before .before .before .before .before .before .before .before .args in
+    let e = answer-same namedOf (c8 .number-of .ensures .0) (c .before .before .named2 .given .1) in
     let r = c .before .before .named2 .given .0 .0 in (
       not-number r (c .number .ensures) e,
       (
-        not-value r (c .before .before .before .before .before .before .before .before .before .before .before .before .before .before .before .before .args .symbol .now) 0 e,
+        not-value r (a .symbol .now) 0 e,
         (
-          not-value r (c .before .before .before .before .before .before .before .before .before .before .before .before .before .before .before .before .args .names .now) 1 e,
-          (not-value r (c .before .before .before .before .before .before .before .before .before .before .before .before .before .before .before .before .args .name-bytes .now) 2 e, c .before .before .before .before .before .before .before .before .number-of .ensures .1),
+          not-value r (a .names .now) 1 e,
+          (not-value r (a .name-bytes .now) 2 e, c8 .number-of .ensures .1),
         ),
       ),
     )

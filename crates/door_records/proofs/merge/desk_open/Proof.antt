@@ -34,8 +34,10 @@ same-length-5 c = search needs
 
 returns : tie.Need-returns
 returns c =
-    let e = answer-same openingOf (c .before .before .before .before .before .before .before .before .before .before .before .before .before .«open» .ensures .0) (c .before .opened .given .1) in
-    (done-number e, (done-value (c .before .before .before .before .before .before .before .before .before .before .before .before .before .before .before .before .before .before .before .before .before .before .before .before .before .before .before .args .streams .now) 0 e, (done-value (c .before .before .before .before .before .before .before .before .before .before .before .before .before .before .before .before .before .before .before .before .before .before .before .before .before .before .before .args .held .now) 1 e, c .before .before .before .before .before .before .before .before .before .before .before .before .before .«open» .ensures .1)))
+    let c13 = c .before .before .before .before .before .before .before .before .before .before .before .before .before in
+    let a = c13 .before .before .before .before .before .before .before .before .before .before .before .before .before .before .args in
+    let e = answer-same openingOf (c13 .«open» .ensures .0) (c .before .opened .given .1) in
+    (done-number e, (done-value (a .streams .now) 0 e, (done-value (a .held .now) 1 e, c13 .«open» .ensures .1)))
 
 same-length-6 : tie.Need-same-length-6
 same-length-6 c = search needs
@@ -54,9 +56,11 @@ same-length-10 c = search needs
 
 returns-2 : tie.Need-returns-2
 returns-2 c =
-    let e = answer-same openingOf (c .before .before .before .before .before .before .before .before .before .before .before .before .before .before .«open» .ensures .0) (c .before .before .opened2 .given .1) in
+    let c14 = c .before .before .before .before .before .before .before .before .before .before .before .before .before .before in
+    let a = c14 .before .before .before .before .before .before .before .before .before .before .before .before .before .before .args in
+    let e = answer-same openingOf (c14 .«open» .ensures .0) (c .before .before .opened2 .given .1) in
     let r = c .before .before .opened2 .given .0 .0 in
-    (not-number r (c .number .ensures) e, (not-value r (c .before .before .before .before .before .before .before .before .before .before .before .before .before .before .before .before .before .before .before .before .before .before .before .before .before .before .before .before .args .streams .now) 0 e, (not-value r (c .before .before .before .before .before .before .before .before .before .before .before .before .before .before .before .before .before .before .before .before .before .before .before .before .before .before .before .before .args .held .now) 1 e, c .before .before .before .before .before .before .before .before .before .before .before .before .before .before .«open» .ensures .1)))
+    (not-number r (c .number .ensures) e, (not-value r (a .streams .now) 0 e, (not-value r (a .held .now) 1 e, c14 .«open» .ensures .1)))
 
 pub desk-open-spec : {M : Type 1} → statement M
 desk-open-spec =

@@ -33,11 +33,13 @@ same-length c = search needs
 returns : tie.Need-returns
 unfolding damageLine damagedWord newline
 returns c =
-    let w0 = c .before .before .before .before .before .before .before .before .before .before .before .before .before .before .before .before .number .ensures .0 in
+    let c16 = c .before .before .before .before .before .before .before .before .before .before .before .before .before .before .before .before in
+    let a = c16 .before .before .before .args in
+    let w0 = c16 .number .ensures .0 in
     let w1 = c .before .before .before .before .before .before .before .before .before .before .before .word .ensures in
     let w2 = c .before .before .before .before .before .before .before .number2 .ensures .0 in
     let w3 = c .before .before .word2 .ensures in
-    let h : c .before .before .before .before .before .before .before .before .before .before .before .before .before .before .before .before .before .before .before .args .at ≤ length (now (c .before .before .before .before .before .before .before .before .before .before .before .before .before .before .before .before .before .before .before .args .text)) = omega arith in (
+    let h : a .at ≤ length (now (a .text)) = omega arith in (
       lays-then h (lays-then h (lays-then h w0 w1) w2) w3,
       search needs,
     )

@@ -21,7 +21,8 @@ total-requires c κs = let f = fitting _ _ (sym (c .before .lengths-fit .ensures
 
 returns-2 : tie.Need-returns-2
 unfolding metadataFits
-returns-2 c = rw (sym (c .before .before .before .lengths-fit .ensures) ∙ not-false _ (c .before .before .if1 .left)) (ap (λ (u : ℕ). leb u (c .before .before .before .before .before .args .lengths .intervals / 3)) (c .before .total .ensures))
+returns-2 c = rw (sym (c .before .before .before .lengths-fit .ensures) ∙ not-false _ (c .before .before .if1 .left))
+    (ap (λ (u : ℕ). leb u (c .before .before .before .before .before .args .lengths .intervals / 3)) (c .before .total .ensures))
 
 pub metadata-fits-spec : {M : Type 1} → statement M
 metadata-fits-spec = tie.close (tie.spec lengths-fit-requires returns total-requires returns-2)

@@ -34,13 +34,18 @@ loop-less : tie.Need-loop-less Inv-loop μ-loop
 loop-less c = omega arith
 
 loop-again : tie.Need-loop-again Inv-loop μ-loop
-loop-again c = (omega arith, simp length-set (c .before .loop .inv .1), clear-turn (now (c .before .before .args .list)) (c .before .loop .list) (c .before .before .args .at) (c .before .before .args .count) (c .before .loop .j) (c .before .before .pre) (c .loop-test .taken) (c .before .loop .inv .2))
+loop-again c =
+    let a = c .before .before .args in
+    (omega arith, simp length-set (c .before .loop .inv .1), clear-turn (now (a .list)) (c .before .loop .list) (a .at) (a .count) (c .before .loop .j)
+        (c .before .before .pre) (c .loop-test .taken) (c .before .loop .inv .2))
 
 same-length : tie.Need-same-length Inv-loop μ-loop
 same-length c = c .before .loop .inv .1
 
 returns : tie.Need-returns Inv-loop μ-loop
-returns c = let e : c .before .loop .j ≡ c .before .before .args .count = omega arith in c .before .loop .inv .2 ∙ ap (paste (now (c .before .before .args .list)) (c .before .before .args .at) (replicate (c .before .before .args .count) 0)) e
+returns c =
+    let a = c .before .before .args in
+    let e : c .before .loop .j ≡ a .count = omega arith in c .before .loop .inv .2 ∙ ap (paste (now (a .list)) (a .at) (replicate (a .count) 0)) e
 
 pub clear-spec : {M : Type 1} → statement M
 clear-spec =

@@ -13,7 +13,10 @@ same-length : tie.Need-same-length
 same-length c = search needs
 
 returns : tie.Need-returns
-returns c = c .before .before .before .copy .ensures ∙ over-kept (now (c .before .before .before .before .before .before .before .args .list)) (now (c .before .before .before .before .before .before .before .args .words)) (c .before .before .before .before .before .before .before .args .used) (c .before .before .before .before .before .before .before .args .count) (c .before .before .before .before .before .before .before .pre .2) (c .if1 .taken)
+returns c =
+    let c7 = c .before .before .before .before .before .before .before in
+    let a = c7 .args in
+    c .before .before .before .copy .ensures ∙ over-kept (now (a .list)) (now (a .words)) (a .used) (a .count) (c7 .pre .2) (c .if1 .taken)
 
 sub-clear : tie.Need-sub-clear
 sub-clear c = search needs
@@ -25,7 +28,11 @@ same-length-2 : tie.Need-same-length-2
 same-length-2 c = search needs
 
 returns-2 : tie.Need-returns-2
-returns-2 c = over-freed (now (c .before .before .before .before .before .before .before .before .before .before .before .args .list)) _ _ (now (c .before .before .before .before .before .before .before .before .before .before .before .args .words)) (c .before .before .before .before .before .before .before .before .before .before .before .args .used) (c .before .before .before .before .before .before .before .before .before .before .before .args .count) (c .before .before .before .before .before .before .before .before .before .before .before .pre .1) (c .before .before .before .before .before .before .before .before .before .before .before .pre .2) (c .before .before .before .before .if1 .left) (c .before .before .before .before .before .before .before .copy .ensures) (c .before .before .clear .ensures)
+returns-2 c =
+    let c11 = c .before .before .before .before .before .before .before .before .before .before .before in
+    let a = c11 .args in
+    over-freed (now (a .list)) _ _ (now (a .words)) (a .used) (a .count) (c11 .pre .1) (c11 .pre .2) (c .before .before .before .before .if1 .left)
+        (c .before .before .before .before .before .before .before .copy .ensures) (c .before .before .clear .ensures)
 
 pub lay-over-spec : {M : Type 1} → statement M
 lay-over-spec =

@@ -18,7 +18,10 @@ abbrev μ-loop : tie.MeasureT-loop
 μ-loop xs₀ n at₀ ys m count₀ i₀ xs at count i = m - i
 
 loop-holds : tie.Need-loop-holds Inv-loop μ-loop
-loop-holds c = (omega arith, omega arith, refl, refl, all-start (now (c .before .before .before .args .added)) (now (c .before .before .before .args .numbers)) (now (c .before .before .before .args .marks)) (c .before .before .before .args .count) (omega arith) (c .before .before .before .pre .3))
+loop-holds c =
+    let c3 = c .before .before .before in
+    let a = c3 .args in
+    (omega arith, omega arith, refl, refl, all-start (now (a .added)) (now (a .numbers)) (now (a .marks)) (a .count) (omega arith) (c3 .pre .3))
 
 mul-x : tie.Need-mul-x Inv-loop μ-loop
 mul-x c = omega arith
@@ -37,9 +40,14 @@ loop-less c = omega arith
 
 loop-again : tie.Need-loop-again Inv-loop μ-loop
 loop-again c =
-    let l = length-take-le (c .before .before .before .before .before .before .before .before .before .loop .held) (c .before .before .before .before .before .before .before .before .before .loop .numbers) (omega arith) in
-    let e = count-next (c .before .before .before .before .before .before .before .before .before .loop .held) (c .before .before .before .before .add-one .ensures) (omega arith) in
-    (omega arith, omega arith, c .before .before .before .before .add-one .kept .0 ∙ c .before .before .before .before .before .before .before .before .before .loop .inv .2, c .before .before .before .before .add-one .kept .1 .1 .0 ∙ c .before .before .before .before .before .before .before .before .before .loop .inv .3, all-turn (take (c .before .before .before .before .before .before .before .before .before .before .before .before .before .args .count) (now (c .before .before .before .before .before .before .before .before .before .before .before .before .before .args .numbers))) (now (c .before .before .before .before .before .before .before .before .before .before .before .before .before .args .added)) (c .before .before .before .before .before .before .before .before .before .loop .i) (omega arith) (c .before .before .before .before .before .before .before .before .before .loop .held) (c .before .before .before .before .before .before .before .before .before .loop .numbers) (c .before .before .before .before .before .before .before .before .before .loop .marks) (c .before .before .before .before .before .before .before .before .before .loop .inv .4) _ _ _ _ _ refl (c .before .before .before .before .add-one .ensures))
+    let c4 = c .before .before .before .before in
+    let c9 = c4 .before .before .before .before .before in
+    let a = c9 .before .before .before .before .args in
+    let l = length-take-le (c9 .loop .held) (c9 .loop .numbers) (omega arith) in
+    let e = count-next (c9 .loop .held) (c4 .add-one .ensures) (omega arith) in
+    (omega arith, omega arith, c4 .add-one .kept .0 ∙ c9 .loop .inv .2, c4 .add-one .kept .1 .1 .0 ∙ c9 .loop .inv .3, all-turn
+        (take (a .count) (now (a .numbers))) (now (a .added)) (c9 .loop .i) (omega arith) (c9 .loop .held) (c9 .loop .numbers) (c9 .loop .marks)
+        (c9 .loop .inv .4) _ _ _ _ _ refl (c4 .add-one .ensures))
 
 same-length : tie.Need-same-length Inv-loop μ-loop
 same-length c = c .before .loop .inv .2
@@ -49,8 +57,10 @@ same-length-2 c = c .before .loop .inv .3
 
 returns : tie.Need-returns Inv-loop μ-loop
 returns c =
-    let e : c .before .loop .i ≡ c .before .before .before .before .before .args .added-count = omega arith in
-    subst (λ (k : ℕ). AllAdded (addAll (take (c .before .before .before .before .before .args .count) (now (c .before .before .before .before .before .args .numbers))) (take k (now (c .before .before .before .before .before .args .added)))) (c .before .loop .held) (c .before .loop .numbers) (c .before .loop .marks)) e (c .before .loop .inv .4)
+    let a = c .before .before .before .before .before .args in
+    let e : c .before .loop .i ≡ a .added-count = omega arith in
+    subst (λ (k : ℕ). AllAdded (addAll (take (a .count) (now (a .numbers))) (take k (now (a .added)))) (c .before .loop .held) (c .before .loop .numbers)
+        (c .before .loop .marks)) e (c .before .loop .inv .4)
 
 pub add-all-spec : {M : Type 1} → statement M
 add-all-spec =

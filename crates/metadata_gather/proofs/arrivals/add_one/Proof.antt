@@ -39,7 +39,10 @@ same-length-4 : tie.Need-same-length-4
 same-length-4 c = search needs
 
 returns-2 : tie.Need-returns-2
-returns-2 c = added-new _ _ _ _ _ (c .before .before .before .before .before .before .before .before .before .before .pre .0) (c .before .before .before .before .before .before .before .before .before .before .pre .2) (c .before .before .before .before .before .index-of .ensures) (c .before .before .before .before .if1 .left) _ _ refl (c .before .before .mark .ensures)
+returns-2 c =
+    let c10 = c .before .before .before .before .before .before .before .before .before .before in
+    added-new _ _ _ _ _ (c10 .pre .0) (c10 .pre .2) (c .before .before .before .before .before .index-of .ensures)
+        (c .before .before .before .before .if1 .left) _ _ refl (c .before .before .mark .ensures)
 
 pub add-one-spec : {M : Type 1} → statement M
 add-one-spec =

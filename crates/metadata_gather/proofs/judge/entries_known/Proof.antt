@@ -30,7 +30,11 @@ is-known-requires : tie.Need-is-known-requires Inv-loop μ-loop
 is-known-requires c κs = search needs
 
 returns : tie.Need-returns Inv-loop μ-loop
-returns c = entries-stop (below (c .before .before .before .before .before .before .args .names)) (now (c .before .before .before .before .before .before .args .entries)) (c .before .before .before .before .loop .i) (c .before .before .before .before .before .before .args .count) (c .before .is-known .ensures) (not-true _ (c .if1 .taken)) (c .before .before .before .loop-test .taken) (c .before .before .before .before .before .before .pre) ∙ c .before .before .before .before .loop .inv .1
+returns c =
+    let c4 = c .before .before .before .before in
+    let a = c4 .before .before .args in
+    entries-stop (below (a .names)) (now (a .entries)) (c4 .loop .i) (a .count) (c .before .is-known .ensures) (not-true _ (c .if1 .taken))
+        (c .before .before .before .loop-test .taken) (c4 .before .before .pre) ∙ c4 .loop .inv .1
 
 add-i : tie.Need-add-i Inv-loop μ-loop
 add-i c = search needs
@@ -39,10 +43,17 @@ loop-less : tie.Need-loop-less Inv-loop μ-loop
 loop-less c = search needs
 
 loop-again : tie.Need-loop-again Inv-loop μ-loop
-loop-again c = (omega arith, entries-turn (below (c .before .before .before .before .before .before .args .names)) (now (c .before .before .before .before .before .before .args .entries)) (c .before .before .before .before .loop .i) (c .before .before .before .before .before .before .args .count) (c .before .is-known .ensures) (not-false _ (c .if1 .left)) (c .before .before .before .loop-test .taken) (c .before .before .before .before .before .before .pre) ∙ c .before .before .before .before .loop .inv .1)
+loop-again c =
+    let c4 = c .before .before .before .before in
+    let a = c4 .before .before .args in
+    (omega arith, entries-turn (below (a .names)) (now (a .entries)) (c4 .loop .i) (a .count) (c .before .is-known .ensures) (not-false _ (c .if1 .left))
+        (c .before .before .before .loop-test .taken) (c4 .before .before .pre) ∙ c4 .loop .inv .1)
 
 returns-2 : tie.Need-returns-2 Inv-loop μ-loop
-returns-2 c = entries-end (below (c .before .before .before .args .names)) (now (c .before .before .before .args .entries)) (c .before .loop .i) (c .before .before .before .args .count) (omega arith) (c .before .before .before .pre) ∙ c .before .loop .inv .1
+returns-2 c =
+    let c3 = c .before .before .before in
+    let a = c3 .args in
+    entries-end (below (a .names)) (now (a .entries)) (c .before .loop .i) (a .count) (omega arith) (c3 .pre) ∙ c .before .loop .inv .1
 
 pub entries-known-spec : {M : Type 1} → statement M
 entries-known-spec =

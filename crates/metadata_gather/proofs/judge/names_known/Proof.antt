@@ -26,7 +26,11 @@ is-known-requires : tie.Need-is-known-requires Inv-loop μ-loop
 is-known-requires c κs = search needs
 
 returns : tie.Need-returns Inv-loop μ-loop
-returns c = names-stop (below (c .before .before .before .before .before .before .args .names)) (now (c .before .before .before .before .before .before .args .mappings)) (c .before .before .before .before .loop .i) (c .before .before .before .before .before .before .args .count) (c .before .before .name-at .ensures) (c .before .is-known .ensures) (not-true _ (c .if1 .taken)) (c .before .before .before .loop-test .taken) ∙ c .before .before .before .before .loop .inv .1
+returns c =
+    let c4 = c .before .before .before .before in
+    let a = c4 .before .before .args in
+    names-stop (below (a .names)) (now (a .mappings)) (c4 .loop .i) (a .count) (c .before .before .name-at .ensures) (c .before .is-known .ensures)
+        (not-true _ (c .if1 .taken)) (c .before .before .before .loop-test .taken) ∙ c4 .loop .inv .1
 
 add-i : tie.Need-add-i Inv-loop μ-loop
 add-i c = search needs
@@ -35,7 +39,11 @@ loop-less : tie.Need-loop-less Inv-loop μ-loop
 loop-less c = search needs
 
 loop-again : tie.Need-loop-again Inv-loop μ-loop
-loop-again c = (omega arith, names-turn (below (c .before .before .before .before .before .before .args .names)) (now (c .before .before .before .before .before .before .args .mappings)) (c .before .before .before .before .loop .i) (c .before .before .before .before .before .before .args .count) (c .before .before .name-at .ensures) (c .before .is-known .ensures) (not-false _ (c .if1 .left)) (c .before .before .before .loop-test .taken) ∙ c .before .before .before .before .loop .inv .1)
+loop-again c =
+    let c4 = c .before .before .before .before in
+    let a = c4 .before .before .args in
+    (omega arith, names-turn (below (a .names)) (now (a .mappings)) (c4 .loop .i) (a .count) (c .before .before .name-at .ensures)
+        (c .before .is-known .ensures) (not-false _ (c .if1 .left)) (c .before .before .before .loop-test .taken) ∙ c4 .loop .inv .1)
 
 returns-2 : tie.Need-returns-2 Inv-loop μ-loop
 returns-2 c = names-end (below (c .before .before .before .args .names)) (now (c .before .before .before .args .mappings)) (c .before .loop .i) (c .before .before .before .args .count) (omega arith) ∙ c .before .loop .inv .1

@@ -23,13 +23,20 @@ name-at-requires : tie.Need-name-at-requires Inv-loop μ-loop
 name-at-requires c κs = omega arith
 
 add-one-requires : tie.Need-add-one-requires Inv-loop μ-loop
-add-one-requires c κs = let f = c .before .before .before .before .loop .inv .4 .few in (omega arith, omega arith, subst (Marked _) (sym (c .before .before .before .before .loop .inv .4 .stand .stand)) (c .before .before .before .before .loop .inv .4 .stand .marks))
+add-one-requires c κs =
+    let c4 = c .before .before .before .before in
+    let f = c4 .loop .inv .4 .few in (omega arith, omega arith, subst (Marked _) (sym (c4 .loop .inv .4 .stand .stand)) (c4 .loop .inv .4 .stand .marks))
 
 mul-last : tie.Need-mul-last Inv-loop μ-loop
-mul-last c = let p = place-low _ _ _ _ _ _ (c .before .before .before .before .before .before .before .before .before .loop .inv .4) (omega arith) _ _ _ _ _ (c .before .before .before .before .before .before .before .name-at .ensures) (c .before .before .before .before .add-one .ensures) in omega (arith, c .before .before .before .before .before .before .before .before .before .before .before .before .before .before .good .1 .1 .1 .1 .0)
+mul-last c =
+    let c14 = c .before .before .before .before .before .before .before .before .before .before .before .before .before .before in
+    let p = place-low _ _ _ _ _ _ (c .before .before .before .before .before .before .before .before .before .loop .inv .4) (omega arith) _ _ _ _ _
+            (c .before .before .before .before .before .before .before .name-at .ensures) (c .before .before .before .before .add-one .ensures) in omega
+            (arith, c14 .good .1 .1 .1 .1 .0)
 
 slice-write-last : tie.Need-slice-write-last Inv-loop μ-loop
-slice-write-last c = let p = place-low _ _ _ _ _ _ (c .before .before .before .before .before .before .before .before .before .loop .inv .4) (omega arith) _ _ _ _ _ (c .before .before .before .before .before .before .before .name-at .ensures) (c .before .before .before .before .add-one .ensures) in omega arith
+slice-write-last c = let p = place-low _ _ _ _ _ _ (c .before .before .before .before .before .before .before .before .before .loop .inv .4) (omega arith) _ _ _
+    _ _ (c .before .before .before .before .before .before .before .name-at .ensures) (c .before .before .before .before .add-one .ensures) in omega arith
 
 add-i : tie.Need-add-i Inv-loop μ-loop
 add-i c = omega arith
@@ -38,12 +45,15 @@ loop-less : tie.Need-loop-less Inv-loop μ-loop
 loop-less c = omega arith
 
 loop-again : tie.Need-loop-again Inv-loop μ-loop
-loop-again c = (
+loop-again c =
+    let c4 = c .before .before .before .before in
+    let c9 = c4 .before .before .before .before .before in
+    (
   omega arith,
-  c .before .before .before .before .add-one .kept .0 ∙ c .before .before .before .before .before .before .before .before .before .loop .inv .1,
-  c .before .before .before .before .add-one .kept .1 .1 .0 ∙ c .before .before .before .before .before .before .before .before .before .loop .inv .2,
-  simp length-set (c .before .before .before .before .before .before .before .before .before .loop .inv .3),
-  picking-turn _ _ _ _ _ _ (c .before .before .before .before .before .before .before .before .before .loop .inv .4) (omega arith) _ _ _ _ _ (c .before .before .before .before .before .before .before .name-at .ensures) (c .before .before .before .before .add-one .ensures) _ refl,
+  c4 .add-one .kept .0 ∙ c9 .loop .inv .1,
+  c4 .add-one .kept .1 .1 .0 ∙ c9 .loop .inv .2,
+  simp length-set (c9 .loop .inv .3),
+  picking-turn _ _ _ _ _ _ (c9 .loop .inv .4) (omega arith) _ _ _ _ _ (c4 .before .before .before .name-at .ensures) (c4 .add-one .ensures) _ refl,
 )
 
 same-length : tie.Need-same-length Inv-loop μ-loop

@@ -21,13 +21,21 @@ slice-aggregate-add-all-2 : tie.Need-slice-aggregate-add-all-2
 slice-aggregate-add-all-2 c = search needs
 
 add-all-requires-2 : tie.Need-add-all-requires-2
-add-all-requires-2 c κs = let l = length-take-le (c .before .before .before .before .before .before .before .before .before .before .before .args .left-count) (now (c .before .before .before .before .before .before .before .before .before .before .before .args .left)) (c .before .before .before .before .before .before .before .before .before .before .before .pre .0) in let f = first-few _ (now (c .before .before .before .before .before .before .before .before .before .before .before .args .out)) _ _ _ (c .before .before .before .before .before .add-all .ensures) in (omega arith, omega (arith, c .before .before .before .before .before .before .before .before .before .before .before .pre .3), c .before .before .before .before .before .before .before .before .before .before .before .pre .1, subst (Marked _) (sym (c .before .before .before .before .before .add-all .ensures .stand)) (c .before .before .before .before .before .add-all .ensures .marks))
+add-all-requires-2 c κs =
+    let c5 = c .before .before .before .before .before in
+    let c11 = c5 .before .before .before .before .before .before in
+    let a = c11 .args in
+    let l = length-take-le (a .left-count) (now (a .left)) (c11 .pre .0) in let f = first-few _ (now (a .out)) _ _ _ (c5 .add-all .ensures) in
+            (omega arith, omega (arith, c11 .pre .3), c11 .pre .1, subst (Marked _) (sym (c5 .add-all .ensures .stand)) (c5 .add-all .ensures .marks))
 
 same-length : tie.Need-same-length
 same-length c = search needs
 
 returns : tie.Need-returns
-returns c = all-united _ _ (now (c .before .before .before .before .before .before .before .before .before .before .before .before .before .before .before .args .out)) _ _ _ (c .before .before .before .before .before .before .before .before .before .add-all .ensures) _ _ _ (c .before .before .before .add-all2 .ensures)
+returns c =
+    let c15 = c .before .before .before .before .before .before .before .before .before .before .before .before .before .before .before in
+    all-united _ _ (now (c15 .args .out)) _ _ _ (c .before .before .before .before .before .before .before .before .before .add-all .ensures) _ _ _
+        (c .before .before .before .add-all2 .ensures)
 
 pub together-spec : {M : Type 1} → statement M
 together-spec =

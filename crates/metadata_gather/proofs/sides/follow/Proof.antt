@@ -28,7 +28,10 @@ slice-aggregate-lay-places-2 : tie.Need-slice-aggregate-lay-places-2
 slice-aggregate-lay-places-2 c = search needs
 
 lay-places-requires : tie.Need-lay-places-requires
-lay-places-requires c κs = side-layable _ _ _ _ _ (c .before .before .before .before .before .before .before .before .offsets .ensures .1) (c .before .before .before .before .before .count-up .ensures) _ _ _ _ (c .before .before .before .before .before .before .before .before .before .before .before .before .before .before .pre) (omega (arith, c .before .before .before .before .before .before .before .before .before .before .before .before .before .before .pre .count)) (omega (arith, c .before .before .before .before .before .before .before .before .before .before .before .before .before .before .pre .count))
+lay-places-requires c κs =
+    let c14 = c .before .before .before .before .before .before .before .before .before .before .before .before .before .before in
+    side-layable _ _ _ _ _ (c .before .before .before .before .before .before .before .before .offsets .ensures .1)
+        (c .before .before .before .before .before .count-up .ensures) _ _ _ _ (c14 .pre) (omega (arith, c14 .pre .count)) (omega (arith, c14 .pre .count))
 
 same-length : tie.Need-same-length
 same-length c = search needs
@@ -37,7 +40,13 @@ same-length-2 : tie.Need-same-length-2
 same-length-2 c = search needs
 
 returns : tie.Need-returns
-returns c = c .before .before .before .before .lay-places .ensures ∙ ap (layAll (now (c .before .before .before .before .before .before .before .before .before .before .before .before .before .before .before .before .before .before .before .args .both-mappings)) (c .before .before .before .before .before .before .before .before .before .before .before .before .before .before .before .before .before .before .before .args .laid-mappings) (now (c .before .before .before .before .before .before .before .before .before .before .before .before .before .before .before .before .before .before .before .args .both-intervals)) (c .before .before .before .before .before .before .before .before .before .before .before .before .before .before .before .before .before .before .before .args .laid-intervals)) (side-picked _ _ _ _ _ (c .before .before .before .before .before .before .before .before .before .before .before .before .before .offsets .ensures .1) (c .before .before .before .before .before .before .before .before .before .before .count-up .ensures))
+returns c =
+    let c13 = c .before .before .before .before .before .before .before .before .before .before .before .before .before in
+    let a = c13 .before .before .before .before .before .before .args in
+    c .before .before .before .before .lay-places .ensures ∙ ap
+        (layAll (now (a .both-mappings)) (a .laid-mappings) (now (a .both-intervals)) (a .laid-intervals))
+        (side-picked _ _ _ _ _ (c13 .offsets .ensures .1)
+        (c .before .before .before .before .before .before .before .before .before .before .count-up .ensures))
 
 pub follow-spec : {M : Type 1} → statement M
 follow-spec =

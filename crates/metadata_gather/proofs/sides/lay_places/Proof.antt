@@ -28,10 +28,13 @@ add-lay-mapping c = omega (arith, c .before .before .before .before .before .bef
 
 lay-mapping-requires : tie.Need-lay-mapping-requires Inv-loop μ-loop
 lay-mapping-requires c κs =
-    let g = c .before .before .before .before .loop .inv in
+    let c3 = c .before .before .before in
+    let c11 = c3 .before .before .before .before .before .before .before .before in
+    let g = c3 .before .loop .inv in
     let a = g .maps in
     let b = g .same in
-    (c .before .before .before .before .before .before .before .before .before .before .before .pre .inside _ (c .before .before .before .loop-test .taken), omega (arith, c .before .before .before .before .before .before .before .before .before .before .before .pre .maps), turn-room _ _ _ _ _ _ _ _ _ _ _ _ _ (c .before .before .before .before .loop .inv) (c .before .before .before .loop-test .taken) _ refl, omega (arith, c .before .before .before .before .before .before .before .before .before .before .before .pre .small))
+    (c11 .pre .inside _ (c3 .loop-test .taken), omega (arith, c11 .pre .maps), turn-room _ _ _ _ _ _ _ _ _ _ _ _ _ (c3 .before .loop .inv)
+        (c3 .loop-test .taken) _ refl, omega (arith, c11 .pre .small))
 
 add-i : tie.Need-add-i Inv-loop μ-loop
 add-i c = omega arith
@@ -40,7 +43,11 @@ loop-less : tie.Need-loop-less Inv-loop μ-loop
 loop-less c = omega arith
 
 loop-again : tie.Need-loop-again Inv-loop μ-loop
-loop-again c = following-turn _ _ _ _ _ _ _ _ _ _ _ _ _ (c .before .before .before .before .before .before .before .before .before .loop .inv) (c .before .before .before .before .before .before .before .before .loop-test .taken) _ refl _ _ _ (c .before .before .before .before .lay-mapping .ensures .0) (c .before .before .before .before .lay-mapping .ensures .1) (c .before .before .before .before .lay-mapping .ensures .2) (c .before .before .before .before .lay-mapping .kept .1 .1 .1 .1 .0) (c .before .before .before .before .lay-mapping .kept .1 .1 .1 .1 .1 .1 .0)
+loop-again c =
+    let c4 = c .before .before .before .before in
+    following-turn _ _ _ _ _ _ _ _ _ _ _ _ _ (c4 .before .before .before .before .before .loop .inv) (c4 .before .before .before .before .loop-test .taken) _
+        refl _ _ _ (c4 .lay-mapping .ensures .0) (c4 .lay-mapping .ensures .1) (c4 .lay-mapping .ensures .2) (c4 .lay-mapping .kept .1 .1 .1 .1 .0)
+        (c4 .lay-mapping .kept .1 .1 .1 .1 .1 .1 .0)
 
 same-length : tie.Need-same-length Inv-loop μ-loop
 same-length c = c .before .loop .inv .maps

@@ -35,7 +35,12 @@ slice-aggregate-lay-places-2 : tie.Need-slice-aggregate-lay-places-2
 slice-aggregate-lay-places-2 c = search needs
 
 lay-places-requires : tie.Need-lay-places-requires
-lay-places-requires c κs = first-layable _ _ _ _ _ _ (c .before .before .before .before .before .before .before .before .before .before .before .before .offsets .ensures .1) (omega (arith, c .before .before .before .before .before .before .before .before .before .before .before .before .before .before .before .before .before .before .pre .count, c .before .before .before .before .before .before .before .picks .ensures .0)) (c .before .before .before .before .before .before .before .picks .ensures .1) _ _ (c .before .before .before .before .before .before .before .before .before .before .before .before .before .before .before .before .before .before .pre) (omega (arith, c .before .before .before .before .before .before .before .before .before .before .before .before .before .before .before .before .before .before .pre .count)) (c .before .before .before .before .before .before .before .picks .ensures .0)
+lay-places-requires c κs =
+    let c7 = c .before .before .before .before .before .before .before in
+    let c12 = c7 .before .before .before .before .before in
+    let c18 = c12 .before .before .before .before .before .before in
+    first-layable _ _ _ _ _ _ (c12 .offsets .ensures .1) (omega (arith, c18 .pre .count, c7 .picks .ensures .0)) (c7 .picks .ensures .1) _ _ (c18 .pre)
+        (omega (arith, c18 .pre .count)) (c7 .picks .ensures .0)
 
 same-length : tie.Need-same-length
 same-length c = search needs
@@ -44,7 +49,13 @@ same-length-2 : tie.Need-same-length-2
 same-length-2 c = search needs
 
 returns : tie.Need-returns
-returns c = from-zero (c .before .before .before .before .lay-places .ensures) ∙ ap (layAll (now (c .before .before .before .before .before .before .before .before .before .before .before .before .before .before .before .before .before .before .before .before .before .before .before .args .both-mappings)) 0 (now (c .before .before .before .before .before .before .before .before .before .before .before .before .before .before .before .before .before .before .before .before .before .before .before .args .both-intervals)) 0) (first-picked _ _ _ _ _ _ (c .before .before .before .before .before .before .before .before .before .before .before .before .before .before .before .before .before .offsets .ensures .1) (omega (arith, c .before .before .before .before .before .before .before .before .before .before .before .before .before .before .before .before .before .before .before .before .before .before .before .pre .count, c .before .before .before .before .before .before .before .before .before .before .before .before .picks .ensures .0)) (c .before .before .before .before .before .before .before .before .before .before .before .before .picks .ensures .1))
+returns c =
+    let c12 = c .before .before .before .before .before .before .before .before .before .before .before .before in
+    let c17 = c12 .before .before .before .before .before in
+    let c23 = c17 .before .before .before .before .before .before in
+    let a = c23 .args in
+    from-zero (c .before .before .before .before .lay-places .ensures) ∙ ap (layAll (now (a .both-mappings)) 0 (now (a .both-intervals)) 0)
+        (first-picked _ _ _ _ _ _ (c17 .offsets .ensures .1) (omega (arith, c23 .pre .count, c12 .picks .ensures .0)) (c12 .picks .ensures .1))
 
 pub lose-repeats-spec : {M : Type 1} → statement M
 lose-repeats-spec =

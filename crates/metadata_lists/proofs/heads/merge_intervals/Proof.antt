@@ -41,7 +41,9 @@ same-length c = c .before .before .before .before .before .before .before .loop 
 
 returns : tie.Need-returns Inv-loop μ-loop
 unfolding endedOf
-returns c = turn-conflict _ _ _ _ _ _ _ _ (omega arith) (omega (arith, ltb-true)) _ _ (c .before .before .before .before .interval-at .ensures) (c .before .before .before .interval-at2 .ensures) (sym (c .enum-told .given .1) ∙ c .before .before .turn .ensures) ∙ c .before .before .before .before .before .before .before .loop .inv .4
+returns c = turn-conflict _ _ _ _ _ _ _ _ (omega arith) (omega (arith, ltb-true)) _ _ (c .before .before .before .before .interval-at .ensures)
+    (c .before .before .before .interval-at2 .ensures) (sym (c .enum-told .given .1) ∙ c .before .before .turn .ensures) ∙
+    c .before .before .before .before .before .before .before .loop .inv .4
 
 enum-known-s : tie.Need-enum-known-s Inv-loop μ-loop
 enum-known-s c = search needs
@@ -63,13 +65,17 @@ loop-less c = let n = step-counts _ _ _ _ _ (sym (c .before .before .before .bef
 
 loop-again : tie.Need-loop-again Inv-loop μ-loop
 loop-again c =
-    let n = step-counts _ _ _ _ _ (sym (c .before .before .before .before .before .s .given .1) ∙ c .before .before .before .before .before .before .before .turn .ensures) in
-    let l : length (c .before .before .put-interval .last .0) ≡ length (c .before .before .before .before .before .before .before .before .before .before .before .before .loop .out) = put-length _ _ _ _ (c .before .before .put-interval .ensures) in (
+    let c5 = c .before .before .before .before .before in
+    let c12 = c5 .before .before .before .before .before .before .before in
+    let n = step-counts _ _ _ _ _ (sym (c5 .s .given .1) ∙ c5 .before .before .turn .ensures) in
+    let l : length (c .before .before .put-interval .last .0) ≡ length (c12 .loop .out) = put-length _ _ _ _ (c .before .before .put-interval .ensures) in (
       omega arith,
       omega (arith, ltb-true),
-      l ∙ c .before .before .before .before .before .before .before .before .before .before .before .before .loop .inv .2,
+      l ∙ c12 .loop .inv .2,
       omega (arith, ltb-true),
-      turn-out _ _ _ _ _ _ _ _ (omega arith) (omega (arith, ltb-true)) _ _ (c .before .before .before .before .before .before .before .before .before .interval-at .ensures) (c .before .before .before .before .before .before .before .before .interval-at2 .ensures) _ _ _ _ (sym (c .before .before .before .before .before .s .given .1) ∙ c .before .before .before .before .before .before .before .turn .ensures) (c .before .before .put-interval .ensures) ∙ c .before .before .before .before .before .before .before .before .before .before .before .before .loop .inv .4,
+      turn-out _ _ _ _ _ _ _ _ (omega arith) (omega (arith, ltb-true)) _ _ (c5 .before .before .before .before .interval-at .ensures)
+          (c5 .before .before .before .interval-at2 .ensures) _ _ _ _ (sym (c5 .s .given .1) ∙ c5 .before .before .turn .ensures)
+          (c .before .before .put-interval .ensures) ∙ c12 .loop .inv .4,
     )
 
 copy-intervals-requires : tie.Need-copy-intervals-requires Inv-loop μ-loop
@@ -86,7 +92,9 @@ same-length-2 c = laid-length _ _ _ _ (c .before .before .copy-intervals .ensure
 
 returns-2 : tie.Need-returns-2 Inv-loop μ-loop
 unfolding endedOf
-returns-2 c = end-left _ _ _ _ _ _ _ _ _ (⊎-elim (λ w. ltb-false _ _ (w .1 .left)) (λ w. absurd (omega arith)) (c .before .before .before .before .before .loop-test .came)) (c .before .before .copy-intervals .ensures) ∙ c .before .before .before .before .before .before .loop .inv .4
+returns-2 c = end-left _ _ _ _ _ _ _ _ _ (⊎-elim (λ w. ltb-false _ _ (w .1 .left)) (λ w. absurd (omega arith))
+    (c .before .before .before .before .before .loop-test .came)) (c .before .before .copy-intervals .ensures) ∙
+    c .before .before .before .before .before .before .loop .inv .4
 
 copy-intervals-requires-2 : tie.Need-copy-intervals-requires-2 Inv-loop μ-loop
 copy-intervals-requires-2 c κs = (omega arith, omega arith, omega arith)

@@ -28,10 +28,17 @@ wide-requires : tie.Need-wide-requires Inv-loop μ-loop
 wide-requires c κs = search needs
 
 mul-nexts : tie.Need-mul-nexts Inv-loop μ-loop
-mul-nexts c = let h = c .before .before .before .before .before .before .before .pre .2 (c .before .before .before .loop .i - 1) (omega arith) in let n = c .wide .ensures ∙ c .before .name-at .ensures in let z = c .before .before .before .loop .inv .2 in omega (arith, c .before .before .before .before .before .before .before .good .1 .1 .1 .0)
+mul-nexts c =
+    let c3 = c .before .before .before in
+    let c7 = c3 .before .before .before .before in
+    let h = c7 .pre .2 (c3 .loop .i - 1) (omega arith) in let n = c .wide .ensures ∙ c .before .name-at .ensures in let z = c3 .loop .inv .2 in omega
+            (arith, c7 .good .1 .1 .1 .0)
 
 slice-read-nexts : tie.Need-slice-read-nexts Inv-loop μ-loop
-slice-read-nexts c = let h = c .before .before .before .before .before .before .before .before .pre .2 (c .before .before .before .before .loop .i - 1) (omega arith) in let n = c .before .wide .ensures ∙ c .before .before .name-at .ensures in let z = c .before .before .before .before .loop .inv .2 in omega arith
+slice-read-nexts c =
+    let c4 = c .before .before .before .before in
+    let h = c4 .before .before .before .before .pre .2 (c4 .loop .i - 1) (omega arith) in let n = c .before .wide .ensures ∙
+            c .before .before .name-at .ensures in let z = c4 .loop .inv .2 in omega arith
 
 mul-nexts-2 : tie.Need-mul-nexts-2 Inv-loop μ-loop
 mul-nexts-2 c = omega (arith, c .before .before .before .before .before .before .before .before .pre .1, c .before .before .before .before .before .before .before .before .good .1 .1 .0)
@@ -40,22 +47,31 @@ slice-write-nexts : tie.Need-slice-write-nexts Inv-loop μ-loop
 slice-write-nexts c = omega (arith, c .before .before .before .before .before .before .before .before .pre .1)
 
 mul-firsts : tie.Need-mul-firsts Inv-loop μ-loop
-mul-firsts c = let h = c .before .before .before .before .before .before .before .before .pre .2 (c .before .before .before .before .loop .i - 1) (omega arith) in let n = c .before .wide .ensures ∙ c .before .before .name-at .ensures in let z = c .before .before .before .before .loop .inv .2 in omega (arith, c .before .before .before .before .before .before .before .before .good .1 .1 .1 .0)
+mul-firsts c =
+    let c4 = c .before .before .before .before in
+    let c8 = c4 .before .before .before .before in
+    let h = c8 .pre .2 (c4 .loop .i - 1) (omega arith) in let n = c .before .wide .ensures ∙ c .before .before .name-at .ensures in let z = c4 .loop .inv .2 in
+            omega (arith, c8 .good .1 .1 .1 .0)
 
 slice-write-firsts : tie.Need-slice-write-firsts Inv-loop μ-loop
-slice-write-firsts c = let h = c .before .before .before .before .before .before .before .before .pre .2 (c .before .before .before .before .loop .i - 1) (omega arith) in let n = c .before .wide .ensures ∙ c .before .before .name-at .ensures in let z = c .before .before .before .before .loop .inv .2 in omega arith
+slice-write-firsts c =
+    let c4 = c .before .before .before .before in
+    let h = c4 .before .before .before .before .pre .2 (c4 .loop .i - 1) (omega arith) in let n = c .before .wide .ensures ∙
+            c .before .before .name-at .ensures in let z = c4 .loop .inv .2 in omega arith
 
 loop-less : tie.Need-loop-less Inv-loop μ-loop
 loop-less c = omega arith
 
 loop-again : tie.Need-loop-again Inv-loop μ-loop
 loop-again c =
-    let h = c .before .before .before .before .before .before .before .before .pre .2 (c .before .before .before .before .loop .i - 1) (omega arith) in let n = c .before .wide .ensures ∙ c .before .before .name-at .ensures in let z = c .before .before .before .before .loop .inv .2 in
-    let i : c .before .before .before .before .loop .i ≡ (c .before .before .before .before .loop .i - 1) + 1 = omega arith in (
+    let c4 = c .before .before .before .before in
+    let c8 = c4 .before .before .before .before in
+    let h = c8 .pre .2 (c4 .loop .i - 1) (omega arith) in let n = c .before .wide .ensures ∙ c .before .before .name-at .ensures in let z = c4 .loop .inv .2 in
+    let i : c4 .loop .i ≡ (c4 .loop .i - 1) + 1 = omega arith in (
       omega arith,
-      simp length-set (c .before .before .before .before .loop .inv .1),
-      simp length-set (c .before .before .before .before .loop .inv .2),
-      chain-turn _ _ _ _ _ _ _ _ _ (subst (Chained _ _ _ _) i (c .before .before .before .before .loop .inv .3)) (omega arith) (omega (arith, c .before .before .before .before .before .before .before .before .pre .1)) n (omega arith) refl refl refl,
+      simp length-set (c4 .loop .inv .1),
+      simp length-set (c4 .loop .inv .2),
+      chain-turn _ _ _ _ _ _ _ _ _ (subst (Chained _ _ _ _) i (c4 .loop .inv .3)) (omega arith) (omega (arith, c8 .pre .1)) n (omega arith) refl refl refl,
     )
 
 same-length : tie.Need-same-length Inv-loop μ-loop

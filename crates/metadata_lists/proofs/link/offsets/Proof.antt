@@ -31,9 +31,12 @@ count-at-requires c κs = omega (arith, c .before .before .before .before .pre .
 
 add-o : tie.Need-add-o Inv-loop μ-loop
 add-o c =
+    let c5 = c .before .before .before .before .before in
+    let a = c5 .args in
     let n = c .count-at .ensures in
-    let u : before (c .before .before .before .before .before .args .mappings .now) (c .before .before .loop .t + 1) ≤ before (c .before .before .before .before .before .args .mappings .now) (c .before .before .before .before .before .args .count) = before-up (c .before .before .before .before .before .args .mappings .now) (c .before .before .loop .t + 1) (c .before .before .before .before .before .args .count) (omega arith) in
-    omega (arith, before-next (c .before .before .before .before .before .args .mappings .now) (c .before .before .loop .t), c .before .before .before .before .before .pre .2, c .before .before .loop .inv .2)
+    let u : before (a .mappings .now) (c .before .before .loop .t + 1) ≤ before (a .mappings .now) (a .count) = before-up (a .mappings .now)
+            (c .before .before .loop .t + 1) (a .count) (omega arith) in
+    omega (arith, before-next (a .mappings .now) (c .before .before .loop .t), c5 .pre .2, c .before .before .loop .inv .2)
 
 add-t : tie.Need-add-t Inv-loop μ-loop
 add-t c = omega arith
@@ -43,11 +46,14 @@ loop-less c = omega arith
 
 loop-again : tie.Need-loop-again Inv-loop μ-loop
 loop-again c =
+    let c5 = c .before .before .before .before .before in
+    let a = c5 .args in
     let n = c .count-at .ensures in (
       omega arith,
       simp length-set (c .before .before .loop .inv .1),
-      omega (arith, before-next (c .before .before .before .before .before .args .mappings .now) (c .before .before .loop .t), c .before .before .loop .inv .2),
-      off-turn (c .before .before .before .before .before .args .mappings .now) (c .before .before .loop .starts) _ (c .before .before .loop .t) (c .before .before .loop .o) (omega (arith, c .before .before .before .before .before .pre .1)) (c .before .before .loop .inv .2) refl (c .before .before .loop .inv .3),
+      omega (arith, before-next (a .mappings .now) (c .before .before .loop .t), c .before .before .loop .inv .2),
+      off-turn (a .mappings .now) (c .before .before .loop .starts) _ (c .before .before .loop .t) (c .before .before .loop .o) (omega (arith, c5 .pre .1))
+          (c .before .before .loop .inv .2) refl (c .before .before .loop .inv .3),
     )
 
 same-length : tie.Need-same-length Inv-loop μ-loop

@@ -23,36 +23,51 @@ loop-holds c = (start-laying _ _ _ _ _ _ _, refl)
 
 lay-place-requires : tie.Need-lay-place-requires Inv-loop μ-loop
 lay-place-requires c κs =
-    let g = c .before .before .before .before .loop .inv .0 in
-    let r = c .before .before .before .before .before .before .before .before .before .before .before .before .before .pre in
+    let c3 = c .before .before .before in
+    let c13 = c3 .before .before .before .before .before .before .before .before .before .before in
+    let g = c3 .before .loop .inv .0 in
+    let r = c13 .pre in
     let a = g .few in
     let b = g .maps in
     let d = g .same in
     let e = r .maps in
     let f = r .small in (
       omega arith,
-      c .before .before .before .loop-test .taken,
+      c3 .loop-test .taken,
       r .words,
-      r .heads _ (c .before .before .before .loop-test .taken),
+      r .heads _ (c3 .loop-test .taken),
       omega arith,
-      place-ready _ _ _ _ _ _ _ _ _ (c .before .before .before .before .before .before .before .before .before .before .before .before .before .pre) _ _ _ _ _ _ _ (c .before .before .before .before .loop .inv .0) (c .before .before .before .loop-test .taken) _ _ (c .before .before .before .before .loop .inv .1) d,
+      place-ready _ _ _ _ _ _ _ _ _ (c13 .pre) _ _ _ _ _ _ _ (c3 .before .loop .inv .0) (c3 .loop-test .taken) _ _ (c3 .before .loop .inv .1) d,
     )
 
 enum-told : tie.Need-enum-told Inv-loop μ-loop
 enum-told c = search needs
 
 same-length : tie.Need-same-length Inv-loop μ-loop
-same-length c = c .before .before .before .before .before .before .before .before .lay-place .kept .1 .1 .1 .1 .1 .1 .1 .0 ∙ c .before .before .before .before .before .before .before .before .before .before .before .before .before .loop .inv .1
+same-length c =
+    let c13 = c .before .before .before .before .before .before .before .before .before .before .before .before .before in
+    c .before .before .before .before .before .before .before .before .lay-place .kept .1 .1 .1 .1 .1 .1 .1 .0 ∙ c13 .loop .inv .1
 
 same-length-2 : tie.Need-same-length-2 Inv-loop μ-loop
-same-length-2 c = c .before .before .before .before .before .before .before .before .lay-place .kept .1 .1 .1 .1 .1 .1 .1 .1 .0 ∙ c .before .before .before .before .before .before .before .before .before .before .before .before .before .loop .inv .0 .maps
+same-length-2 c =
+    let c13 = c .before .before .before .before .before .before .before .before .before .before .before .before .before in
+    c .before .before .before .before .before .before .before .before .lay-place .kept .1 .1 .1 .1 .1 .1 .1 .1 .0 ∙ c13 .loop .inv .0 .maps
 
 same-length-3 : tie.Need-same-length-3 Inv-loop μ-loop
-same-length-3 c = c .before .before .before .before .before .before .before .before .lay-place .kept .1 .1 .1 .1 .1 .1 .1 .1 .1 .1 .0 ∙ c .before .before .before .before .before .before .before .before .before .before .before .before .before .loop .inv .0 .same
+same-length-3 c =
+    let c13 = c .before .before .before .before .before .before .before .before .before .before .before .before .before in
+    c .before .before .before .before .before .before .before .before .lay-place .kept .1 .1 .1 .1 .1 .1 .1 .1 .1 .1 .0 ∙ c13 .loop .inv .0 .same
 
 returns : tie.Need-returns Inv-loop μ-loop
 unfolding endNames
-returns c = turn-fails _ _ _ _ _ _ _ _ _ (c .before .before .before .before .before .before .before .before .before .before .before .before .before .before .before .before .before .before .before .before .before .before .pre) _ _ _ _ _ _ _ (c .before .before .before .before .before .before .before .before .before .before .before .before .before .loop .inv .0) (c .before .before .before .before .before .before .before .before .before .before .before .before .loop-test .taken) (c .before .before .before .before .before .before .before .before .lay-place .last .1 .1 .1 .1 .1 .1 .1 .1 .0) (c .before .before .before .before .before .before .before .before .lay-place .last .1 .1 .1 .1 .1 .1 .1 .1 .1 .1 .0) (ap (λ (x : NamesLaid). endNames x (c .before .before .before .before .before .before .before .before .lay-place .last .1 .1 .1 .1 .1 .1 .1 .1 .0) (c .before .before .before .before .before .before .before .before .lay-place .last .1 .1 .1 .1 .1 .1 .1 .1 .1 .1 .0)) (sym (c .enum-told .given .1)) ∙ c .before .before .before .before .before .before .before .before .lay-place .ensures)
+returns c =
+    let c8 = c .before .before .before .before .before .before .before .before in
+    let c12 = c8 .before .before .before .before in
+    let c22 = c12 .before .before .before .before .before .before .before .before .before .before in
+    turn-fails _ _ _ _ _ _ _ _ _ (c22 .pre) _ _ _ _ _ _ _ (c12 .before .loop .inv .0) (c12 .loop-test .taken) (c8 .lay-place .last .1 .1 .1 .1 .1 .1 .1 .1 .0)
+        (c8 .lay-place .last .1 .1 .1 .1 .1 .1 .1 .1 .1 .1 .0)
+        (ap (λ (x : NamesLaid). endNames x (c8 .lay-place .last .1 .1 .1 .1 .1 .1 .1 .1 .0) (c8 .lay-place .last .1 .1 .1 .1 .1 .1 .1 .1 .1 .1 .0))
+        (sym (c .enum-told .given .1)) ∙ c8 .lay-place .ensures)
 
 enum-known-r : tie.Need-enum-known-r Inv-loop μ-loop
 enum-known-r c = search needs
@@ -64,9 +79,16 @@ loop-less : tie.Need-loop-less Inv-loop μ-loop
 loop-less c = omega arith
 
 loop-again : tie.Need-loop-again Inv-loop μ-loop
-loop-again c = (
-  turn-lays _ _ _ _ _ _ _ _ _ (c .before .before .before .before .before .before .before .before .before .before .before .before .before .before .before .before .before .before .before .before .before .before .before .pre) _ _ _ _ _ _ _ (c .before .before .before .before .before .before .before .before .before .before .before .before .before .before .loop .inv .0) (c .before .before .before .before .before .before .before .before .before .before .before .before .before .loop-test .taken) _ _ _ _ (c .before .before .before .before .before .before .before .before .before .lay-place .kept .1 .1 .1 .1 .1 .1 .1 .1 .0) (c .before .before .before .before .before .before .before .before .before .lay-place .kept .1 .1 .1 .1 .1 .1 .1 .1 .1 .1 .0) (ap (λ (x : NamesLaid). endNames x (c .before .before .before .before .before .before .before .before .before .lay-place .last .1 .1 .1 .1 .1 .1 .1 .1 .0) (c .before .before .before .before .before .before .before .before .before .lay-place .last .1 .1 .1 .1 .1 .1 .1 .1 .1 .1 .0)) (sym (c .before .r .given .1)) ∙ c .before .before .before .before .before .before .before .before .before .lay-place .ensures),
-  c .before .before .before .before .before .before .before .before .before .lay-place .kept .1 .1 .1 .1 .1 .1 .1 .0 ∙ c .before .before .before .before .before .before .before .before .before .before .before .before .before .before .loop .inv .1,
+loop-again c =
+    let c9 = c .before .before .before .before .before .before .before .before .before in
+    let c13 = c9 .before .before .before .before in
+    let c23 = c13 .before .before .before .before .before .before .before .before .before .before in
+    (
+  turn-lays _ _ _ _ _ _ _ _ _ (c23 .pre) _ _ _ _ _ _ _ (c13 .before .loop .inv .0) (c13 .loop-test .taken) _ _ _ _
+      (c9 .lay-place .kept .1 .1 .1 .1 .1 .1 .1 .1 .0) (c9 .lay-place .kept .1 .1 .1 .1 .1 .1 .1 .1 .1 .1 .0)
+      (ap (λ (x : NamesLaid). endNames x (c9 .lay-place .last .1 .1 .1 .1 .1 .1 .1 .1 .0) (c9 .lay-place .last .1 .1 .1 .1 .1 .1 .1 .1 .1 .1 .0))
+      (sym (c .before .r .given .1)) ∙ c9 .lay-place .ensures),
+  c9 .lay-place .kept .1 .1 .1 .1 .1 .1 .1 .0 ∙ c13 .before .loop .inv .1,
 )
 
 same-length-4 : tie.Need-same-length-4 Inv-loop μ-loop

@@ -12,13 +12,19 @@ unite-requires-2 : tie.Need-unite-requires-2
 unite-requires-2 c κs = set-b _ _ _ _ _ _ _ _ _ _ _ (c .before .before .before .before .before .before .before .before .before .before .before .before .before .before .before .before .before .before .before .before .pre)
 
 unite-requires-3 : tie.Need-unite-requires-3
-unite-requires-3 c κs = set-c _ _ _ _ _ _ _ _ _ _ _ (c .before .before .before .before .before .before .before .before .before .before .before .before .before .before .before .before .before .before .before .before .before .before .before .before .pre)
+unite-requires-3 c κs =
+    let c24 = c .before .before .before .before .before .before .before .before .before .before .before .before .before .before .before .before .before .before
+            .before .before .before .before .before .before in
+    set-c _ _ _ _ _ _ _ _ _ _ _ (c24 .pre)
 
 rest-known-requires : tie.Need-rest-known-requires
 rest-known-requires c κs = tt
 
 plan-requires : tie.Need-plan-requires
-plan-requires c κs = planable _ _ _ _ _ _ _ _ _ _ _ (c .before .before .before .before .before .before .before .before .before .before .before .before .before .before .before .before .before .before .before .before .before .before .before .before .before .before .before .before .before .before .pre)
+plan-requires c κs =
+    let c30 = c .before .before .before .before .before .before .before .before .before .before .before .before .before .before .before .before .before .before
+            .before .before .before .before .before .before .before .before .before .before .before .before in
+    planable _ _ _ _ _ _ _ _ _ _ _ (c30 .pre)
 
 decide-requires : tie.Need-decide-requires
 decide-requires c κs = tt
@@ -39,7 +45,15 @@ same-length-5 : tie.Need-same-length-5
 same-length-5 c = c .before .before .before .before .before .plan .kept .1 .1 .1 .1 .1 .1 .1 .1 .1 .0
 
 returns : tie.Need-returns
-returns c = outcomes _ _ _ _ _ _ (now (c .before .before .before .before .before .before .before .before .before .before .before .before .before .before .before .before .before .before .before .before .before .before .before .before .before .before .before .before .before .before .before .before .before .before .before .before .args .out-mappings)) (now (c .before .before .before .before .before .before .before .before .before .before .before .before .before .before .before .before .before .before .before .before .before .before .before .before .before .before .before .before .before .before .before .before .before .before .before .before .args .out-intervals)) _ _ _ (c .before .before .before .before .before .before .before .before .before .before .before .before .before .before .before .before .before .before .before .before .before .before .before .before .before .before .before .before .before .before .before .before .before .before .before .before .pre) _ _ _ (c .before .before .before .before .before .before .before .before .before .before .before .before .before .before .before .before .before .before .before .unite .ensures) _ _ _ (c .before .before .before .before .before .before .before .before .before .before .before .before .before .before .before .unite2 .ensures) _ _ _ (c .before .before .before .before .before .before .before .before .before .before .before .unite3 .ensures) _ (c .before .before .before .before .before .before .before .before .rest-known .ensures) _ _ _ (c .before .before .before .before .before .plan .ensures) _ (c .decide .ensures)
+returns c =
+    let c15 = c .before .before .before .before .before .before .before .before .before .before .before .before .before .before .before in
+    let c19 = c15 .before .before .before .before in
+    let c36 = c19 .before .before .before .before .before .before .before .before .before .before .before .before .before .before .before .before .before in
+    let a = c36 .args in
+    outcomes _ _ _ _ _ _ (now (a .out-mappings)) (now (a .out-intervals)) _ _ _ (c36 .pre) _ _ _ (c19 .unite .ensures) _ _ _ (c15 .unite2 .ensures) _ _ _
+        (c .before .before .before .before .before .before .before .before .before .before .before .unite3 .ensures) _
+        (c .before .before .before .before .before .before .before .before .rest-known .ensures) _ _ _
+        (c .before .before .before .before .before .plan .ensures) _ (c .decide .ensures)
 
 pub outcome-spec : {M : Type 1} → statement M
 outcome-spec =

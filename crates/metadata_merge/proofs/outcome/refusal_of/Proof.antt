@@ -15,11 +15,15 @@ returns-2 c = rw (ne-eqb (c .before .before .args .number) 11 (c .before .if1 .l
 
 returns-3 : tie.Need-returns-3
 unfolding refusalOf
-returns-3 c = rw (ne-eqb (c .before .before .before .args .number) 11 (c .before .before .if1 .left), ne-eqb (c .before .before .before .args .number) 3 (c .before .if2 .left), eq-eqb (c .before .before .before .args .number) 1 (c .if3 .taken)) refl
+returns-3 c =
+    let a = c .before .before .before .args in
+    rw (ne-eqb (a .number) 11 (c .before .before .if1 .left), ne-eqb (a .number) 3 (c .before .if2 .left), eq-eqb (a .number) 1 (c .if3 .taken)) refl
 
 returns-4 : tie.Need-returns-4
 unfolding refusalOf
-returns-4 c = rw (ne-eqb (c .before .before .before .args .number) 11 (c .before .before .if1 .left), ne-eqb (c .before .before .before .args .number) 3 (c .before .if2 .left), ne-eqb (c .before .before .before .args .number) 1 (c .if3 .left)) refl
+returns-4 c =
+    let a = c .before .before .before .args in
+    rw (ne-eqb (a .number) 11 (c .before .before .if1 .left), ne-eqb (a .number) 3 (c .before .if2 .left), ne-eqb (a .number) 1 (c .if3 .left)) refl
 
 pub refusal-of-spec : {M : Type 1} → statement M
 refusal-of-spec = tie.close (tie.spec returns returns-2 returns-3 returns-4)

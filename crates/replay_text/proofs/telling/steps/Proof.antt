@@ -26,43 +26,67 @@ loop-holds c = stepping-start (c .before .before .before .before .before .before
 
 step-requires : tie.Need-step-requires Inv-loop μ-loop
 step-requires c κs =
-    (c .before .before .before .before .before .before .loop .inv .places, omega (arith, c .before .before .before .before .before .before .loop .inv .writing .room, c .before .before .before .before .before .before .loop .inv .writing .long))
+    let c6 = c .before .before .before .before .before .before in
+    (c6 .loop .inv .places, omega (arith, c6 .loop .inv .writing .room, c6 .loop .inv .writing .long))
 
 same-length : tie.Need-same-length Inv-loop μ-loop
 same-length c =
-    c .before .before .before .before .before .before .before .before .before .before .before .before .before .step .kept .1 .1 .1 .1 .0 ∙ c .before .before .before .before .before .before .before .before .before .before .before .before .before .before .before .before .before .before .before .before .loop .inv .places .marks ∙ sym (c .before .before .before .before .before .before .before .before .before .before .before .before .before .before .before .before .before .before .before .before .before .before .before .before .before .before .before .before .before .pre .places .marks)
+    let c13 = c .before .before .before .before .before .before .before .before .before .before .before .before .before in
+    let c20 = c13 .before .before .before .before .before .before .before in
+    let c29 = c20 .before .before .before .before .before .before .before .before .before in
+    c13 .step .kept .1 .1 .1 .1 .0 ∙ c20 .loop .inv .places .marks ∙ sym (c29 .pre .places .marks)
 
 same-length-2 : tie.Need-same-length-2 Inv-loop μ-loop
 same-length-2 c =
-    c .before .before .before .before .before .before .before .before .before .before .before .before .before .step .kept .1 .1 .1 .1 .1 .0 ∙ c .before .before .before .before .before .before .before .before .before .before .before .before .before .before .before .before .before .before .before .before .loop .inv .places .times ∙ sym (c .before .before .before .before .before .before .before .before .before .before .before .before .before .before .before .before .before .before .before .before .before .before .before .before .before .before .before .before .before .pre .places .times)
+    let c13 = c .before .before .before .before .before .before .before .before .before .before .before .before .before in
+    let c20 = c13 .before .before .before .before .before .before .before in
+    let c29 = c20 .before .before .before .before .before .before .before .before .before in
+    c13 .step .kept .1 .1 .1 .1 .1 .0 ∙ c20 .loop .inv .places .times ∙ sym (c29 .pre .places .times)
 
 same-length-3 : tie.Need-same-length-3 Inv-loop μ-loop
 same-length-3 c =
-    c .before .before .before .before .before .before .before .before .before .before .before .before .before .step .kept .1 .1 .1 .1 .1 .1 .0 ∙ c .before .before .before .before .before .before .before .before .before .before .before .before .before .before .before .before .before .before .before .before .loop .inv .places .places ∙ sym (c .before .before .before .before .before .before .before .before .before .before .before .before .before .before .before .before .before .before .before .before .before .before .before .before .before .before .before .before .before .pre .places .places)
+    let c13 = c .before .before .before .before .before .before .before .before .before .before .before .before .before in
+    let c20 = c13 .before .before .before .before .before .before .before in
+    let c29 = c20 .before .before .before .before .before .before .before .before .before in
+    c13 .step .kept .1 .1 .1 .1 .1 .1 .0 ∙ c20 .loop .inv .places .places ∙ sym (c29 .pre .places .places)
 
 same-length-4 : tie.Need-same-length-4 Inv-loop μ-loop
 same-length-4 c =
-    c .before .before .before .before .before .before .before .before .before .before .before .before .before .step .kept .1 .1 .1 .1 .1 .1 .1 .0 ∙ c .before .before .before .before .before .before .before .before .before .before .before .before .before .before .before .before .before .before .before .before .loop .inv .places .heads ∙ sym (c .before .before .before .before .before .before .before .before .before .before .before .before .before .before .before .before .before .before .before .before .before .before .before .before .before .before .before .before .before .pre .places .heads)
+    let c13 = c .before .before .before .before .before .before .before .before .before .before .before .before .before in
+    let c20 = c13 .before .before .before .before .before .before .before in
+    let c29 = c20 .before .before .before .before .before .before .before .before .before in
+    c13 .step .kept .1 .1 .1 .1 .1 .1 .1 .0 ∙ c20 .loop .inv .places .heads ∙ sym (c29 .pre .places .heads)
 
 same-length-5 : tie.Need-same-length-5 Inv-loop μ-loop
 same-length-5 c =
-    c .before .before .before .before .before .before .before .before .before .before .before .before .before .step .kept .1 .1 .1 .1 .1 .1 .1 .1 .0 ∙ c .before .before .before .before .before .before .before .before .before .before .before .before .before .before .before .before .before .before .before .before .loop .inv .places .heap ∙ sym (c .before .before .before .before .before .before .before .before .before .before .before .before .before .before .before .before .before .before .before .before .before .before .before .before .before .before .before .before .before .pre .places .heap)
+    let c13 = c .before .before .before .before .before .before .before .before .before .before .before .before .before in
+    let c20 = c13 .before .before .before .before .before .before .before in
+    let c29 = c20 .before .before .before .before .before .before .before .before .before in
+    c13 .step .kept .1 .1 .1 .1 .1 .1 .1 .1 .0 ∙ c20 .loop .inv .places .heap ∙ sym (c29 .pre .places .heap)
 
 same-length-6 : tie.Need-same-length-6 Inv-loop μ-loop
 same-length-6 c =
-    c .before .before .before .before .before .before .before .before .before .before .before .before .before .step .kept .1 .1 .1 .1 .1 .1 .1 .1 .1 .0 ∙ c .before .before .before .before .before .before .before .before .before .before .before .before .before .before .before .before .before .before .before .before .loop .inv .writing .long
+    let c13 = c .before .before .before .before .before .before .before .before .before .before .before .before .before in
+    let c20 = c13 .before .before .before .before .before .before .before in
+    c13 .step .kept .1 .1 .1 .1 .1 .1 .1 .1 .1 .0 ∙ c20 .loop .inv .writing .long
 
 returns : tie.Need-returns Inv-loop μ-loop
 returns c =
-    let i = c .before .before .before .before .before .before .before .before .before .before .before .before .before .before .before .before .before .before .before .before .loop .inv in
-    stepping-last i (c .before .before .before .before .before .before .before .before .before .before .before .before .before .step .ensures .1 _ (c .before .before .before .before .before .before .before .before .before .before .before .before .before .before .before .before .before .before .before .before .before .before .before .before .before .before .before .before .before .pre .few) (i .sound)) (c .if1 .taken)
+    let c13 = c .before .before .before .before .before .before .before .before .before .before .before .before .before in
+    let c20 = c13 .before .before .before .before .before .before .before in
+    let c29 = c20 .before .before .before .before .before .before .before .before .before in
+    let i = c20 .loop .inv in
+    stepping-last i (c13 .step .ensures .1 _ (c29 .pre .few) (i .sound)) (c .if1 .taken)
 
 loop-less : tie.Need-loop-less Inv-loop μ-loop
 loop-less c =
-    let i = c .before .before .before .before .before .before .before .before .before .before .before .before .before .before .before .before .before .before .before .before .loop .inv in
-    let s = c .before .before .before .before .before .before .before .before .before .before .before .before .before .step in
+    let c13 = c .before .before .before .before .before .before .before .before .before .before .before .before .before in
+    let c20 = c13 .before .before .before .before .before .before .before in
+    let c29 = c20 .before .before .before .before .before .before .before .before .before in
+    let i = c20 .loop .inv in
+    let s = c13 .step in
     let p = i .places in
-    stepping-more i (s .ensures .1 _ (c .before .before .before .before .before .before .before .before .before .before .before .before .before .before .before .before .before .before .before .before .before .before .before .before .before .before .before .before .before .pre .few) (i .sound)) (c .if1 .left) (s .kept .1 .1 .1 .1 .1 .1 .1 .1 .1 .0) (record {
+    stepping-more i (s .ensures .1 _ (c29 .pre .few) (i .sound)) (c .if1 .left) (s .kept .1 .1 .1 .1 .1 .1 .1 .1 .1 .0) (record {
       few = omega (arith, s .ensures .0, p .few);
       marks = s .kept .1 .1 .1 .1 .0 ∙ p .marks;
       times = s .kept .1 .1 .1 .1 .1 .0 ∙ p .times;
@@ -73,10 +97,13 @@ loop-less c =
 
 loop-again : tie.Need-loop-again Inv-loop μ-loop
 loop-again c =
-    let i = c .before .before .before .before .before .before .before .before .before .before .before .before .before .before .before .before .before .before .before .before .loop .inv in
-    let s = c .before .before .before .before .before .before .before .before .before .before .before .before .before .step in
+    let c13 = c .before .before .before .before .before .before .before .before .before .before .before .before .before in
+    let c20 = c13 .before .before .before .before .before .before .before in
+    let c29 = c20 .before .before .before .before .before .before .before .before .before in
+    let i = c20 .loop .inv in
+    let s = c13 .step in
     let p = i .places in
-    stepping-more i (s .ensures .1 _ (c .before .before .before .before .before .before .before .before .before .before .before .before .before .before .before .before .before .before .before .before .before .before .before .before .before .before .before .before .before .pre .few) (i .sound)) (c .if1 .left) (s .kept .1 .1 .1 .1 .1 .1 .1 .1 .1 .0) (record {
+    stepping-more i (s .ensures .1 _ (c29 .pre .few) (i .sound)) (c .if1 .left) (s .kept .1 .1 .1 .1 .1 .1 .1 .1 .1 .0) (record {
       few = omega (arith, s .ensures .0, p .few);
       marks = s .kept .1 .1 .1 .1 .0 ∙ p .marks;
       times = s .kept .1 .1 .1 .1 .1 .0 ∙ p .times;

@@ -21,10 +21,14 @@ enum-known-opening c = search needs
 
 steps-requires : tie.Need-steps-requires
 steps-requires c κs =
-    let o = c .before .before .before .before .before .before .before .before .before .before .before .before .before .before .before .before .before .before .before .open-by in
-    let m = c .before .before .before .before .before .before .before .before .before .before .before .before .before .before .before .before .before .before .before .before .before .before .before .before .before .before .before .before .before .before .before .before .before .before .pre in
+    let c19 = c .before .before .before .before .before .before .before .before .before .before .before .before .before .before .before .before .before .before
+            .before in
+    let c34 = c19 .before .before .before .before .before .before .before .before .before .before .before .before .before .before .before in
+    let o = c19 .open-by in
+    let m = c34 .pre in
     let e = opening-held m (ap openingOf (sym (c .before .before .before .before .before .before .before .opening .given .1)) ∙ o .ensures .0) in
-    opened-ready m (o .ensures .1 (m .right)) e (o .kept .1 .1 .1 .1 .0) (o .kept .1 .1 .1 .1 .1 .0) (o .kept .1 .1 .1 .1 .1 .1 .0) (o .kept .1 .1 .1 .1 .1 .1 .1 .0) (o .kept .1 .1 .1 .1 .1 .1 .1 .1 .0)
+    opened-ready m (o .ensures .1 (m .right)) e (o .kept .1 .1 .1 .1 .0) (o .kept .1 .1 .1 .1 .1 .0) (o .kept .1 .1 .1 .1 .1 .1 .0)
+        (o .kept .1 .1 .1 .1 .1 .1 .1 .0) (o .kept .1 .1 .1 .1 .1 .1 .1 .1 .0)
 
 enum-told : tie.Need-enum-told
 enum-told c = search needs
@@ -49,8 +53,12 @@ same-length-6 c = search needs
 
 returns : tie.Need-returns
 returns c =
-    let m = c .before .before .before .before .before .before .before .before .before .before .before .before .before .before .before .before .before .before .before .before .before .before .before .before .before .before .before .before .before .before .before .before .before .before .before .before .before .before .before .before .before .before .before .before .before .before .before .pre in
-    rw (sym (opened-starts m (c .before .before .before .before .before .before .before .before .before .before .before .before .before .before .before .before .before .before .before .before .before .before .before .before .before .before .before .before .before .before .before .before .open-by .ensures .1 (m .right)))) (c .before .before .before .before .before .before .before .before .before .before .before .before .steps .ensures)
+    let c12 = c .before .before .before .before .before .before .before .before .before .before .before .before in
+    let c32 = c12 .before .before .before .before .before .before .before .before .before .before .before .before .before .before .before .before .before
+            .before .before .before in
+    let c47 = c32 .before .before .before .before .before .before .before .before .before .before .before .before .before .before .before in
+    let m = c47 .pre in
+    rw (sym (opened-starts m (c32 .open-by .ensures .1 (m .right)))) (c12 .steps .ensures)
 
 same-length-7 : tie.Need-same-length-7
 same-length-7 c = search needs
@@ -69,8 +77,10 @@ same-length-11 c = search needs
 
 returns-2 : tie.Need-returns-2
 returns-2 c =
-    let m = c .before .before .before .before .before .before .before .before .before .before .before .before .before .before .before .before .before .before .before .before .before .before .before .before .before .before .before .pre in
-    absurd (refused-not-done (c .enum-told .given .0 .0) (opening-done m (ap openingOf (sym (c .enum-told .given .1)) ∙ c .before .before .before .before .before .before .before .before .before .before .before .before .open-by .ensures .0)))
+    let c12 = c .before .before .before .before .before .before .before .before .before .before .before .before in
+    let c27 = c12 .before .before .before .before .before .before .before .before .before .before .before .before .before .before .before in
+    let m = c27 .pre in
+    absurd (refused-not-done (c .enum-told .given .0 .0) (opening-done m (ap openingOf (sym (c .enum-told .given .1)) ∙ c12 .open-by .ensures .0)))
 
 pub tell-opened-spec : {M : Type 1} → statement M
 tell-opened-spec =

@@ -103,7 +103,10 @@ slice-aggregate-merge-sides-10 : tie.Need-slice-aggregate-merge-sides-10
 slice-aggregate-merge-sides-10 c = search needs
 
 merge-sides-requires : tie.Need-merge-sides-requires
-merge-sides-requires c κs = (c .before .before .before .before .before .before .before .before .before .before .before .before .before .before .before .before .before .before .before .before .before .before .before .before .before .before .side-at .ensures, c .before .before .before .before .before .before .before .before .before .before .before .before .before .before .before .side-at2 .ensures)
+merge-sides-requires c κs =
+    let c15 = c .before .before .before .before .before .before .before .before .before .before .before .before .before .before .before in
+    let c26 = c15 .before .before .before .before .before .before .before .before .before .before .before in
+    (c26 .side-at .ensures, c15 .side-at2 .ensures)
 
 returns : tie.Need-returns
 returns c = search needs
