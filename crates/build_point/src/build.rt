@@ -63,8 +63,12 @@ pub fn point_in_time(
     name_bytes: usize,
     date: u32,
 ) -> Built
-    ensures answered { λ r. ⌜ builtOf r ≡ pointInTimeAnswer (length (now (table .entry))) header (lists (now (symbols .entry)) (now (partial .entry)) (now («not_found» .entry)) (now (mappings .entry)) (now (intervals .entry))) (now (bytes .entry)) (now (ends .entry)) names «name_bytes» date ⌝ }
-    ensures memory { λ _. ⌜ now (table .exit) ≡ pointInTimeMemory (length (now (table .entry))) header (lists (now (symbols .entry)) (now (partial .entry)) (now («not_found» .entry)) (now (mappings .entry)) (now (intervals .entry))) (now (bytes .entry)) (now (ends .entry)) names «name_bytes» date ⌝ }
+    ensures answered { λ r. ⌜ builtOf r ≡ pointInTimeAnswer (length (now (table .entry))) header
+        (lists (now (symbols .entry)) (now (partial .entry)) (now («not_found» .entry)) (now (mappings .entry)) (now (intervals .entry))) (now (bytes .entry))
+        (now (ends .entry)) names «name_bytes» date ⌝ }
+    ensures memory { λ _. ⌜ now (table .exit) ≡ pointInTimeMemory (length (now (table .entry))) header
+        (lists (now (symbols .entry)) (now (partial .entry)) (now («not_found» .entry)) (now (mappings .entry)) (now (intervals .entry))) (now (bytes .entry))
+        (now (ends .entry)) names «name_bytes» date ⌝ }
 {
     let l = Lengths {
         symbols: symbols.len(),

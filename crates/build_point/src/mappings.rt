@@ -46,7 +46,8 @@ pub fn lay_mappings(
     requires { ⌜ Clean (length (now table)) (now table) 0 ⌝ }
     requires { ⌜ (2 * count ≤ length (now mappings)) × (3 * before (now mappings) count ≤ length (now intervals)) ⌝ }
     requires { ⌜ Ordered (now bytes) (now ends) names ⌝ }
-    ensures { λ r. ⌜ Laid (length (now (table .entry))) (pickMappings (length (now (table .entry)) / 8) (namesOf (now (bytes .entry)) (now (ends .entry)) names) direction day 0 (mappingsFrom (now (mappings .entry)) (now (intervals .entry)) 0 0 count) []) r (now (table .exit)) ⌝ }
+    ensures { λ r. ⌜ Laid (length (now (table .entry))) (pickMappings (length (now (table .entry)) / 8) (namesOf (now (bytes .entry)) (now (ends .entry)) names)
+        direction day 0 (mappingsFrom (now (mappings .entry)) (now (intervals .entry)) 0 0 count) []) r (now (table .exit)) ⌝ }
 {
     let mut used = 0;
     let mut from = 0;

@@ -176,7 +176,9 @@ fn lay_intervals(
     count: usize,
 ) -> Built
     requires { ⌜ Ordered (now bytes) (now ends) names × Holds names (now table) used × (3 * (from + count) ≤ length (now intervals)) ⌝ }
-    ensures { λ r. ⌜ ((t : ℕ) → Lays names (layIntervals names (roomOf (now (table .entry))) (wayStep (namesOf (now (bytes .entry)) (now (ends .entry)) names) way) t 0 (stretch (now (intervals .entry)) from count) (rows (now (table .entry)) used)) r (now (table .exit))) ⌝ }
+    ensures { λ r. ⌜ ((t : ℕ) → Lays names (layIntervals names (roomOf (now (table .entry)))
+        (wayStep (namesOf (now (bytes .entry)) (now (ends .entry)) names) way) t 0 (stretch (now (intervals .entry)) from count)
+        (rows (now (table .entry)) used)) r (now (table .exit))) ⌝ }
 {
     let mut then = used;
     let mut k = 0;
@@ -218,7 +220,8 @@ fn lay_mapping(
     count: usize,
 ) -> Built
     requires { ⌜ Ordered (now bytes) (now ends) names × Holds names (now table) used × (3 * (from + count) ≤ length (now intervals)) ⌝ }
-    ensures { λ r. ⌜ ((t : ℕ) → Lays names (layMapping (roomOf (now (table .entry))) (namesOf (now (bytes .entry)) (now (ends .entry)) names) direction t (mapping name (stretch (now (intervals .entry)) from count)) (rows (now (table .entry)) used)) r (now (table .exit))) ⌝ }
+    ensures { λ r. ⌜ ((t : ℕ) → Lays names (layMapping (roomOf (now (table .entry))) (namesOf (now (bytes .entry)) (now (ends .entry)) names) direction t
+        (mapping name (stretch (now (intervals .entry)) from count)) (rows (now (table .entry)) used)) r (now (table .exit))) ⌝ }
 {
     match direction {
         Direction::Forward => {
@@ -250,7 +253,8 @@ fn lay_mappings(
     count: usize,
 ) -> Built
     requires { ⌜ Ordered (now bytes) (now ends) names × Holds names (now table) 0 × (2 * count ≤ length (now mappings)) × (3 * before (now mappings) count ≤ length (now intervals)) ⌝ }
-    ensures { λ r. ⌜ Lays names (layMappings (roomOf (now (table .entry))) (namesOf (now (bytes .entry)) (now (ends .entry)) names) direction 0 (mappingsFrom (now (mappings .entry)) (now (intervals .entry)) 0 0 count) []) r (now (table .exit)) ⌝ }
+    ensures { λ r. ⌜ Lays names (layMappings (roomOf (now (table .entry))) (namesOf (now (bytes .entry)) (now (ends .entry)) names) direction 0
+        (mappingsFrom (now (mappings .entry)) (now (intervals .entry)) 0 0 count) []) r (now (table .exit)) ⌝ }
 {
     let mut used = 0;
     let mut from = 0;
@@ -293,7 +297,9 @@ fn build(
     names: usize,
 ) -> Built
     requires { ⌜ Ordered (now bytes) (now ends) names × Holds names (now table) 0 × (2 * count ≤ length (now mappings)) × (3 * before (now mappings) count ≤ length (now intervals)) ⌝ }
-    ensures { λ r. ⌜ Leaves (directed (roomOf (now (table .entry))) (namesOf (now (bytes .entry)) (now (ends .entry)) names) (mappingsFrom (now (mappings .entry)) (now (intervals .entry)) 0 0 count) (directionBy «stype_in» «stype_out»)) (length (now (table .entry))) r (now (table .exit)) ⌝ }
+    ensures { λ r. ⌜ Leaves (directed (roomOf (now (table .entry))) (namesOf (now (bytes .entry)) (now (ends .entry)) names)
+        (mappingsFrom (now (mappings .entry)) (now (intervals .entry)) 0 0 count) (directionBy «stype_in» «stype_out»)) (length (now (table .entry))) r
+        (now (table .exit)) ⌝ }
 {
     let heading = direction_by(stype_in, stype_out);
     match heading {
@@ -375,9 +381,17 @@ pub fn over_time(
     names: usize,
     name_bytes: usize,
 ) -> Built
-    ensures { λ r. ⌜ builtOf r ≡ overTimeAnswer (now (table .entry)) header (lists (now (symbols .entry)) (now (partial .entry)) (now («not_found» .entry)) (now (mappings .entry)) (now (intervals .entry))) (now (bytes .entry)) (now (ends .entry)) names «name_bytes» ⌝ }
-    ensures { λ _. ⌜ now (table .exit) ≡ overTimeMemory (now (table .entry)) header (lists (now (symbols .entry)) (now (partial .entry)) (now («not_found» .entry)) (now (mappings .entry)) (now (intervals .entry))) (now (bytes .entry)) (now (ends .entry)) names «name_bytes» ⌝ }
-    ensures { λ _. ⌜ rows (now (table .exit)) (length (overTimeRows (now (table .entry)) header (lists (now (symbols .entry)) (now (partial .entry)) (now («not_found» .entry)) (now (mappings .entry)) (now (intervals .entry))) (now (bytes .entry)) (now (ends .entry)) names «name_bytes»)) ≡ overTimeRows (now (table .entry)) header (lists (now (symbols .entry)) (now (partial .entry)) (now («not_found» .entry)) (now (mappings .entry)) (now (intervals .entry))) (now (bytes .entry)) (now (ends .entry)) names «name_bytes» ⌝ }
+    ensures { λ r. ⌜ builtOf r ≡ overTimeAnswer (now (table .entry)) header
+        (lists (now (symbols .entry)) (now (partial .entry)) (now («not_found» .entry)) (now (mappings .entry)) (now (intervals .entry))) (now (bytes .entry))
+        (now (ends .entry)) names «name_bytes» ⌝ }
+    ensures { λ _. ⌜ now (table .exit) ≡ overTimeMemory (now (table .entry)) header
+        (lists (now (symbols .entry)) (now (partial .entry)) (now («not_found» .entry)) (now (mappings .entry)) (now (intervals .entry))) (now (bytes .entry))
+        (now (ends .entry)) names «name_bytes» ⌝ }
+    ensures { λ _. ⌜ rows (now (table .exit)) (length (overTimeRows (now (table .entry)) header
+        (lists (now (symbols .entry)) (now (partial .entry)) (now («not_found» .entry)) (now (mappings .entry)) (now (intervals .entry))) (now (bytes .entry))
+        (now (ends .entry)) names «name_bytes»)) ≡ overTimeRows (now (table .entry)) header
+        (lists (now (symbols .entry)) (now (partial .entry)) (now («not_found» .entry)) (now (mappings .entry)) (now (intervals .entry))) (now (bytes .entry))
+        (now (ends .entry)) names «name_bytes» ⌝ }
 {
     clear(table);
     let l = lengths(

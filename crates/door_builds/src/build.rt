@@ -29,7 +29,11 @@ pub extern "C" fn desk_build(
     names: usize,
     name_bytes: usize,
 ) -> u32
-    ensures { λ r. ⌜ Building (length (now (table .entry))) (now (header .entry)) (λ h. overTimeAnswer (now (table .entry)) h (lists (now (symbols .entry)) (now (partial .entry)) (now («not_found» .entry)) (now (mappings .entry)) (now (intervals .entry))) (now (bytes .entry)) (now (ends .entry)) names «name_bytes») (λ h. overTimeMemory (now (table .entry)) h (lists (now (symbols .entry)) (now (partial .entry)) (now («not_found» .entry)) (now (mappings .entry)) (now (intervals .entry))) (now (bytes .entry)) (now (ends .entry)) names «name_bytes») r (now (used .exit)) (now (table .exit)) ⌝ }
+    ensures { λ r. ⌜ Building (length (now (table .entry))) (now (header .entry))
+        (λ h. overTimeAnswer (now (table .entry)) h (lists (now (symbols .entry)) (now (partial .entry)) (now («not_found» .entry)) (now (mappings .entry))
+        (now (intervals .entry))) (now (bytes .entry)) (now (ends .entry)) names «name_bytes»)
+        (λ h. overTimeMemory (now (table .entry)) h (lists (now (symbols .entry)) (now (partial .entry)) (now («not_found» .entry)) (now (mappings .entry))
+        (now (intervals .entry))) (now (bytes .entry)) (now (ends .entry)) names «name_bytes») r (now (used .exit)) (now (table .exit)) ⌝ }
 {
     *used = 0;
     if !is_header(header) {
@@ -76,7 +80,12 @@ pub extern "C" fn desk_build_points(
     name_bytes: usize,
     date: u32,
 ) -> u32
-    ensures { λ r. ⌜ Building (length (now (table .entry))) (now (header .entry)) (λ h. pointInTimeAnswer (length (now (table .entry))) h (lists (now (symbols .entry)) (now (partial .entry)) (now («not_found» .entry)) (now (mappings .entry)) (now (intervals .entry))) (now (bytes .entry)) (now (ends .entry)) names «name_bytes» date) (λ h. pointInTimeMemory (length (now (table .entry))) h (lists (now (symbols .entry)) (now (partial .entry)) (now («not_found» .entry)) (now (mappings .entry)) (now (intervals .entry))) (now (bytes .entry)) (now (ends .entry)) names «name_bytes» date) r (now (used .exit)) (now (table .exit)) ⌝ }
+    ensures { λ r. ⌜ Building (length (now (table .entry))) (now (header .entry))
+        (λ h. pointInTimeAnswer (length (now (table .entry))) h
+        (lists (now (symbols .entry)) (now (partial .entry)) (now («not_found» .entry)) (now (mappings .entry)) (now (intervals .entry))) (now (bytes .entry))
+        (now (ends .entry)) names «name_bytes» date) (λ h. pointInTimeMemory (length (now (table .entry))) h
+        (lists (now (symbols .entry)) (now (partial .entry)) (now («not_found» .entry)) (now (mappings .entry)) (now (intervals .entry))) (now (bytes .entry))
+        (now (ends .entry)) names «name_bytes» date) r (now (used .exit)) (now (table .exit)) ⌝ }
 {
     *used = 0;
     if !is_header(header) {

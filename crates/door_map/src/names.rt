@@ -36,11 +36,19 @@ pub extern "C" fn desk_number_of(
     symbol: &mut u32,
 ) -> u32
     ensures { λ r. ⌜ r ≡ numberIn (namingAnswer (now (names .entry)) (now («name_bytes» .entry)) (now (name .entry)) (naming (now (bytes .entry)) (now (ends .entry)) (now (names .entry)) (now («name_bytes» .entry)) (now (name .entry)))) ⌝ }
-    ensures { λ _. ⌜ now (symbol .exit) ≡ valueIn (now (symbol .entry)) 0 (namingAnswer (now (names .entry)) (now («name_bytes» .entry)) (now (name .entry)) (naming (now (bytes .entry)) (now (ends .entry)) (now (names .entry)) (now («name_bytes» .entry)) (now (name .entry)))) ⌝ }
-    ensures { λ _. ⌜ now (names .exit) ≡ valueIn (now (names .entry)) 1 (namingAnswer (now (names .entry)) (now («name_bytes» .entry)) (now (name .entry)) (naming (now (bytes .entry)) (now (ends .entry)) (now (names .entry)) (now («name_bytes» .entry)) (now (name .entry)))) ⌝ }
-    ensures { λ _. ⌜ now («name_bytes» .exit) ≡ valueIn (now («name_bytes» .entry)) 2 (namingAnswer (now (names .entry)) (now («name_bytes» .entry)) (now (name .entry)) (naming (now (bytes .entry)) (now (ends .entry)) (now (names .entry)) (now («name_bytes» .entry)) (now (name .entry)))) ⌝ }
-    ensures { λ _. ⌜ now (bytes .exit) ≡ bytesAfter (now (bytes .entry)) (now («name_bytes» .entry)) (now (name .entry)) (naming (now (bytes .entry)) (now (ends .entry)) (now (names .entry)) (now («name_bytes» .entry)) (now (name .entry))) ⌝ }
-    ensures { λ _. ⌜ now (ends .exit) ≡ endsAfter (now (ends .entry)) (now (names .entry)) (now («name_bytes» .entry)) (now (name .entry)) (naming (now (bytes .entry)) (now (ends .entry)) (now (names .entry)) (now («name_bytes» .entry)) (now (name .entry))) ⌝ }
+    ensures { λ _. ⌜ now (symbol .exit) ≡ valueIn (now (symbol .entry)) 0
+        (namingAnswer (now (names .entry)) (now («name_bytes» .entry)) (now (name .entry))
+        (naming (now (bytes .entry)) (now (ends .entry)) (now (names .entry)) (now («name_bytes» .entry)) (now (name .entry)))) ⌝ }
+    ensures { λ _. ⌜ now (names .exit) ≡ valueIn (now (names .entry)) 1
+        (namingAnswer (now (names .entry)) (now («name_bytes» .entry)) (now (name .entry))
+        (naming (now (bytes .entry)) (now (ends .entry)) (now (names .entry)) (now («name_bytes» .entry)) (now (name .entry)))) ⌝ }
+    ensures { λ _. ⌜ now («name_bytes» .exit) ≡ valueIn (now («name_bytes» .entry)) 2
+        (namingAnswer (now (names .entry)) (now («name_bytes» .entry)) (now (name .entry))
+        (naming (now (bytes .entry)) (now (ends .entry)) (now (names .entry)) (now («name_bytes» .entry)) (now (name .entry)))) ⌝ }
+    ensures { λ _. ⌜ now (bytes .exit) ≡ bytesAfter (now (bytes .entry)) (now («name_bytes» .entry)) (now (name .entry))
+        (naming (now (bytes .entry)) (now (ends .entry)) (now (names .entry)) (now («name_bytes» .entry)) (now (name .entry))) ⌝ }
+    ensures { λ _. ⌜ now (ends .exit) ≡ endsAfter (now (ends .entry)) (now (names .entry)) (now («name_bytes» .entry)) (now (name .entry))
+        (naming (now (bytes .entry)) (now (ends .entry)) (now (names .entry)) (now («name_bytes» .entry)) (now (name .entry))) ⌝ }
 {
     let named = leaves_names::names::number_of(bytes, ends, *names, *name_bytes, name);
     match named {

@@ -70,14 +70,34 @@ pub extern "C" fn desk_on_record_point(
     rec: &[u8],
     reason: &mut u64,
 ) -> u32
-    ensures { λ r. ⌜ r ≡ numberIn (pointAnswer (now (table .entry)) (now (used .entry)) (now (names .entry)) (now («name_bytes» .entry)) (nameIn (now (rec .entry))) (pointJudged (now (table .entry)) (now (used .entry)) (now (bytes .entry)) (now (ends .entry)) (now (names .entry)) (now («name_bytes» .entry)) (now (rec .entry)))) ⌝ }
-    ensures { λ _. ⌜ now (used .exit) ≡ valueIn (now (used .entry)) 0 (pointAnswer (now (table .entry)) (now (used .entry)) (now (names .entry)) (now («name_bytes» .entry)) (nameIn (now (rec .entry))) (pointJudged (now (table .entry)) (now (used .entry)) (now (bytes .entry)) (now (ends .entry)) (now (names .entry)) (now («name_bytes» .entry)) (now (rec .entry)))) ⌝ }
-    ensures { λ _. ⌜ now (names .exit) ≡ valueIn (now (names .entry)) 1 (pointAnswer (now (table .entry)) (now (used .entry)) (now (names .entry)) (now («name_bytes» .entry)) (nameIn (now (rec .entry))) (pointJudged (now (table .entry)) (now (used .entry)) (now (bytes .entry)) (now (ends .entry)) (now (names .entry)) (now («name_bytes» .entry)) (now (rec .entry)))) ⌝ }
-    ensures { λ _. ⌜ now («name_bytes» .exit) ≡ valueIn (now («name_bytes» .entry)) 2 (pointAnswer (now (table .entry)) (now (used .entry)) (now (names .entry)) (now («name_bytes» .entry)) (nameIn (now (rec .entry))) (pointJudged (now (table .entry)) (now (used .entry)) (now (bytes .entry)) (now (ends .entry)) (now (names .entry)) (now («name_bytes» .entry)) (now (rec .entry)))) ⌝ }
-    ensures { λ _. ⌜ now (reason .exit) ≡ damageIn (now (reason .entry)) 2 (pointAnswer (now (table .entry)) (now (used .entry)) (now (names .entry)) (now («name_bytes» .entry)) (nameIn (now (rec .entry))) (pointJudged (now (table .entry)) (now (used .entry)) (now (bytes .entry)) (now (ends .entry)) (now (names .entry)) (now («name_bytes» .entry)) (now (rec .entry)))) ⌝ }
-    ensures { λ _. ⌜ now (table .exit) ≡ pointTable (now (table .entry)) (now (used .entry)) (pointJudged (now (table .entry)) (now (used .entry)) (now (bytes .entry)) (now (ends .entry)) (now (names .entry)) (now («name_bytes» .entry)) (now (rec .entry))) ⌝ }
-    ensures { λ _. ⌜ now (bytes .exit) ≡ bytesThen (pointJoins (now (table .entry)) (now (used .entry)) (pointJudged (now (table .entry)) (now (used .entry)) (now (bytes .entry)) (now (ends .entry)) (now (names .entry)) (now («name_bytes» .entry)) (now (rec .entry)))) (now (bytes .entry)) (now («name_bytes» .entry)) (nameIn (now (rec .entry))) ⌝ }
-    ensures { λ _. ⌜ now (ends .exit) ≡ endsThen (pointJoins (now (table .entry)) (now (used .entry)) (pointJudged (now (table .entry)) (now (used .entry)) (now (bytes .entry)) (now (ends .entry)) (now (names .entry)) (now («name_bytes» .entry)) (now (rec .entry)))) (now (ends .entry)) (now (names .entry)) (now («name_bytes» .entry)) (nameIn (now (rec .entry))) ⌝ }
+    ensures { λ r. ⌜ r ≡ numberIn (pointAnswer (now (table .entry)) (now (used .entry)) (now (names .entry)) (now («name_bytes» .entry))
+        (nameIn (now (rec .entry))) (pointJudged (now (table .entry)) (now (used .entry)) (now (bytes .entry)) (now (ends .entry)) (now (names .entry))
+        (now («name_bytes» .entry)) (now (rec .entry)))) ⌝ }
+    ensures { λ _. ⌜ now (used .exit) ≡ valueIn (now (used .entry)) 0
+        (pointAnswer (now (table .entry)) (now (used .entry)) (now (names .entry)) (now («name_bytes» .entry)) (nameIn (now (rec .entry)))
+        (pointJudged (now (table .entry)) (now (used .entry)) (now (bytes .entry)) (now (ends .entry)) (now (names .entry)) (now («name_bytes» .entry))
+        (now (rec .entry)))) ⌝ }
+    ensures { λ _. ⌜ now (names .exit) ≡ valueIn (now (names .entry)) 1
+        (pointAnswer (now (table .entry)) (now (used .entry)) (now (names .entry)) (now («name_bytes» .entry)) (nameIn (now (rec .entry)))
+        (pointJudged (now (table .entry)) (now (used .entry)) (now (bytes .entry)) (now (ends .entry)) (now (names .entry)) (now («name_bytes» .entry))
+        (now (rec .entry)))) ⌝ }
+    ensures { λ _. ⌜ now («name_bytes» .exit) ≡ valueIn (now («name_bytes» .entry)) 2
+        (pointAnswer (now (table .entry)) (now (used .entry)) (now (names .entry)) (now («name_bytes» .entry)) (nameIn (now (rec .entry)))
+        (pointJudged (now (table .entry)) (now (used .entry)) (now (bytes .entry)) (now (ends .entry)) (now (names .entry)) (now («name_bytes» .entry))
+        (now (rec .entry)))) ⌝ }
+    ensures { λ _. ⌜ now (reason .exit) ≡ damageIn (now (reason .entry)) 2
+        (pointAnswer (now (table .entry)) (now (used .entry)) (now (names .entry)) (now («name_bytes» .entry)) (nameIn (now (rec .entry)))
+        (pointJudged (now (table .entry)) (now (used .entry)) (now (bytes .entry)) (now (ends .entry)) (now (names .entry)) (now («name_bytes» .entry))
+        (now (rec .entry)))) ⌝ }
+    ensures { λ _. ⌜ now (table .exit) ≡ pointTable (now (table .entry)) (now (used .entry))
+        (pointJudged (now (table .entry)) (now (used .entry)) (now (bytes .entry)) (now (ends .entry)) (now (names .entry)) (now («name_bytes» .entry))
+        (now (rec .entry))) ⌝ }
+    ensures { λ _. ⌜ now (bytes .exit) ≡ bytesThen (pointJoins (now (table .entry)) (now (used .entry))
+        (pointJudged (now (table .entry)) (now (used .entry)) (now (bytes .entry)) (now (ends .entry)) (now (names .entry)) (now («name_bytes» .entry))
+        (now (rec .entry)))) (now (bytes .entry)) (now («name_bytes» .entry)) (nameIn (now (rec .entry))) ⌝ }
+    ensures { λ _. ⌜ now (ends .exit) ≡ endsThen (pointJoins (now (table .entry)) (now (used .entry))
+        (pointJudged (now (table .entry)) (now (used .entry)) (now (bytes .entry)) (now (ends .entry)) (now (names .entry)) (now («name_bytes» .entry))
+        (now (rec .entry)))) (now (ends .entry)) (now (names .entry)) (now («name_bytes» .entry)) (nameIn (now (rec .entry))) ⌝ }
 {
     let recorded = map_record::mapping::on_record_point(
         table,

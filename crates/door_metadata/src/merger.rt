@@ -49,7 +49,9 @@ pub extern "C" fn desk_metadata_open(
     mappings: &mut [u32],
     intervals: &mut [u32],
 ) -> u32
-    ensures { λ r. ⌜ Opening (now (header .entry)) (lists (now (symbols .entry)) (now (partial .entry)) (now («not_found» .entry)) (now (mappings .entry)) (now (intervals .entry))) r (now (header .exit)) (lists (now (symbols .exit)) (now (partial .exit)) (now («not_found» .exit)) (now (mappings .exit)) (now (intervals .exit))) ⌝ }
+    ensures { λ r. ⌜ Opening (now (header .entry)) (lists (now (symbols .entry)) (now (partial .entry)) (now («not_found» .entry)) (now (mappings .entry))
+        (now (intervals .entry))) r (now (header .exit))
+        (lists (now (symbols .exit)) (now (partial .exit)) (now («not_found» .exit)) (now (mappings .exit)) (now (intervals .exit))) ⌝ }
 {
     if !is_header(header) {
         return BAD_MEMORY;
@@ -84,7 +86,11 @@ pub extern "C" fn desk_metadata_merge(
     added_intervals: &[u32],
     field: &mut u32,
 ) -> u32
-    ensures { λ r. ⌜ Merging names (now (header .entry)) (lists (now (symbols .entry)) (now (partial .entry)) (now («not_found» .entry)) (now (mappings .entry)) (now (intervals .entry))) (now (added .entry)) (lists (now («added_symbols» .entry)) (now («added_partial» .entry)) (now («added_not_found» .entry)) (now («added_mappings» .entry)) (now («added_intervals» .entry))) (now (field .entry)) r (now (header .exit)) (lists (now (symbols .exit)) (now (partial .exit)) (now («not_found» .exit)) (now (mappings .exit)) (now (intervals .exit))) (now (field .exit)) ⌝ }
+    ensures { λ r. ⌜ Merging names (now (header .entry))
+        (lists (now (symbols .entry)) (now (partial .entry)) (now («not_found» .entry)) (now (mappings .entry)) (now (intervals .entry))) (now (added .entry))
+        (lists (now («added_symbols» .entry)) (now («added_partial» .entry)) (now («added_not_found» .entry)) (now («added_mappings» .entry))
+        (now («added_intervals» .entry))) (now (field .entry)) r (now (header .exit))
+        (lists (now (symbols .exit)) (now (partial .exit)) (now («not_found» .exit)) (now (mappings .exit)) (now (intervals .exit))) (now (field .exit)) ⌝ }
 {
     if !are_headers(header, added) {
         return BAD_MEMORY;

@@ -35,9 +35,13 @@ pub extern "C" fn desk_open(
 ) -> u32
     ensures { λ r. ⌜ r ≡ numberIn (opening (arraysFit 0 (length (now (marks .entry))) (length (now (times .entry))) (length (now (places .entry))) (length (now (heads .entry))) (length (now (heap .entry))))
         (rightStreams (length (now (buffer .entry))) (now (cuts .entry)) (length (now (hints .entry)))) (length (now (cuts .entry)) - 1)) ⌝ }
-    ensures { λ _. ⌜ now (streams .exit) ≡ valueIn (now (streams .entry)) 0 (opening (arraysFit 0 (length (now (marks .entry))) (length (now (times .entry))) (length (now (places .entry))) (length (now (heads .entry))) (length (now (heap .entry))))
+    ensures { λ _. ⌜ now (streams .exit) ≡ valueIn (now (streams .entry)) 0
+        (opening (arraysFit 0 (length (now (marks .entry))) (length (now (times .entry))) (length (now (places .entry))) (length (now (heads .entry)))
+        (length (now (heap .entry))))
         (rightStreams (length (now (buffer .entry))) (now (cuts .entry)) (length (now (hints .entry)))) (length (now (cuts .entry)) - 1)) ⌝ }
-    ensures { λ _. ⌜ now (held .exit) ≡ valueIn (now (held .entry)) 1 (opening (arraysFit 0 (length (now (marks .entry))) (length (now (times .entry))) (length (now (places .entry))) (length (now (heads .entry))) (length (now (heap .entry))))
+    ensures { λ _. ⌜ now (held .exit) ≡ valueIn (now (held .entry)) 1
+        (opening (arraysFit 0 (length (now (marks .entry))) (length (now (times .entry))) (length (now (places .entry))) (length (now (heads .entry)))
+        (length (now (heap .entry))))
         (rightStreams (length (now (buffer .entry))) (now (cuts .entry)) (length (now (hints .entry)))) (length (now (cuts .entry)) - 1)) ⌝ }
     ensures { λ r. ⌜ ((arraysFit 0 (length (now (marks .entry))) (length (now (times .entry))) (length (now (places .entry))) (length (now (heads .entry))) (length (now (heap .entry)))
         && rightStreams (length (now (buffer .entry))) (now (cuts .entry)) (length (now (hints .entry)))) ≡ false

@@ -38,8 +38,11 @@ fn lay_mapping(
     both_intervals: &mut [u32],
     laid_intervals: usize,
 ) -> usize
-    requires { ⌜ Within (now mappings) (now intervals) (now starts) i × (2 * «laid_mappings» + 2 ≤ length (now «both_mappings»)) × (3 * («laid_intervals» + countAt (now mappings) i) ≤ length (now «both_intervals»)) × (length (now «both_intervals») < 4294967296) ⌝ }
-    ensures { λ r. ⌜ (now («both_mappings» .exit) ≡ putMapping (now («both_mappings» .entry)) «laid_mappings» (nameAt (now (mappings .entry)) i) (countAt (now (mappings .entry)) i)) × (now («both_intervals» .exit) ≡ layFrom (now («both_intervals» .entry)) «laid_intervals» (listAt (now (mappings .entry)) (now (intervals .entry)) (now (starts .entry)) i)) × (r ≡ «laid_intervals» + countAt (now (mappings .entry)) i) ⌝ }
+    requires { ⌜ Within (now mappings) (now intervals) (now starts) i × (2 * «laid_mappings» + 2 ≤ length (now «both_mappings»)) ×
+        (3 * («laid_intervals» + countAt (now mappings) i) ≤ length (now «both_intervals»)) × (length (now «both_intervals») < 4294967296) ⌝ }
+    ensures { λ r. ⌜ (now («both_mappings» .exit) ≡ putMapping (now («both_mappings» .entry)) «laid_mappings» (nameAt (now (mappings .entry)) i)
+        (countAt (now (mappings .entry)) i)) × (now («both_intervals» .exit) ≡ layFrom (now («both_intervals» .entry)) «laid_intervals»
+        (listAt (now (mappings .entry)) (now (intervals .entry)) (now (starts .entry)) i)) × (r ≡ «laid_intervals» + countAt (now (mappings .entry)) i) ⌝ }
 {
     let name = name_at(mappings, i);
     let size = count_at(mappings, i);
@@ -68,7 +71,9 @@ fn lay_places(
     laid_intervals: usize,
 ) -> usize
     requires { ⌜ Layable (now mappings) (now intervals) (now starts) (now places) count (length (now «both_mappings»)) «laid_mappings» (length (now «both_intervals»)) «laid_intervals» ⌝ }
-    ensures { λ r. ⌜ placed (now («both_mappings» .exit)) («laid_mappings» + count) (now («both_intervals» .exit)) r ≡ layAll (now («both_mappings» .entry)) «laid_mappings» (now («both_intervals» .entry)) «laid_intervals» (pickedTo (now (mappings .entry)) (now (intervals .entry)) (now (starts .entry)) (now (places .entry)) 0 count) ⌝ }
+    ensures { λ r. ⌜ placed (now («both_mappings» .exit)) («laid_mappings» + count) (now («both_intervals» .exit)) r ≡ layAll (now («both_mappings» .entry))
+        «laid_mappings» (now («both_intervals» .entry)) «laid_intervals»
+        (pickedTo (now (mappings .entry)) (now (intervals .entry)) (now (starts .entry)) (now (places .entry)) 0 count) ⌝ }
 {
     let mut i = 0;
     let mut laid = laid_intervals;
@@ -110,7 +115,8 @@ pub fn lose_repeats(
     both_intervals: &mut [u32],
 ) -> Laid
     requires { ⌜ Sound (now mappings) count (now intervals) (length (now «both_mappings»)) 0 (length (now «both_intervals»)) 0 ⌝ }
-    ensures { λ r. ⌜ placed (now («both_mappings» .exit)) (r .mappings) (now («both_intervals» .exit)) (r .intervals) ≡ layAll (now («both_mappings» .entry)) 0 (now («both_intervals» .entry)) 0 (enterAll [] (mappingsFrom (now (mappings .entry)) (now (intervals .entry)) 0 0 count)) ⌝ }
+    ensures { λ r. ⌜ placed (now («both_mappings» .exit)) (r .mappings) (now («both_intervals» .exit)) (r .intervals) ≡ layAll (now («both_mappings» .entry)) 0
+        (now («both_intervals» .entry)) 0 (enterAll [] (mappingsFrom (now (mappings .entry)) (now (intervals .entry)) 0 0 count)) ⌝ }
 {
     let mut starts = [0usize; MAPPINGS];
     let mut names = [0u32; MAPPINGS];
@@ -146,7 +152,8 @@ pub fn follow(
     laid_intervals: usize,
 ) -> usize
     requires { ⌜ Sound (now mappings) count (now intervals) (length (now «both_mappings»)) «laid_mappings» (length (now «both_intervals»)) «laid_intervals» ⌝ }
-    ensures { λ r. ⌜ placed (now («both_mappings» .exit)) («laid_mappings» + count) (now («both_intervals» .exit)) r ≡ layAll (now («both_mappings» .entry)) «laid_mappings» (now («both_intervals» .entry)) «laid_intervals» (mappingsFrom (now (mappings .entry)) (now (intervals .entry)) 0 0 count) ⌝ }
+    ensures { λ r. ⌜ placed (now («both_mappings» .exit)) («laid_mappings» + count) (now («both_intervals» .exit)) r ≡ layAll (now («both_mappings» .entry))
+        «laid_mappings» (now («both_intervals» .entry)) «laid_intervals» (mappingsFrom (now (mappings .entry)) (now (intervals .entry)) 0 0 count) ⌝ }
 {
     let mut starts = [0usize; MAPPINGS];
     let mut places = [0usize; MAPPINGS];

@@ -107,7 +107,8 @@ pub fn merge_intervals(
     out: &mut [u32],
     at: usize,
 ) -> WalkLaid
-    requires { ⌜ («left_from» ≤ «left_to») × (3 * «left_to» ≤ length (now left)) × («right_from» ≤ «right_to») × (3 * «right_to» ≤ length (now right)) × (3 * (at + («left_to» - «left_from») + («right_to» - «right_from»)) ≤ length (now out)) ⌝ }
+    requires { ⌜ («left_from» ≤ «left_to») × (3 * «left_to» ≤ length (now left)) × («right_from» ≤ «right_to») × (3 * «right_to» ≤ length (now right)) ×
+        (3 * (at + («left_to» - «left_from») + («right_to» - «right_from»)) ≤ length (now out)) ⌝ }
     ensures { λ r. ⌜ endedOf r (now (out .exit)) ≡ finish (now (out .entry)) at (walk (rest (now (left .entry)) «left_from» «left_to») (rest (now (right .entry)) «right_from» «right_to»)) ⌝ }
 {
     let mut i = left_from;

@@ -33,8 +33,12 @@ fn lay_place(
     out_intervals: &mut [u32],
     laid_intervals: usize,
 ) -> NamesLaid
-    requires { ⌜ (2 * «laid_mappings» + 2 ≤ length (now «out_mappings»)) × (i < count) × (2 * count ≤ length (now mappings)) × (nameAt (now mappings) i < length (now firsts)) × (length (now «out_intervals») < 4294967296) × (getD (now firsts) (nameAt (now mappings) i) 0 ≡ i → Ready (now mappings) count (now intervals) (now starts) (now nexts) i (length (now temp)) (length (now «out_intervals»)) «laid_intervals») ⌝ }
-    ensures { λ r. ⌜ endNames r (now («out_mappings» .exit)) (now («out_intervals» .exit)) ≡ stepAt (now (mappings .entry)) (now (intervals .entry)) (now (starts .entry)) (now (firsts .entry)) count i (now («out_mappings» .entry)) «laid_mappings» (now («out_intervals» .entry)) «laid_intervals» ⌝ }
+    requires { ⌜ (2 * «laid_mappings» + 2 ≤ length (now «out_mappings»)) × (i < count) × (2 * count ≤ length (now mappings)) ×
+        (nameAt (now mappings) i < length (now firsts)) × (length (now «out_intervals») < 4294967296) ×
+        (getD (now firsts) (nameAt (now mappings) i) 0 ≡ i → Ready (now mappings) count (now intervals) (now starts) (now nexts) i (length (now temp))
+        (length (now «out_intervals»)) «laid_intervals») ⌝ }
+    ensures { λ r. ⌜ endNames r (now («out_mappings» .exit)) (now («out_intervals» .exit)) ≡ stepAt (now (mappings .entry)) (now (intervals .entry))
+        (now (starts .entry)) (now (firsts .entry)) count i (now («out_mappings» .entry)) «laid_mappings» (now («out_intervals» .entry)) «laid_intervals» ⌝ }
 {
     let name = name_at(mappings, i);
     let n = wide(name);
@@ -76,7 +80,8 @@ pub fn lay_names(
     out_intervals: &mut [u32],
 ) -> NamesLaid
     requires { ⌜ AllReady (now mappings) count (now intervals) (now starts) (now nexts) (now firsts) (length (now temp)) (length (now «out_mappings»)) (length (now «out_intervals»)) ⌝ }
-    ensures { λ r. ⌜ endNames r (now («out_mappings» .exit)) (now («out_intervals» .exit)) ≡ finishNames (now («out_mappings» .entry)) 0 (now («out_intervals» .entry)) 0 (collectTo (now (mappings .entry)) (now (intervals .entry)) (now (starts .entry)) (now (firsts .entry)) count 0) ⌝ }
+    ensures { λ r. ⌜ endNames r (now («out_mappings» .exit)) (now («out_intervals» .exit)) ≡ finishNames (now («out_mappings» .entry)) 0
+        (now («out_intervals» .entry)) 0 (collectTo (now (mappings .entry)) (now (intervals .entry)) (now (starts .entry)) (now (firsts .entry)) count 0) ⌝ }
 {
     let mut i = 0;
     let mut laid_mappings = 0;

@@ -107,7 +107,9 @@ pub fn open(
     mappings: &mut [u32],
     intervals: &mut [u32],
 ) -> OpenedMetadata
-    ensures { λ r. ⌜ Open header (lists (now (symbols .entry)) (now (partial .entry)) (now («not_found» .entry)) (now (mappings .entry)) (now (intervals .entry))) r (lists (now (symbols .exit)) (now (partial .exit)) (now («not_found» .exit)) (now (mappings .exit)) (now (intervals .exit))) ⌝ }
+    ensures { λ r. ⌜ Open header (lists (now (symbols .entry)) (now (partial .entry)) (now («not_found» .entry)) (now (mappings .entry))
+        (now (intervals .entry))) r (lists (now (symbols .exit)) (now (partial .exit)) (now («not_found» .exit)) (now (mappings .exit)) (now (intervals .exit)))
+        ⌝ }
 {
     let lengths = lengths_by(
         symbols.len(),
@@ -178,7 +180,10 @@ pub fn merge(
     added_mappings: &[u32],
     added_intervals: &[u32],
 ) -> MergedMetadata
-    ensures { λ r. ⌜ Merge names header (lists (now (symbols .entry)) (now (partial .entry)) (now («not_found» .entry)) (now (mappings .entry)) (now (intervals .entry))) added (lists (now («added_symbols» .entry)) (now («added_partial» .entry)) (now («added_not_found» .entry)) (now («added_mappings» .entry)) (now («added_intervals» .entry))) r (lists (now (symbols .exit)) (now (partial .exit)) (now («not_found» .exit)) (now (mappings .exit)) (now (intervals .exit))) ⌝ }
+    ensures { λ r. ⌜ Merge names header (lists (now (symbols .entry)) (now (partial .entry)) (now («not_found» .entry)) (now (mappings .entry))
+        (now (intervals .entry))) added (lists (now («added_symbols» .entry)) (now («added_partial» .entry)) (now («added_not_found» .entry))
+        (now («added_mappings» .entry)) (now («added_intervals» .entry))) r
+        (lists (now (symbols .exit)) (now (partial .exit)) (now («not_found» .exit)) (now (mappings .exit)) (now (intervals .exit))) ⌝ }
 {
     let lengths = lengths_by(
         symbols.len(),

@@ -125,8 +125,13 @@ pub fn outcome(
     out_mappings: &mut [u32],
     out_intervals: &mut [u32],
 ) -> Verdict
-    requires { ⌜ Plannable names header lengths (lists (now symbols) (now partial) (now «not_found») (now mappings) (now intervals)) added (lists (now «added_symbols») (now «added_partial») (now «added_not_found») (now «added_mappings») (now «added_intervals»)) (length (now «out_symbols»)) (length (now «out_partial»)) (length (now «out_not_found»)) (length (now «out_mappings»)) (length (now «out_intervals»)) ⌝ }
-    ensures { λ r. ⌜ Outcomes names header (lists (now (symbols .entry)) (now (partial .entry)) (now («not_found» .entry)) (now (mappings .entry)) (now (intervals .entry))) added (lists (now («added_symbols» .entry)) (now («added_partial» .entry)) (now («added_not_found» .entry)) (now («added_mappings» .entry)) (now («added_intervals» .entry))) r (now («out_symbols» .exit)) (now («out_partial» .exit)) (now («out_not_found» .exit)) (now («out_mappings» .exit)) (now («out_intervals» .exit)) ⌝ }
+    requires { ⌜ Plannable names header lengths (lists (now symbols) (now partial) (now «not_found») (now mappings) (now intervals)) added
+        (lists (now «added_symbols») (now «added_partial») (now «added_not_found») (now «added_mappings») (now «added_intervals»)) (length (now «out_symbols»))
+        (length (now «out_partial»)) (length (now «out_not_found»)) (length (now «out_mappings»)) (length (now «out_intervals»)) ⌝ }
+    ensures { λ r. ⌜ Outcomes names header (lists (now (symbols .entry)) (now (partial .entry)) (now («not_found» .entry)) (now (mappings .entry))
+        (now (intervals .entry))) added (lists (now («added_symbols» .entry)) (now («added_partial» .entry)) (now («added_not_found» .entry))
+        (now («added_mappings» .entry)) (now («added_intervals» .entry))) r (now («out_symbols» .exit)) (now («out_partial» .exit))
+        (now («out_not_found» .exit)) (now («out_mappings» .exit)) (now («out_intervals» .exit)) ⌝ }
 {
     let a = unite(
         symbols,
@@ -189,8 +194,12 @@ pub fn commit(
     out_mappings: &[u32],
     out_intervals: &[u32],
 )
-    requires { ⌜ Commit header used counts (lists (now symbols) (now partial) (now «not_found») (now mappings) (now intervals)) (lists (now «out_symbols») (now «out_partial») (now «out_not_found») (now «out_mappings») (now «out_intervals»)) ⌝ }
-    ensures { λ _. ⌜ lists (now (symbols .exit)) (now (partial .exit)) (now («not_found» .exit)) (now (mappings .exit)) (now (intervals .exit)) ≡ committed header used counts (lists (now (symbols .entry)) (now (partial .entry)) (now («not_found» .entry)) (now (mappings .entry)) (now (intervals .entry))) (lists (now («out_symbols» .entry)) (now («out_partial» .entry)) (now («out_not_found» .entry)) (now («out_mappings» .entry)) (now («out_intervals» .entry))) ⌝ }
+    requires { ⌜ Commit header used counts (lists (now symbols) (now partial) (now «not_found») (now mappings) (now intervals))
+        (lists (now «out_symbols») (now «out_partial») (now «out_not_found») (now «out_mappings») (now «out_intervals»)) ⌝ }
+    ensures { λ _. ⌜ lists (now (symbols .exit)) (now (partial .exit)) (now («not_found» .exit)) (now (mappings .exit)) (now (intervals .exit)) ≡ committed
+        header used counts (lists (now (symbols .entry)) (now (partial .entry)) (now («not_found» .entry)) (now (mappings .entry)) (now (intervals .entry)))
+        (lists (now («out_symbols» .entry)) (now («out_partial» .entry)) (now («out_not_found» .entry)) (now («out_mappings» .entry))
+        (now («out_intervals» .entry))) ⌝ }
 {
     lay_over(symbols, header.symbols, out_symbols, counts.symbols);
     lay_over(partial, header.partial, out_partial, counts.partial);

@@ -58,7 +58,8 @@ fn gather_sides(
     both_intervals: &mut [u32],
 ) -> Laid
     requires { ⌜ Gathered (now «left_mappings») «left_count» (now «left_intervals») (now «right_mappings») «right_count» (now «right_intervals») (length (now «both_mappings»)) (length (now «both_intervals»)) ⌝ }
-    ensures { λ r. ⌜ Stands (bothSides (now («left_mappings» .entry)) «left_count» (now («left_intervals» .entry)) (now («right_mappings» .entry)) «right_count» (now («right_intervals» .entry))) (now («both_mappings» .exit)) (r .mappings) (now («both_intervals» .exit)) (r .intervals) ⌝ }
+    ensures { λ r. ⌜ Stands (bothSides (now («left_mappings» .entry)) «left_count» (now («left_intervals» .entry)) (now («right_mappings» .entry)) «right_count»
+        (now («right_intervals» .entry))) (now («both_mappings» .exit)) (r .mappings) (now («both_intervals» .exit)) (r .intervals) ⌝ }
 {
     let left = lose_repeats(
         left_mappings,
@@ -125,7 +126,8 @@ fn merge_names(
     out_intervals: &mut [u32],
 ) -> NamesLaid
     requires { ⌜ Linkable (now «both_mappings») count (now «both_intervals») (length (now temp)) (length (now «out_mappings»)) (length (now «out_intervals»)) ⌝ }
-    ensures { λ r. ⌜ endNames r (now («out_mappings» .exit)) (now («out_intervals» .exit)) ≡ finishNames (now («out_mappings» .entry)) 0 (now («out_intervals» .entry)) 0 (byName (mappingsFrom (now («both_mappings» .entry)) (now («both_intervals» .entry)) 0 0 count)) ⌝ }
+    ensures { λ r. ⌜ endNames r (now («out_mappings» .exit)) (now («out_intervals» .exit)) ≡ finishNames (now («out_mappings» .entry)) 0
+        (now («out_intervals» .entry)) 0 (byName (mappingsFrom (now («both_mappings» .entry)) (now («both_intervals» .entry)) 0 0 count)) ⌝ }
 {
     let mut starts = [0usize; BOTH_MAPPINGS];
     let mut nexts = [0usize; BOTH_MAPPINGS];
@@ -160,7 +162,9 @@ pub fn plan(
     out_intervals: &mut [u32],
 ) -> Planned
     requires { ⌜ Planable (now «left_mappings») «left_count» (now «left_intervals») (now «right_mappings») «right_count» (now «right_intervals») names (length (now «out_mappings»)) (length (now «out_intervals»)) ⌝ }
-    ensures { λ r. ⌜ endPlan r (now («out_mappings» .exit)) (now («out_intervals» .exit)) ≡ planOf names rest (bothSides (now («left_mappings» .entry)) «left_count» (now («left_intervals» .entry)) (now («right_mappings» .entry)) «right_count» (now («right_intervals» .entry))) (now («out_mappings» .entry)) (now («out_intervals» .entry)) ⌝ }
+    ensures { λ r. ⌜ endPlan r (now («out_mappings» .exit)) (now («out_intervals» .exit)) ≡ planOf names rest
+        (bothSides (now («left_mappings» .entry)) «left_count» (now («left_intervals» .entry)) (now («right_mappings» .entry)) «right_count»
+        (now («right_intervals» .entry))) (now («out_mappings» .entry)) (now («out_intervals» .entry)) ⌝ }
 {
     let mut both_mappings = [0u32; BOTH_MAPPING_WORDS];
     let mut both_intervals = [0u32; BOTH_INTERVAL_WORDS];

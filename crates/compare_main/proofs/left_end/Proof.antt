@@ -23,9 +23,12 @@ part-end-requires-3 : tie.Need-part-end-requires-3
 part-end-requires-3 c κs = search needs
 
 returns-4 : tie.Need-returns-4
-returns-4 c = (end-right _ (c .before .before .before .before .before .before .if1 .left) (c .before .before .before .before .before .part-end .ensures .0)
-    (c .before .before .before .before .if2 .left) (c .before .before .before .part-end2 .ensures .0) (c .before .before .if3 .left)
-    (c .before .part-end3 .ensures .0) (c .if4 .taken), apart-none _)
+returns-4 c = (
+  end-right _ (c .before .before .before .before .before .before .if1 .left) (c .before .before .before .before .before .part-end .ensures .0)
+      (c .before .before .before .before .if2 .left) (c .before .before .before .part-end2 .ensures .0) (c .before .before .if3 .left)
+      (c .before .part-end3 .ensures .0) (c .if4 .taken),
+  apart-none _,
+)
 
 returns-5 : tie.Need-returns-5
 returns-5 c =

@@ -77,7 +77,7 @@ same-length c = search needs
 returns-2 : tie.Need-returns-2
 returns-2 c =
     let d = c .before .before .before .before .before .before .before in status-asked _ (d .before .left-end .ensures .0) (d .if1 .left)
-            (c .before .before .before .before .before .before .u32-at .ensures) (c .before .before .compare-tables .ensures)
+    (c .before .before .before .before .before .before .u32-at .ensures) (c .before .before .compare-tables .ensures)
 
 pub show-spec : {M : Type 1} → statement M
 show-spec =

@@ -22,15 +22,15 @@ returns c =
     let c14 = c .before .before .before .before .before .before .before .before .before .before .before .before .before .before in
     let a = c14 .args in
     ends-15 (length (a .table .now)) (a .header) (lists (a .symbols .now) (a .partial .now) (a .not-found .now) (a .mappings .now) (a .intervals .now))
-        (a .bytes .now) (a .ends .now) (a .names) (a .name-bytes) (a .date) (c .before .build-fits .ensures) (c .if1 .taken)
-        (c .before .before .before .before .clear .ensures)
+    (a .bytes .now) (a .ends .now) (a .names) (a .name-bytes) (a .date) (c .before .build-fits .ensures) (c .if1 .taken)
+    (c .before .before .before .before .clear .ensures)
 
 is-list-requires : tie.Need-is-list-requires
 is-list-requires c κs =
     let c14 = c .before .before .before .before .before .before .before .before .before .before .before .before .before .before in
     let a = c14 .args in
     ends-memory (length (a .table .now)) (a .header) (lists (a .symbols .now) (a .partial .now) (a .not-found .now) (a .mappings .now) (a .intervals .now))
-        (a .bytes .now) (a .ends .now) (a .names) (a .name-bytes) (a .date) (c .before .build-fits .ensures) (c .if1 .left)
+    (a .bytes .now) (a .ends .now) (a .names) (a .name-bytes) (a .date) (c .before .build-fits .ensures) (c .if1 .left)
 
 same-length-2 : tie.Need-same-length-2
 same-length-2 c = search needs
@@ -40,8 +40,8 @@ returns-2 c =
     let c16 = c .before .before .before .before .before .before .before .before .before .before .before .before .before .before .before .before in
     let a = c16 .args in
     ends-14 (length (a .table .now)) (a .header) (lists (a .symbols .now) (a .partial .now) (a .not-found .now) (a .mappings .now) (a .intervals .now))
-        (a .bytes .now) (a .ends .now) (a .names) (a .name-bytes) (a .date) (c .before .before .before .build-fits .ensures) (c .before .before .if1 .left)
-        (c .before .is-list .ensures) (c .if2 .taken) (c .before .before .before .before .before .before .clear .ensures)
+    (a .bytes .now) (a .ends .now) (a .names) (a .name-bytes) (a .date) (c .before .before .before .build-fits .ensures) (c .before .before .if1 .left)
+    (c .before .is-list .ensures) (c .if2 .taken) (c .before .before .before .before .before .before .clear .ensures)
 
 begin-requires : tie.Need-begin-requires
 begin-requires c κs = search needs
@@ -87,9 +87,9 @@ returns-3 c =
     let c20 = c3 .before .before .before .before .before .before .before .before .before .before .before .before .before .before .before .before .before in
     let a = c20 .args in
     ends-begun (length (a .table .now)) (a .header) (lists (a .symbols .now) (a .partial .now) (a .not-found .now) (a .mappings .now) (a .intervals .now))
-        (a .bytes .now) (a .ends .now) (a .names) (a .name-bytes) (a .date) (c3 .before .before .before .before .build-fits .ensures)
-        (c3 .before .before .before .if1 .left) (c3 .before .before .is-list .ensures) (c3 .before .if2 .left) (c3 .begin .result) (c3 .begin .ensures)
-        (c .before .begun .given .1) (c3 .before .before .before .before .before .before .before .clear .ensures)
+    (a .bytes .now) (a .ends .now) (a .names) (a .name-bytes) (a .date) (c3 .before .before .before .before .build-fits .ensures)
+    (c3 .before .before .before .if1 .left) (c3 .before .before .is-list .ensures) (c3 .before .if2 .left) (c3 .begin .result) (c3 .begin .ensures)
+    (c .before .begun .given .1) (c3 .before .before .before .before .before .before .before .clear .ensures)
 
 same-length-4 : tie.Need-same-length-4
 same-length-4 c = search needs
@@ -103,10 +103,10 @@ returns-4 c =
     let c27 = c17 .before .before .before .before .before .before .before .before .before .before in
     let a = c27 .args in
     ends-done (length (a .table .now)) (a .header) (lists (a .symbols .now) (a .partial .now) (a .not-found .now) (a .mappings .now) (a .intervals .now))
-        (a .bytes .now) (a .ends .now) (a .names) (a .name-bytes) (a .date) (c13 .before .build-fits .ensures) (c13 .if1 .left)
-        (c10 .before .before .is-list .ensures) (c10 .before .if2 .left) (c10 .begin .result) (c10 .begin .ensures)
-        (c5 .before .before .before .begun2 .given .1) _ (c17 .clear .ensures) (c5 .lay-mappings .result) _ (c5 .lay-mappings .ensures)
-        (c .before .laid .given .1)
+    (a .bytes .now) (a .ends .now) (a .names) (a .name-bytes) (a .date) (c13 .before .build-fits .ensures) (c13 .if1 .left)
+    (c10 .before .before .is-list .ensures) (c10 .before .if2 .left) (c10 .begin .result) (c10 .begin .ensures)
+    (c5 .before .before .before .begun2 .given .1) _ (c17 .clear .ensures) (c5 .lay-mappings .result) _ (c5 .lay-mappings .ensures)
+    (c .before .laid .given .1)
 
 same-length-5 : tie.Need-same-length-5
 same-length-5 c = search needs
@@ -121,11 +121,11 @@ returns-5 c =
     let c31 = c21 .before .before .before .before .before .before .before .before .before .before in
     let a = c31 .args in
     ends-failed (length (a .table .now)) (a .header) (lists (a .symbols .now) (a .partial .now) (a .not-found .now) (a .mappings .now) (a .intervals .now))
-        (a .bytes .now) (a .ends .now) (a .names) (a .name-bytes) (a .date) (c18 .build-fits .ensures) (c15 .before .before .if1 .left)
-        (c15 .before .is-list .ensures) (c15 .if2 .left) (c12 .before .before .begin .result) (c12 .before .before .begin .ensures) (c12 .begun2 .given .1) _
-        (c21 .clear .ensures) (c9 .lay-mappings .result) _ (c9 .lay-mappings .ensures) (c .before .before .before .before .before .laid2 .given .1)
-        (c .before .before .clear2 .ensures ∙ ap (λ (n : ℕ). replicate n 0)
-        (c .before .before .before .before .before .before .before .before .table2 .given ∙ c18 .before .before .table .given))
+    (a .bytes .now) (a .ends .now) (a .names) (a .name-bytes) (a .date) (c18 .build-fits .ensures) (c15 .before .before .if1 .left)
+    (c15 .before .is-list .ensures) (c15 .if2 .left) (c12 .before .before .begin .result) (c12 .before .before .begin .ensures) (c12 .begun2 .given .1) _
+    (c21 .clear .ensures) (c9 .lay-mappings .result) _ (c9 .lay-mappings .ensures) (c .before .before .before .before .before .laid2 .given .1)
+    (c .before .before .clear2 .ensures ∙ ap (λ (n : ℕ). replicate n 0)
+    (c .before .before .before .before .before .before .before .before .table2 .given ∙ c18 .before .before .table .given))
 
 pub point-in-time-spec : {M : Type 1} → statement M
 point-in-time-spec =

@@ -43,8 +43,11 @@ enum-known-stored-2 : tie.Need-enum-known-stored-2 Inv-loop μ-loop
 enum-known-stored-2 c = search needs
 
 add-from : tie.Need-add-from Inv-loop μ-loop
-add-from c = omega (arith, going-room _ _ _ _ _ _ _ (c .before .before .before .before .before .before .before .before .before .before .before .loop .inv)
-    (omega arith) (c .before .before .before .before .before .before .before .before .count-at .ensures) (omega arith))
+add-from c = omega (
+  arith,
+  going-room _ _ _ _ _ _ _ (c .before .before .before .before .before .before .before .before .before .before .before .loop .inv)
+      (omega arith) (c .before .before .before .before .before .before .before .before .count-at .ensures) (omega arith),
+)
 
 add-i : tie.Need-add-i Inv-loop μ-loop
 add-i c = search needs
@@ -56,8 +59,8 @@ loop-again : tie.Need-loop-again Inv-loop μ-loop
 loop-again c =
     let c5 = c .before .before .before .before .before in
     going-on _ _ _ _ _ _ _ (c5 .before .before .before .before .before .before .loop .inv) (omega arith) (c5 .before .before .before .count-at .ensures)
-        (c5 .before .before .before .before .name-at .ensures) (c5 .before .before .entry-of-mapping .result) (c5 .before .before .entry-of-mapping .ensures)
-        (c5 .store .result) _ (c5 .store .ensures) (c .before .stored2 .given .1)
+    (c5 .before .before .before .before .name-at .ensures) (c5 .before .before .entry-of-mapping .result) (c5 .before .before .entry-of-mapping .ensures)
+    (c5 .store .result) _ (c5 .store .ensures) (c .before .stored2 .given .1)
 
 same-length-2 : tie.Need-same-length-2 Inv-loop μ-loop
 same-length-2 c = search needs

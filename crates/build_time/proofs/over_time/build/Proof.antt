@@ -31,9 +31,9 @@ returns c =
     let c15 = c4 .before .before .before .before .before .before .before .before .before .before .before in
     let a = c15 .args in
     build-done (a .names) (a .table .now) (namesOf (a .bytes .now) (a .ends .now) (a .names))
-        (mappingsFrom (a .mappings .now) (a .intervals .now) 0 0 (a .count)) (a .stype-in) (a .stype-out)
-        (c4 .before .before .before .before .before .direction-by .ensures) (c4 .before .before .before .heading2 .given .1) (c4 .lay-mappings .result)
-        (c4 .lay-mappings .last .0) (c4 .lay-mappings .kept .0) (c4 .lay-mappings .ensures) (sym (c .before .is-done .ensures) ∙ c .if1 .taken)
+    (mappingsFrom (a .mappings .now) (a .intervals .now) 0 0 (a .count)) (a .stype-in) (a .stype-out)
+    (c4 .before .before .before .before .before .direction-by .ensures) (c4 .before .before .before .heading2 .given .1) (c4 .lay-mappings .result)
+    (c4 .lay-mappings .last .0) (c4 .lay-mappings .kept .0) (c4 .lay-mappings .ensures) (sym (c .before .is-done .ensures) ∙ c .if1 .taken)
 
 clear-requires : tie.Need-clear-requires
 clear-requires c κs = search needs
@@ -43,8 +43,8 @@ returns-2 c =
     let c9 = c .before .before .before .before .before .before .before .before .before in
     let a = c9 .args in
     build-undirected (a .names) (a .table .now) (namesOf (a .bytes .now) (a .ends .now) (a .names))
-        (mappingsFrom (a .mappings .now) (a .intervals .now) 0 0 (a .count)) (a .stype-in) (a .stype-out) (c9 .pre .1)
-        (c .before .before .before .direction-by .ensures) (c .before .heading .given .1)
+    (mappingsFrom (a .mappings .now) (a .intervals .now) 0 0 (a .count)) (a .stype-in) (a .stype-out) (c9 .pre .1)
+    (c .before .before .before .direction-by .ensures) (c .before .heading .given .1)
 
 same-length-2 : tie.Need-same-length-2
 same-length-2 c = search needs
@@ -56,10 +56,10 @@ returns-3 c =
     let c19 = c13 .before .before .before .before .before .before in
     let a = c19 .args in
     build-cleared (a .names) (a .table .now) (namesOf (a .bytes .now) (a .ends .now) (a .names))
-        (mappingsFrom (a .mappings .now) (a .intervals .now) 0 0 (a .count)) (a .stype-in) (a .stype-out) (c13 .direction-by .ensures)
-        (c8 .before .before .before .heading2 .given .1) (c8 .lay-mappings .result) (c8 .lay-mappings .last .0) (c8 .lay-mappings .kept .0)
-        (c8 .lay-mappings .ensures) (c .before .before .clear .last .0)
-        (sym (c .before .before .before .before .before .is-done .ensures) ∙ c .before .before .before .before .if1 .left) (c .before .before .clear .ensures)
+    (mappingsFrom (a .mappings .now) (a .intervals .now) 0 0 (a .count)) (a .stype-in) (a .stype-out) (c13 .direction-by .ensures)
+    (c8 .before .before .before .heading2 .given .1) (c8 .lay-mappings .result) (c8 .lay-mappings .last .0) (c8 .lay-mappings .kept .0)
+    (c8 .lay-mappings .ensures) (c .before .before .clear .last .0)
+    (sym (c .before .before .before .before .before .is-done .ensures) ∙ c .before .before .before .before .if1 .left) (c .before .before .clear .ensures)
 
 pub build-spec : {M : Type 1} → statement M
 build-spec =

@@ -38,7 +38,7 @@ returns-2 c =
     let c6 = c .before .before .before .before .before .before in
     let a = c6 .args in
     took-skip (a .names) (namesOf (a .bytes .now) (a .ends .now) (a .names)) (a .way) (a .interval) (a .table .now) (a .used) (c6 .pre .1)
-        (c .before .before .step .ensures) (c .enum-told .given .1)
+    (c .before .before .step .ensures) (c .enum-told .given .1)
 
 same-length : tie.Need-same-length
 same-length c = search needs
@@ -49,8 +49,8 @@ returns-3 c =
     let c14 = c5 .before .before .before .before .before .before .before .before .before in
     let a = c14 .args in
     took-insert (a .names) (namesOf (a .bytes .now) (a .ends .now) (a .names)) (a .way) (a .interval) (a .table .now) (a .used) (c5 .enter .last .0)
-        (c14 .pre .1) (c5 .enter .kept .0) (c5 .before .before .before .before .before .step .ensures) (c5 .before .before .before .asked2 .given .1)
-        (c5 .enter .ensures) (c .before .inserted .given .1)
+    (c14 .pre .1) (c5 .enter .kept .0) (c5 .before .before .before .before .before .step .ensures) (c5 .before .before .before .asked2 .given .1)
+    (c5 .enter .ensures) (c .before .inserted .given .1)
 
 same-length-2 : tie.Need-same-length-2
 same-length-2 c = search needs
@@ -61,8 +61,8 @@ returns-4 c =
     let c14 = c5 .before .before .before .before .before .before .before .before .before in
     let a = c14 .args in
     took-full (a .names) (namesOf (a .bytes .now) (a .ends .now) (a .names)) (a .way) (a .interval) (a .table .now) (a .used) (c5 .enter .last .0)
-        (c5 .before .before .before .before .before .step .ensures) (c5 .before .before .before .asked2 .given .1) (c5 .enter .ensures)
-        (c .before .inserted2 .given .1)
+    (c5 .before .before .before .before .before .step .ensures) (c5 .before .before .before .asked2 .given .1) (c5 .enter .ensures)
+    (c .before .inserted2 .given .1)
 
 pub lay-interval-spec : {M : Type 1} → statement M
 lay-interval-spec =

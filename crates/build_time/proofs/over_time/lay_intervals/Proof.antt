@@ -41,8 +41,8 @@ returns c =
     let a = c13 .args in
     let l = c4 .before .before .before .before .loop in
     laying-stop (a .names) (namesOf (a .bytes .now) (a .ends .now) (a .names)) (a .way) (a .intervals .now) (a .from) (a .count) (a .table .now) (a .used)
-        (l .table) (l .then) (l .k) (l .inv) (omega arith) (c4 .lay-interval .last .0) (c4 .lay-interval .result) (c4 .before .before .interval-at .result)
-        (c4 .before .before .interval-at .ensures) (c4 .lay-interval .ensures) (fails (c .before .is-done .ensures) (c .if1 .taken))
+    (l .table) (l .then) (l .k) (l .inv) (omega arith) (c4 .lay-interval .last .0) (c4 .lay-interval .result) (c4 .before .before .interval-at .result)
+    (c4 .before .before .interval-at .ensures) (c4 .lay-interval .ensures) (fails (c .before .is-done .ensures) (c .if1 .taken))
 
 used-of-requires : tie.Need-used-of-requires Inv-loop μ-loop
 used-of-requires c κs = search needs
@@ -60,9 +60,9 @@ loop-again c =
     let a = c14 .args in
     let l = c5 .before .before .before .before .loop in
     laying-turn (a .names) (namesOf (a .bytes .now) (a .ends .now) (a .names)) (a .way) (a .intervals .now) (a .from) (a .count) (a .table .now) (a .used)
-        (l .table) (l .then) (l .k) (l .inv) (omega arith) (c5 .lay-interval .last .0) (c5 .lay-interval .result) (c .used-of .result)
-        (c5 .before .before .interval-at .result) (c5 .before .before .interval-at .ensures) (c5 .lay-interval .kept .0) (c5 .lay-interval .ensures)
-        (holds (c .before .before .is-done .ensures) (c .before .if1 .left)) (c .used-of .ensures)
+    (l .table) (l .then) (l .k) (l .inv) (omega arith) (c5 .lay-interval .last .0) (c5 .lay-interval .result) (c .used-of .result)
+    (c5 .before .before .interval-at .result) (c5 .before .before .interval-at .ensures) (c5 .lay-interval .kept .0) (c5 .lay-interval .ensures)
+    (holds (c .before .before .is-done .ensures) (c .before .if1 .left)) (c .used-of .ensures)
 
 same-length-2 : tie.Need-same-length-2 Inv-loop μ-loop
 same-length-2 c = c .before .loop .inv .long

@@ -34,15 +34,15 @@ returns : tie.Need-returns
 returns c =
     let a = c .before .before .before .before .before .before .before .before .before .before .args in
     mapping-forward (a .bytes .now) (a .ends .now) (a .names) (a .name) (roomOf (a .table .now)) (stretch (a .intervals .now) (a .from) (a .count))
-        (rows (a .table .now) (a .used)) (c .before .before .lay-intervals .result) (c .before .before .lay-intervals .last .0)
-        (c .before .before .before .before .enum-told .given .1) (c .before .before .lay-intervals .ensures)
+    (rows (a .table .now) (a .used)) (c .before .before .lay-intervals .result) (c .before .before .lay-intervals .last .0)
+    (c .before .before .before .before .enum-told .given .1) (c .before .before .lay-intervals .ensures)
 
 returns-2 : tie.Need-returns-2
 returns-2 c =
     let a = c .before .before .before .before .before .before .before .before .before .before .args in
     mapping-refused (a .bytes .now) (a .ends .now) (a .names) (a .name) (roomOf (a .table .now)) (stretch (a .intervals .now) (a .from) (a .count))
-        (rows (a .table .now) (a .used)) (a .table .now) (c .before .before .before .before .enum-told2 .given .1)
-        (c .before .before .before .instrument-of .ensures) (c .before .read .given .1)
+    (rows (a .table .now) (a .used)) (a .table .now) (c .before .before .before .before .enum-told2 .given .1)
+    (c .before .before .before .instrument-of .ensures) (c .before .read .given .1)
 
 same-length-2 : tie.Need-same-length-2
 same-length-2 c = search needs
@@ -52,10 +52,10 @@ returns-3 c =
     let c14 = c .before .before .before .before .before .before .before .before .before .before .before .before .before .before in
     let a = c14 .args in
     mapping-number (a .bytes .now) (a .ends .now) (a .names) (a .name) (roomOf (a .table .now)) (stretch (a .intervals .now) (a .from) (a .count))
-        (rows (a .table .now) (a .used)) (c .before .before .lay-intervals2 .result) (c .before .before .lay-intervals2 .last .0)
-        (c .before .before .before .before .before .before .before .before .enum-told2 .given .1)
-        (c .before .before .before .before .before .before .before .instrument-of .ensures) (c .before .before .before .before .before .read2 .given .1)
-        (c .before .before .lay-intervals2 .ensures)
+    (rows (a .table .now) (a .used)) (c .before .before .lay-intervals2 .result) (c .before .before .lay-intervals2 .last .0)
+    (c .before .before .before .before .before .before .before .before .enum-told2 .given .1)
+    (c .before .before .before .before .before .before .before .instrument-of .ensures) (c .before .before .before .before .before .read2 .given .1)
+    (c .before .before .lay-intervals2 .ensures)
 
 pub lay-mapping-spec : {M : Type 1} → statement M
 lay-mapping-spec =

@@ -30,10 +30,13 @@ lay-mapping-requires : tie.Need-lay-mapping-requires Inv-loop μ-loop
 lay-mapping-requires c κs =
     let c10 = c .before .before .before .before .before .before .before .before .before .before in
     let a = c10 .args in
-    let l = c .before .before .before .before .loop in
-    (c10 .pre .0, l .inv .holds, mapping-within (a .names) (namesOf (a .bytes .now) (a .ends .now) (a .names)) (a .direction) (a .mappings .now)
-        (a .intervals .now) (a .count) (a .table .now) (l .table) (l .used) (l .from) (l .t) (l .inv) (omega arith) (c .before .count-at .result)
-        (c .before .count-at .ensures) (c10 .pre .3))
+    let l = c .before .before .before .before .loop in (
+      c10 .pre .0,
+      l .inv .holds,
+      mapping-within (a .names) (namesOf (a .bytes .now) (a .ends .now) (a .names)) (a .direction) (a .mappings .now)
+          (a .intervals .now) (a .count) (a .table .now) (l .table) (l .used) (l .from) (l .t) (l .inv) (omega arith) (c .before .count-at .result)
+          (c .before .count-at .ensures) (c10 .pre .3),
+    )
 
 is-done-requires : tie.Need-is-done-requires Inv-loop μ-loop
 is-done-requires c κs = search needs
@@ -49,9 +52,9 @@ returns c =
     let a = c15 .args in
     let l = c7 .before .before .loop in
     mapping-stop (a .names) (namesOf (a .bytes .now) (a .ends .now) (a .names)) (a .direction) (a .mappings .now) (a .intervals .now) (a .count) (a .table .now)
-        (l .table) (l .used) (l .from) (l .t) (l .inv) (omega arith) (c4 .lay-mapping .last .0) (c4 .lay-mapping .result) (c7 .name-at .result)
-        (c4 .before .before .count-at .result) (c7 .name-at .ensures) (c4 .before .before .count-at .ensures) (c4 .lay-mapping .ensures)
-        (fails (c .before .is-done .ensures) (c .if1 .taken))
+    (l .table) (l .used) (l .from) (l .t) (l .inv) (omega arith) (c4 .lay-mapping .last .0) (c4 .lay-mapping .result) (c7 .name-at .result)
+    (c4 .before .before .count-at .result) (c7 .name-at .ensures) (c4 .before .before .count-at .ensures) (c4 .lay-mapping .ensures)
+    (fails (c .before .is-done .ensures) (c .if1 .taken))
 
 used-of-requires : tie.Need-used-of-requires Inv-loop μ-loop
 used-of-requires c κs = search needs
@@ -62,8 +65,12 @@ add-from c =
     let c16 = c7 .before .before .before .before .before .before .before .before .before in
     let a = c16 .args in
     let l = c7 .before .before .before .loop in
-    omega (arith, mapping-within (a .names) (namesOf (a .bytes .now) (a .ends .now) (a .names)) (a .direction) (a .mappings .now) (a .intervals .now) (a .count)
-        (a .table .now) (l .table) (l .used) (l .from) (l .t) (l .inv) (omega arith) (c7 .count-at .result) (c7 .count-at .ensures) (c16 .pre .3), c16 .fits)
+    omega (
+      arith,
+      mapping-within (a .names) (namesOf (a .bytes .now) (a .ends .now) (a .names)) (a .direction) (a .mappings .now) (a .intervals .now) (a .count)
+          (a .table .now) (l .table) (l .used) (l .from) (l .t) (l .inv) (omega arith) (c7 .count-at .result) (c7 .count-at .ensures) (c16 .pre .3),
+      c16 .fits,
+    )
 
 add-t : tie.Need-add-t Inv-loop μ-loop
 add-t c = search needs
@@ -79,9 +86,9 @@ loop-again c =
     let a = c16 .args in
     let l = c8 .before .before .loop in
     mapping-turn (a .names) (namesOf (a .bytes .now) (a .ends .now) (a .names)) (a .direction) (a .mappings .now) (a .intervals .now) (a .count) (a .table .now)
-        (l .table) (l .used) (l .from) (l .t) (l .inv) (omega arith) (c5 .lay-mapping .last .0) (c5 .lay-mapping .result) (c8 .name-at .result)
-        (c5 .before .before .count-at .result) (c8 .name-at .ensures) (c5 .before .before .count-at .ensures) (c5 .lay-mapping .ensures) (c .used-of .result)
-        (c5 .lay-mapping .kept .0) (holds (c .before .before .is-done .ensures) (c .before .if1 .left)) (c .used-of .ensures)
+    (l .table) (l .used) (l .from) (l .t) (l .inv) (omega arith) (c5 .lay-mapping .last .0) (c5 .lay-mapping .result) (c8 .name-at .result)
+    (c5 .before .before .count-at .result) (c8 .name-at .ensures) (c5 .before .before .count-at .ensures) (c5 .lay-mapping .ensures) (c .used-of .result)
+    (c5 .lay-mapping .kept .0) (holds (c .before .before .is-done .ensures) (c .before .if1 .left)) (c .used-of .ensures)
 
 same-length-2 : tie.Need-same-length-2 Inv-loop μ-loop
 same-length-2 c = c .before .loop .inv .long

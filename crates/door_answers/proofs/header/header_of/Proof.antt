@@ -86,9 +86,9 @@ returns c =
     (c .before .before .before .before .before .word9 .ensures)
     (c12 .of-82 .ensures ∙ c12 .before .word4 .ensures)
     (c .before .before .before .before .before .before .before .before .before .before .of-83 .ensures ∙
-        c .before .before .before .before .before .before .before .before .before .before .before .word5 .ensures)
+    c .before .before .before .before .before .before .before .before .before .before .before .word5 .ensures)
     (c .before .before .before .before .before .before .before .before .is-one .ensures ∙ ap (λ (n : ℕ). eqb n 1)
-        (c .before .before .before .before .before .before .before .before .before .word6 .ensures))
+    (c .before .before .before .before .before .before .before .before .before .word6 .ensures))
     (c .before .before .before .before .word10 .ensures)
     (c .before .before .before .word11 .ensures)
     (c .before .before .word12 .ensures)

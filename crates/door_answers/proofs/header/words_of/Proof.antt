@@ -23,8 +23,14 @@ from-bool-requires : tie.Need-from-bool-requires
 from-bool-requires c κs = search needs
 
 returns : tie.Need-returns
-returns c = rw (c .before .before .before .before .before .from-8 .ensures, c .before .before .before .before .from-32 .ensures,
-    c .before .before .before .from-16 .ensures, c .before .before .from-82 .ensures, c .before .from-83 .ensures, c .from-bool .ensures) refl
+returns c = rw (
+  c .before .before .before .before .before .from-8 .ensures,
+  c .before .before .before .before .from-32 .ensures,
+  c .before .before .before .from-16 .ensures,
+  c .before .before .from-82 .ensures,
+  c .before .from-83 .ensures,
+  c .from-bool .ensures,
+) refl
 
 pub words-of-spec : {M : Type 1} → statement M
 words-of-spec =

@@ -25,12 +25,12 @@ returns c =
     let c15 = c .before .before .before .before .before .before .before .before .before .before .before .before .before .before .before in
     let a = c15 .args in
     build-unfit (length (now (a .table))) (now (a .header))
-        (λ h. pointInTimeAnswer (length (now (a .table))) h
-        (lists (now (a .symbols)) (now (a .partial)) (now (a .not-found)) (now (a .mappings)) (now (a .intervals))) (now (a .bytes)) (now (a .ends)) (a .names)
-        (a .name-bytes) (a .date)) (λ h. pointInTimeMemory (length (now (a .table))) h
-        (lists (now (a .symbols)) (now (a .partial)) (now (a .not-found)) (now (a .mappings)) (now (a .intervals))) (now (a .bytes)) (now (a .ends)) (a .names)
-        (a .name-bytes) (a .date)) _ (c .before .before .before .before .before .is-header .ensures)
-        (not-true _ (c .before .before .before .before .if1 .taken)) (c .before .before .clear .ensures)
+    (λ h. pointInTimeAnswer (length (now (a .table))) h
+    (lists (now (a .symbols)) (now (a .partial)) (now (a .not-found)) (now (a .mappings)) (now (a .intervals))) (now (a .bytes)) (now (a .ends)) (a .names)
+    (a .name-bytes) (a .date)) (λ h. pointInTimeMemory (length (now (a .table))) h
+    (lists (now (a .symbols)) (now (a .partial)) (now (a .not-found)) (now (a .mappings)) (now (a .intervals))) (now (a .bytes)) (now (a .ends)) (a .names)
+    (a .name-bytes) (a .date)) _ (c .before .before .before .before .before .is-header .ensures)
+    (not-true _ (c .before .before .before .before .if1 .taken)) (c .before .before .clear .ensures)
 
 header-of-requires : tie.Need-header-of-requires
 header-of-requires c κs = sym (c .before .is-header .ensures) ∙ not-false _ (c .if1 .left)
@@ -56,12 +56,12 @@ returns-2 c =
     let c19 = c5 .before .before .before .before .before .before .before .before .before .before .before .before .before .before in
     let a = c19 .args in
     build-done (length (now (a .table))) (now (a .header))
-        (λ h. pointInTimeAnswer (length (now (a .table))) h
-        (lists (now (a .symbols)) (now (a .partial)) (now (a .not-found)) (now (a .mappings)) (now (a .intervals))) (now (a .bytes)) (now (a .ends)) (a .names)
-        (a .name-bytes) (a .date)) (λ h. pointInTimeMemory (length (now (a .table))) h
-        (lists (now (a .symbols)) (now (a .partial)) (now (a .not-found)) (now (a .mappings)) (now (a .intervals))) (now (a .bytes)) (now (a .ends)) (a .names)
-        (a .name-bytes) (a .date)) builtOf _ (c5 .before .before .before .before .is-header .ensures) (not-false _ (c5 .before .before .before .if1 .left)) _
-        (c5 .before .before .header-of .ensures) (c5 .point-in-time .ensures .0) (c5 .point-in-time .ensures .1) Done (λ n. refl) _ (c .before .built .given .1)
+    (λ h. pointInTimeAnswer (length (now (a .table))) h
+    (lists (now (a .symbols)) (now (a .partial)) (now (a .not-found)) (now (a .mappings)) (now (a .intervals))) (now (a .bytes)) (now (a .ends)) (a .names)
+    (a .name-bytes) (a .date)) (λ h. pointInTimeMemory (length (now (a .table))) h
+    (lists (now (a .symbols)) (now (a .partial)) (now (a .not-found)) (now (a .mappings)) (now (a .intervals))) (now (a .bytes)) (now (a .ends)) (a .names)
+    (a .name-bytes) (a .date)) builtOf _ (c5 .before .before .before .before .is-header .ensures) (not-false _ (c5 .before .before .before .if1 .left)) _
+    (c5 .before .before .header-of .ensures) (c5 .point-in-time .ensures .0) (c5 .point-in-time .ensures .1) Done (λ n. refl) _ (c .before .built .given .1)
 
 same-length-3 : tie.Need-same-length-3
 same-length-3 c = search needs
@@ -72,13 +72,13 @@ returns-3 c =
     let c20 = c6 .before .before .before .before .before .before .before .before .before .before .before .before .before .before in
     let a = c20 .args in
     build-refused (length (now (a .table))) (now (a .header))
-        (λ h. pointInTimeAnswer (length (now (a .table))) h
-        (lists (now (a .symbols)) (now (a .partial)) (now (a .not-found)) (now (a .mappings)) (now (a .intervals))) (now (a .bytes)) (now (a .ends)) (a .names)
-        (a .name-bytes) (a .date)) (λ h. pointInTimeMemory (length (now (a .table))) h
-        (lists (now (a .symbols)) (now (a .partial)) (now (a .not-found)) (now (a .mappings)) (now (a .intervals))) (now (a .bytes)) (now (a .ends)) (a .names)
-        (a .name-bytes) (a .date)) builtOf _ (c6 .before .before .before .before .is-header .ensures) (not-false _ (c6 .before .before .before .if1 .left)) _
-        (c6 .before .before .header-of .ensures) (c6 .point-in-time .ensures .0) (c6 .point-in-time .ensures .1) Refused (λ r. refl) _
-        (c .before .before .built2 .given .1) _ (c .number .ensures)
+    (λ h. pointInTimeAnswer (length (now (a .table))) h
+    (lists (now (a .symbols)) (now (a .partial)) (now (a .not-found)) (now (a .mappings)) (now (a .intervals))) (now (a .bytes)) (now (a .ends)) (a .names)
+    (a .name-bytes) (a .date)) (λ h. pointInTimeMemory (length (now (a .table))) h
+    (lists (now (a .symbols)) (now (a .partial)) (now (a .not-found)) (now (a .mappings)) (now (a .intervals))) (now (a .bytes)) (now (a .ends)) (a .names)
+    (a .name-bytes) (a .date)) builtOf _ (c6 .before .before .before .before .is-header .ensures) (not-false _ (c6 .before .before .before .if1 .left)) _
+    (c6 .before .before .header-of .ensures) (c6 .point-in-time .ensures .0) (c6 .point-in-time .ensures .1) Refused (λ r. refl) _
+    (c .before .before .built2 .given .1) _ (c .number .ensures)
 
 pub desk-build-points-spec : {M : Type 1} → statement M
 desk-build-points-spec =

@@ -48,11 +48,11 @@ returns-3 c =
     let r = c .before .before .answer2 .given .0 .0 in (
       λ t.
           let e = answer-same (λ (x : Found). foundOf x (c4 .get-for-ts .result .hint)) (c4 .get-for-ts .ensures .0 t .0)
-                  (c .before .before .answer2 .given .1) in
+          (c .before .before .answer2 .given .1) in
           (not-number r (c .number .ensures) e, not-value r (a .hint .now) 0 e, not-given r (a .found .now) 1 e, not-value r (a .symbol .now) 1 e),
       λ w.
           c .number .ensures ∙ sym (ap (λ (x : Found). looked-number (foundOf x (c4 .get-for-ts .result .hint))) (c .before .before .answer2 .given .1)) ∙
-              c4 .get-for-ts .ensures .1 w,
+          c4 .get-for-ts .ensures .1 w,
     )
 
 pub desk-get-for-ts-spec : {M : Type 1} → statement M

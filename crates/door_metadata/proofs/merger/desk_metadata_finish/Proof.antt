@@ -36,17 +36,17 @@ returns-2 c =
     let c12 = c .before .before .before .before .before .before .before .before .before .before .before .before in
     let a = c12 .args in
     finish-done (now (a .header)) (lists (now (a .symbols)) (now (a .partial)) (now (a .not-found)) (now (a .mappings)) (now (a .intervals))) _
-        (c .before .before .before .before .before .is-header .ensures) (not-false _ (c .before .before .before .before .if1 .left)) _
-        (c .before .before .before .header-of .ensures) _ (c .before .before .finish .ensures) _ (c .enum-told .given .1)
+    (c .before .before .before .before .before .is-header .ensures) (not-false _ (c .before .before .before .before .if1 .left)) _
+    (c .before .before .before .header-of .ensures) _ (c .before .before .finish .ensures) _ (c .enum-told .given .1)
 
 returns-3 : tie.Need-returns-3
 returns-3 c =
     let c14 = c .before .before .before .before .before .before .before .before .before .before .before .before .before .before in
     let a = c14 .args in
     finish-refused (now (a .header)) (lists (now (a .symbols)) (now (a .partial)) (now (a .not-found)) (now (a .mappings)) (now (a .intervals))) _
-        (c .before .before .before .before .before .before .before .is-header .ensures)
-        (not-false _ (c .before .before .before .before .before .before .if1 .left)) _ (c .before .before .before .before .before .header-of .ensures) _
-        (c .before .before .before .before .finish .ensures) _ (c .before .before .finished .given .1) _ (c .number .ensures)
+    (c .before .before .before .before .before .before .before .is-header .ensures)
+    (not-false _ (c .before .before .before .before .before .before .if1 .left)) _ (c .before .before .before .before .before .header-of .ensures) _
+    (c .before .before .before .before .finish .ensures) _ (c .before .before .finished .given .1) _ (c .number .ensures)
 
 pub desk-metadata-finish-spec : {M : Type 1} → statement M
 desk-metadata-finish-spec =

@@ -21,8 +21,8 @@ returns c =
     let c15 = c .before .before .before .before .before .before .before .before .before .before .before .before .before .before .before in
     let a = c15 .args in
     merge-unfit (a .names) (now (a .header)) (lists (now (a .symbols)) (now (a .partial)) (now (a .not-found)) (now (a .mappings)) (now (a .intervals)))
-        (now (a .added)) (lists (now (a .added-symbols)) (now (a .added-partial)) (now (a .added-not-found)) (now (a .added-mappings))
-        (now (a .added-intervals))) (a .field .now) _ (c .before .are-headers .ensures) (not-true _ (c .if1 .taken))
+    (now (a .added)) (lists (now (a .added-symbols)) (now (a .added-partial)) (now (a .added-not-found)) (now (a .added-mappings))
+    (now (a .added-intervals))) (a .field .now) _ (c .before .are-headers .ensures) (not-true _ (c .if1 .taken))
 
 header-of-requires : tie.Need-header-of-requires
 header-of-requires c κs = and-left _ _ (sym (c .before .before .are-headers .ensures) ∙ not-false _ (c .before .if1 .left))
@@ -41,7 +41,7 @@ enum-known-merged c = search needs
 put-header-requires : tie.Need-put-header-requires
 put-header-requires c κs =
     let c23 = c .before .before .before .before .before .before .before .before .before .before .before .before .before .before .before .before .before .before
-            .before .before .before .before .before in
+    .before .before .before .before .before in
     header-length _ (and-left _ _ (sym (c23 .before .are-headers .ensures) ∙ not-false _ (c23 .if1 .left)))
 
 enum-known-merged-2 : tie.Need-enum-known-merged-2
@@ -79,10 +79,10 @@ returns-2 c =
     let c41 = c26 .before .before .before .before .before .before .before .before .before .before .before .before .before .before .before in
     let a = c41 .args in
     merge-done (a .names) (now (a .header)) (lists (now (a .symbols)) (now (a .partial)) (now (a .not-found)) (now (a .mappings)) (now (a .intervals)))
-        (now (a .added)) (lists (now (a .added-symbols)) (now (a .added-partial)) (now (a .added-not-found)) (now (a .added-mappings))
-        (now (a .added-intervals))) (a .field .now) _ (c26 .before .are-headers .ensures) (not-false _ (c26 .if1 .left)) _ (c23 .before .header-of .ensures) _
-        (c23 .header-of2 .ensures) _ _ (c17 .merge .ensures) _ (c .before .before .before .before .before .merged .given .1) _
-        (c .before .before .put-header .ensures)
+    (now (a .added)) (lists (now (a .added-symbols)) (now (a .added-partial)) (now (a .added-not-found)) (now (a .added-mappings))
+    (now (a .added-intervals))) (a .field .now) _ (c26 .before .are-headers .ensures) (not-false _ (c26 .if1 .left)) _ (c23 .before .header-of .ensures) _
+    (c23 .header-of2 .ensures) _ _ (c17 .merge .ensures) _ (c .before .before .before .before .before .merged .given .1) _
+    (c .before .before .put-header .ensures)
 
 same-length-8 : tie.Need-same-length-8
 same-length-8 c = search needs
@@ -110,10 +110,10 @@ returns-3 c =
     let c40 = c25 .before .before .before .before .before .before .before .before .before .before .before .before .before .before .before in
     let a = c40 .args in
     merge-refused (a .names) (now (a .header)) (lists (now (a .symbols)) (now (a .partial)) (now (a .not-found)) (now (a .mappings)) (now (a .intervals)))
-        (now (a .added)) (lists (now (a .added-symbols)) (now (a .added-partial)) (now (a .added-not-found)) (now (a .added-mappings))
-        (now (a .added-intervals))) (a .field .now) _ (c25 .before .are-headers .ensures) (not-false _ (c25 .if1 .left)) _ (c22 .before .header-of .ensures) _
-        (c22 .header-of2 .ensures) _ _ (c16 .merge .ensures) _ (c .before .before .before .before .merged2 .given .1) _ (c .number .ensures) _
-        (c .before .field-in .ensures)
+    (now (a .added)) (lists (now (a .added-symbols)) (now (a .added-partial)) (now (a .added-not-found)) (now (a .added-mappings))
+    (now (a .added-intervals))) (a .field .now) _ (c25 .before .are-headers .ensures) (not-false _ (c25 .if1 .left)) _ (c22 .before .header-of .ensures) _
+    (c22 .header-of2 .ensures) _ _ (c16 .merge .ensures) _ (c .before .before .before .before .merged2 .given .1) _ (c .number .ensures) _
+    (c .before .field-in .ensures)
 
 pub desk-metadata-merge-spec : {M : Type 1} → statement M
 desk-metadata-merge-spec =

@@ -32,7 +32,7 @@ enum-known-opened c = search needs
 put-header-requires : tie.Need-put-header-requires
 put-header-requires c κs =
     let c22 = c .before .before .before .before .before .before .before .before .before .before .before .before .before .before .before .before .before .before
-            .before .before .before .before in
+    .before .before .before .before in
     header-length _ (sym (c22 .before .is-header .ensures) ∙ not-false _ (c22 .if1 .left))
 
 enum-known-opened-2 : tie.Need-enum-known-opened-2
@@ -67,8 +67,8 @@ returns-2 c =
     let c34 = c26 .before .before .before .before .before .before .before .before in
     let a = c34 .args in
     open-done (now (a .header)) (lists (now (a .symbols)) (now (a .partial)) (now (a .not-found)) (now (a .mappings)) (now (a .intervals))) _
-        (c26 .is-header .ensures) (not-false _ (c23 .before .before .if1 .left)) _ (c23 .header-of .ensures) _ _ (c17 .«open» .ensures) _
-        (c .before .before .before .before .before .opened .given .1) _ (c .before .before .put-header .ensures)
+    (c26 .is-header .ensures) (not-false _ (c23 .before .before .if1 .left)) _ (c23 .header-of .ensures) _ _ (c17 .«open» .ensures) _
+    (c .before .before .before .before .before .opened .given .1) _ (c .before .before .put-header .ensures)
 
 same-length-8 : tie.Need-same-length-8
 same-length-8 c = search needs
@@ -96,8 +96,8 @@ returns-3 c =
     let c31 = c23 .before .before .before .before .before .before .before .before in
     let a = c31 .args in
     open-refused (now (a .header)) (lists (now (a .symbols)) (now (a .partial)) (now (a .not-found)) (now (a .mappings)) (now (a .intervals))) _
-        (c23 .is-header .ensures) (not-false _ (c20 .before .before .if1 .left)) _ (c20 .header-of .ensures) _ _ (c14 .«open» .ensures) _
-        (c .before .before .opened2 .given .1) _ (c .number .ensures)
+    (c23 .is-header .ensures) (not-false _ (c20 .before .before .if1 .left)) _ (c20 .header-of .ensures) _ _ (c14 .«open» .ensures) _
+    (c .before .before .opened2 .given .1) _ (c .number .ensures)
 
 pub desk-metadata-open-spec : {M : Type 1} → statement M
 desk-metadata-open-spec =

@@ -52,13 +52,18 @@ returns c =
     let c27 = c13 .before .before .before .before .before .before .before .before .before .before .before .before .before .before in
     let a = c27 .args in (
       λ w.
-          let x = c13 .next .ensures .1 .0 w in
-          (handed-record (a .found .now) (a .stream .now) (a .place .now) (a .long .now) (a .kind .now) (a .instrument .now) (a .time .now) (a .reason .now)
-              (answer-same turnOf (x .0) (c .before .answer .given .1)), x .1, x .2),
+          let x = c13 .next .ensures .1 .0 w in (
+            handed-record (a .found .now) (a .stream .now) (a .place .now) (a .long .now) (a .kind .now) (a .instrument .now) (a .time .now) (a .reason .now)
+                (answer-same turnOf (x .0) (c .before .answer .given .1)),
+            x .1,
+            x .2,
+          ),
       λ w n h s.
-          let x = c13 .next .ensures .1 .1 w n h s in
-          (handed-record (a .found .now) (a .stream .now) (a .place .now) (a .long .now) (a .kind .now) (a .instrument .now) (a .time .now) (a .reason .now)
-              (answer-same turnOf (x .heard) (c .before .answer .given .1)), record { heard = refl; leaves = x .leaves; sound = x .sound }),
+          let x = c13 .next .ensures .1 .1 w n h s in (
+            handed-record (a .found .now) (a .stream .now) (a .place .now) (a .long .now) (a .kind .now) (a .instrument .now) (a .time .now) (a .reason .now)
+                (answer-same turnOf (x .heard) (c .before .answer .given .1)),
+            record { heard = refl; leaves = x .leaves; sound = x .sound },
+          ),
     )
 
 same-length-6 : tie.Need-same-length-6
@@ -82,13 +87,18 @@ returns-2 c =
     let c26 = c12 .before .before .before .before .before .before .before .before .before .before .before .before .before .before in
     let a = c26 .args in (
       λ w.
-          let x = c12 .next .ensures .1 .0 w in
-          (handed-end (a .found .now) (a .stream .now) (a .place .now) (a .long .now) (a .kind .now) (a .instrument .now) (a .time .now) (a .reason .now)
-              (answer-same turnOf (x .0) (c .enum-told .given .1)), x .1, x .2),
+          let x = c12 .next .ensures .1 .0 w in (
+            handed-end (a .found .now) (a .stream .now) (a .place .now) (a .long .now) (a .kind .now) (a .instrument .now) (a .time .now) (a .reason .now)
+                (answer-same turnOf (x .0) (c .enum-told .given .1)),
+            x .1,
+            x .2,
+          ),
       λ w n h s.
-          let x = c12 .next .ensures .1 .1 w n h s in
-          (handed-end (a .found .now) (a .stream .now) (a .place .now) (a .long .now) (a .kind .now) (a .instrument .now) (a .time .now) (a .reason .now)
-              (answer-same turnOf (x .heard) (c .enum-told .given .1)), record { heard = refl; leaves = x .leaves; sound = x .sound }),
+          let x = c12 .next .ensures .1 .1 w n h s in (
+            handed-end (a .found .now) (a .stream .now) (a .place .now) (a .long .now) (a .kind .now) (a .instrument .now) (a .time .now) (a .reason .now)
+                (answer-same turnOf (x .heard) (c .enum-told .given .1)),
+            record { heard = refl; leaves = x .leaves; sound = x .sound },
+          ),
     )
 
 same-length-11 : tie.Need-same-length-11
@@ -114,15 +124,20 @@ returns-3 c =
     let c34 = c20 .before .before .before .before .before .before .before .before .before .before .before .before .before .before in
     let a = c34 .args in (
       λ w.
-          let x = c20 .next .ensures .1 .0 w in
-          (handed-not (a .found .now) (a .stream .now) (a .place .now) (a .long .now) (a .kind .now) (a .instrument .now) (a .time .now) (a .reason .now)
-              (c8 .answer2 .given .0 .0) (c .number .ensures) (c3 .before .before .stream-in .ensures) (c3 .place-in .ensures) (c .before .reason-in .ensures)
-              (answer-same turnOf (x .0) (c8 .answer2 .given .1)), x .1, x .2),
+          let x = c20 .next .ensures .1 .0 w in (
+            handed-not (a .found .now) (a .stream .now) (a .place .now) (a .long .now) (a .kind .now) (a .instrument .now) (a .time .now) (a .reason .now)
+                (c8 .answer2 .given .0 .0) (c .number .ensures) (c3 .before .before .stream-in .ensures) (c3 .place-in .ensures) (c .before .reason-in .ensures)
+                (answer-same turnOf (x .0) (c8 .answer2 .given .1)),
+            x .1,
+            x .2,
+          ),
       λ w n h s.
-          let x = c20 .next .ensures .1 .1 w n h s in
-          (handed-not (a .found .now) (a .stream .now) (a .place .now) (a .long .now) (a .kind .now) (a .instrument .now) (a .time .now) (a .reason .now)
-              (c8 .answer2 .given .0 .0) (c .number .ensures) (c3 .before .before .stream-in .ensures) (c3 .place-in .ensures) (c .before .reason-in .ensures)
-              (answer-same turnOf (x .heard) (c8 .answer2 .given .1)), record { heard = refl; leaves = x .leaves; sound = x .sound }),
+          let x = c20 .next .ensures .1 .1 w n h s in (
+            handed-not (a .found .now) (a .stream .now) (a .place .now) (a .long .now) (a .kind .now) (a .instrument .now) (a .time .now) (a .reason .now)
+                (c8 .answer2 .given .0 .0) (c .number .ensures) (c3 .before .before .stream-in .ensures) (c3 .place-in .ensures) (c .before .reason-in .ensures)
+                (answer-same turnOf (x .heard) (c8 .answer2 .given .1)),
+            record { heard = refl; leaves = x .leaves; sound = x .sound },
+          ),
     )
 
 pub desk-next-spec : {M : Type 1} → statement M

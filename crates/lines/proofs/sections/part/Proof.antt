@@ -48,7 +48,7 @@ turned-at : (c : tie.Else3 Inv-loop μ-loop)
     → Turned (now (c .before .before .before .before .before .before .before .before .before .args .bundle)) (c .before .before .before .before .loop .at) (c .before .before .before .before .loop .bytes) (c .before .before .before .before .loop .count) (c .before .section-size .result)
 turned-at c =
     turned (c .before .before .before .before .loop .inv .2) (c .before .before .before .loop-test .taken)
-        (c .before .before .before .before .before .if1 .left) (c .before .before .if2 .left) (c .before .section-size .ensures) (c .if3 .left)
+    (c .before .before .before .before .before .if1 .left) (c .before .before .if2 .left) (c .before .section-size .ensures) (c .if3 .left)
 
 add-copy : tie.Need-add-copy Inv-loop μ-loop
 add-copy c = let t = turned-at (c .before) in omega arith
@@ -89,8 +89,8 @@ loop-again c =
       simp length-set (l .loop .inv .1),
       rw (c .before .before .copy .ensures) (
           taking-turn (l .loop .inv .2) (c .before .before .before .before .before .before .before .loop-test .taken) (t .sized)
-              (c .before .before .before .before .before .before .before .before .before .if1 .left) (omega arith) (omega arith)
-              (c .before .before .before .before .before .before .if2 .left)
+          (c .before .before .before .before .before .before .before .before .before .if1 .left) (omega arith) (omega arith)
+          (c .before .before .before .before .before .before .if2 .left)
           ),
     )
 

@@ -37,9 +37,12 @@ unfolding countAt
 loop-again c =
     let args = c .before .before .before .before .args in
     let a = c .before .before .before .shared-slice-known .given (2 * c .before .before .loop .i + 1) in let b = c .count-at .ensures in let d = before-next
-            (now (args .mappings)) (c .before .before .loop .i) in
-            (omega arith, ap (λ (k : ℕ). c .before .before .loop .sum + k) (c .count-at .ensures) ∙ ap
-            (λ (k : ℕ). k + countAt (now (args .mappings)) (c .before .before .loop .i)) (c .before .before .loop .inv .1) ∙ sym d, omega arith)
+    (now (args .mappings)) (c .before .before .loop .i) in (
+      omega arith,
+      ap (λ (k : ℕ). c .before .before .loop .sum + k) (c .count-at .ensures) ∙ ap
+          (λ (k : ℕ). k + countAt (now (args .mappings)) (c .before .before .loop .i)) (c .before .before .loop .inv .1) ∙ sym d,
+      omega arith,
+    )
 
 returns : tie.Need-returns Inv-loop μ-loop
 returns c = let e : c .before .loop .i ≡ c .before .before .before .args .count = omega arith in c .before .loop .inv .1 ∙ ap (before (now (c .before .before .before .args .mappings))) e

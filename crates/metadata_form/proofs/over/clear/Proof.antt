@@ -35,9 +35,12 @@ loop-less c = omega arith
 
 loop-again : tie.Need-loop-again Inv-loop μ-loop
 loop-again c =
-    let a = c .before .before .args in
-    (omega arith, simp length-set (c .before .loop .inv .1), clear-turn (now (a .list)) (c .before .loop .list) (a .at) (a .count) (c .before .loop .j)
-        (c .before .before .pre) (c .loop-test .taken) (c .before .loop .inv .2))
+    let a = c .before .before .args in (
+      omega arith,
+      simp length-set (c .before .loop .inv .1),
+      clear-turn (now (a .list)) (c .before .loop .list) (a .at) (a .count) (c .before .loop .j)
+          (c .before .before .pre) (c .loop-test .taken) (c .before .loop .inv .2),
+    )
 
 same-length : tie.Need-same-length Inv-loop μ-loop
 same-length c = c .before .loop .inv .1

@@ -39,9 +39,12 @@ loop-less c = omega arith
 loop-again : tie.Need-loop-again Inv-loop μ-loop
 loop-again c =
     let c3 = c .before .before .before in
-    let a = c3 .args in
-    (omega arith, simp length-set (c .before .before .loop .inv .1), copy-turn (now (a .list)) (c .before .before .loop .list) (now (a .words)) (a .count)
-        (c .before .before .loop .j) (c3 .pre .0) (c3 .pre .1) (c .before .loop-test .taken) (c .before .before .loop .inv .2))
+    let a = c3 .args in (
+      omega arith,
+      simp length-set (c .before .before .loop .inv .1),
+      copy-turn (now (a .list)) (c .before .before .loop .list) (now (a .words)) (a .count)
+          (c .before .before .loop .j) (c3 .pre .0) (c3 .pre .1) (c .before .loop-test .taken) (c .before .before .loop .inv .2),
+    )
 
 same-length : tie.Need-same-length Inv-loop μ-loop
 same-length c = c .before .loop .inv .1

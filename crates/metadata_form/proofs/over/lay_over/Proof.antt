@@ -32,7 +32,7 @@ returns-2 c =
     let c11 = c .before .before .before .before .before .before .before .before .before .before .before in
     let a = c11 .args in
     over-freed (now (a .list)) _ _ (now (a .words)) (a .used) (a .count) (c11 .pre .1) (c11 .pre .2) (c .before .before .before .before .if1 .left)
-        (c .before .before .before .before .before .before .before .copy .ensures) (c .before .before .clear .ensures)
+    (c .before .before .before .before .before .before .before .copy .ensures) (c .before .before .clear .ensures)
 
 pub lay-over-spec : {M : Type 1} → statement M
 lay-over-spec =

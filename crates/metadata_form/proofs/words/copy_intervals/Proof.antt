@@ -35,9 +35,13 @@ loop-less c = omega arith
 loop-again : tie.Need-loop-again Inv-loop μ-loop
 loop-again c =
     let c6 = c .before .before .before .before .before .before in
-    let n : length (c .before .before .put-interval .last .0) ≡ length (c6 .loop .out) = put-length _ _ _ _ (c .before .before .put-interval .ensures) in
-    (omega arith, n ∙ c6 .loop .inv .1, omega arith, lay-turn _ _ _ _ _ _ _ (omega arith) (c .before .before .before .before .interval-at .ensures)
-        (c .before .before .put-interval .ensures) ∙ c6 .loop .inv .3)
+    let n : length (c .before .before .put-interval .last .0) ≡ length (c6 .loop .out) = put-length _ _ _ _ (c .before .before .put-interval .ensures) in (
+      omega arith,
+      n ∙ c6 .loop .inv .1,
+      omega arith,
+      lay-turn _ _ _ _ _ _ _ (omega arith) (c .before .before .before .before .interval-at .ensures)
+          (c .before .before .put-interval .ensures) ∙ c6 .loop .inv .3,
+    )
 
 same-length : tie.Need-same-length Inv-loop μ-loop
 same-length c = c .before .loop .inv .1

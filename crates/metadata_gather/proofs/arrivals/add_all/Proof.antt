@@ -44,10 +44,15 @@ loop-again c =
     let c9 = c4 .before .before .before .before .before in
     let a = c9 .before .before .before .before .args in
     let l = length-take-le (c9 .loop .held) (c9 .loop .numbers) (omega arith) in
-    let e = count-next (c9 .loop .held) (c4 .add-one .ensures) (omega arith) in
-    (omega arith, omega arith, c4 .add-one .kept .0 ∙ c9 .loop .inv .2, c4 .add-one .kept .1 .1 .0 ∙ c9 .loop .inv .3, all-turn
-        (take (a .count) (now (a .numbers))) (now (a .added)) (c9 .loop .i) (omega arith) (c9 .loop .held) (c9 .loop .numbers) (c9 .loop .marks)
-        (c9 .loop .inv .4) _ _ _ _ _ refl (c4 .add-one .ensures))
+    let e = count-next (c9 .loop .held) (c4 .add-one .ensures) (omega arith) in (
+      omega arith,
+      omega arith,
+      c4 .add-one .kept .0 ∙ c9 .loop .inv .2,
+      c4 .add-one .kept .1 .1 .0 ∙ c9 .loop .inv .3,
+      all-turn
+          (take (a .count) (now (a .numbers))) (now (a .added)) (c9 .loop .i) (omega arith) (c9 .loop .held) (c9 .loop .numbers) (c9 .loop .marks)
+          (c9 .loop .inv .4) _ _ _ _ _ refl (c4 .add-one .ensures),
+    )
 
 same-length : tie.Need-same-length Inv-loop μ-loop
 same-length c = c .before .loop .inv .2
@@ -60,7 +65,7 @@ returns c =
     let a = c .before .before .before .before .before .args in
     let e : c .before .loop .i ≡ a .added-count = omega arith in
     subst (λ (k : ℕ). AllAdded (addAll (take (a .count) (now (a .numbers))) (take k (now (a .added)))) (c .before .loop .held) (c .before .loop .numbers)
-        (c .before .loop .marks)) e (c .before .loop .inv .4)
+    (c .before .loop .marks)) e (c .before .loop .inv .4)
 
 pub add-all-spec : {M : Type 1} → statement M
 add-all-spec =

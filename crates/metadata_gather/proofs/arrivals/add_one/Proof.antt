@@ -42,7 +42,7 @@ returns-2 : tie.Need-returns-2
 returns-2 c =
     let c10 = c .before .before .before .before .before .before .before .before .before .before in
     added-new _ _ _ _ _ (c10 .pre .0) (c10 .pre .2) (c .before .before .before .before .before .index-of .ensures)
-        (c .before .before .before .before .if1 .left) _ _ refl (c .before .before .mark .ensures)
+    (c .before .before .before .before .if1 .left) _ _ refl (c .before .before .mark .ensures)
 
 pub add-one-spec : {M : Type 1} → statement M
 add-one-spec =

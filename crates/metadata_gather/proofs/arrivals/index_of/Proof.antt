@@ -22,7 +22,7 @@ returns : tie.Need-returns
 returns c =
     let c7 = c .before .before .before .before .before .before .before in
     mark-none _ _ _ _ _ _ (c7 .pre .1) (c .before .before .before .before .wide .ensures) (c .before .before .before .if1 .taken) (c .before .wide2 .ensures)
-        (c .if2 .taken) (sym (length-take-le _ _ (c7 .pre .0)))
+    (c .if2 .taken) (sym (length-take-le _ _ (c7 .pre .0)))
 
 sub-result : tie.Need-sub-result
 sub-result c = search needs

@@ -31,7 +31,7 @@ returns c =
     let c4 = c .before .before .before .before in
     let a = c4 .before .before .args in
     spans-stop dated (now (a .intervals)) (c4 .loop .i) (a .count) (c .before .before .interval-at .ensures) (c .before .is-dated .ensures)
-        (not-true _ (c .if1 .taken)) (c .before .before .before .loop-test .taken) ∙ c4 .loop .inv .1
+    (not-true _ (c .if1 .taken)) (c .before .before .before .loop-test .taken) ∙ c4 .loop .inv .1
 
 add-i : tie.Need-add-i Inv-loop μ-loop
 add-i c = search needs
@@ -42,9 +42,11 @@ loop-less c = search needs
 loop-again : tie.Need-loop-again Inv-loop μ-loop
 loop-again c =
     let c4 = c .before .before .before .before in
-    let a = c4 .before .before .args in
-    (omega arith, spans-turn dated (now (a .intervals)) (c4 .loop .i) (a .count) (c .before .before .interval-at .ensures) (c .before .is-dated .ensures)
-        (not-false _ (c .if1 .left)) (c .before .before .before .loop-test .taken) ∙ c4 .loop .inv .1)
+    let a = c4 .before .before .args in (
+      omega arith,
+      spans-turn dated (now (a .intervals)) (c4 .loop .i) (a .count) (c .before .before .interval-at .ensures) (c .before .is-dated .ensures)
+          (not-false _ (c .if1 .left)) (c .before .before .before .loop-test .taken) ∙ c4 .loop .inv .1,
+    )
 
 returns-2 : tie.Need-returns-2 Inv-loop μ-loop
 returns-2 c = spans-end dated (now (c .before .before .before .args .intervals)) (c .before .loop .i) (c .before .before .before .args .count) (omega arith) ∙ c .before .loop .inv .1

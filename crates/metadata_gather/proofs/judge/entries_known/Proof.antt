@@ -34,7 +34,7 @@ returns c =
     let c4 = c .before .before .before .before in
     let a = c4 .before .before .args in
     entries-stop (below (a .names)) (now (a .entries)) (c4 .loop .i) (a .count) (c .before .is-known .ensures) (not-true _ (c .if1 .taken))
-        (c .before .before .before .loop-test .taken) (c4 .before .before .pre) ∙ c4 .loop .inv .1
+    (c .before .before .before .loop-test .taken) (c4 .before .before .pre) ∙ c4 .loop .inv .1
 
 add-i : tie.Need-add-i Inv-loop μ-loop
 add-i c = search needs
@@ -45,9 +45,11 @@ loop-less c = search needs
 loop-again : tie.Need-loop-again Inv-loop μ-loop
 loop-again c =
     let c4 = c .before .before .before .before in
-    let a = c4 .before .before .args in
-    (omega arith, entries-turn (below (a .names)) (now (a .entries)) (c4 .loop .i) (a .count) (c .before .is-known .ensures) (not-false _ (c .if1 .left))
-        (c .before .before .before .loop-test .taken) (c4 .before .before .pre) ∙ c4 .loop .inv .1)
+    let a = c4 .before .before .args in (
+      omega arith,
+      entries-turn (below (a .names)) (now (a .entries)) (c4 .loop .i) (a .count) (c .before .is-known .ensures) (not-false _ (c .if1 .left))
+          (c .before .before .before .loop-test .taken) (c4 .before .before .pre) ∙ c4 .loop .inv .1,
+    )
 
 returns-2 : tie.Need-returns-2 Inv-loop μ-loop
 returns-2 c =

@@ -31,8 +31,8 @@ mul-last : tie.Need-mul-last Inv-loop μ-loop
 mul-last c =
     let c14 = c .before .before .before .before .before .before .before .before .before .before .before .before .before .before in
     let p = place-low _ _ _ _ _ _ (c .before .before .before .before .before .before .before .before .before .loop .inv .4) (omega arith) _ _ _ _ _
-            (c .before .before .before .before .before .before .before .name-at .ensures) (c .before .before .before .before .add-one .ensures) in omega
-            (arith, c14 .good .1 .1 .1 .1 .0)
+    (c .before .before .before .before .before .before .before .name-at .ensures) (c .before .before .before .before .add-one .ensures) in omega
+    (arith, c14 .good .1 .1 .1 .1 .0)
 
 slice-write-last : tie.Need-slice-write-last Inv-loop μ-loop
 slice-write-last c = let p = place-low _ _ _ _ _ _ (c .before .before .before .before .before .before .before .before .before .loop .inv .4) (omega arith) _ _ _
@@ -47,14 +47,13 @@ loop-less c = omega arith
 loop-again : tie.Need-loop-again Inv-loop μ-loop
 loop-again c =
     let c4 = c .before .before .before .before in
-    let c9 = c4 .before .before .before .before .before in
-    (
-  omega arith,
-  c4 .add-one .kept .0 ∙ c9 .loop .inv .1,
-  c4 .add-one .kept .1 .1 .0 ∙ c9 .loop .inv .2,
-  simp length-set (c9 .loop .inv .3),
-  picking-turn _ _ _ _ _ _ (c9 .loop .inv .4) (omega arith) _ _ _ _ _ (c4 .before .before .before .name-at .ensures) (c4 .add-one .ensures) _ refl,
-)
+    let c9 = c4 .before .before .before .before .before in (
+      omega arith,
+      c4 .add-one .kept .0 ∙ c9 .loop .inv .1,
+      c4 .add-one .kept .1 .1 .0 ∙ c9 .loop .inv .2,
+      simp length-set (c9 .loop .inv .3),
+      picking-turn _ _ _ _ _ _ (c9 .loop .inv .4) (omega arith) _ _ _ _ _ (c4 .before .before .before .name-at .ensures) (c4 .add-one .ensures) _ refl,
+    )
 
 same-length : tie.Need-same-length Inv-loop μ-loop
 same-length c = c .before .loop .inv .1

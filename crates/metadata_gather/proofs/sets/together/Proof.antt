@@ -26,7 +26,7 @@ add-all-requires-2 c κs =
     let c11 = c5 .before .before .before .before .before .before in
     let a = c11 .args in
     let l = length-take-le (a .left-count) (now (a .left)) (c11 .pre .0) in let f = first-few _ (now (a .out)) _ _ _ (c5 .add-all .ensures) in
-            (omega arith, omega (arith, c11 .pre .3), c11 .pre .1, subst (Marked _) (sym (c5 .add-all .ensures .stand)) (c5 .add-all .ensures .marks))
+    (omega arith, omega (arith, c11 .pre .3), c11 .pre .1, subst (Marked _) (sym (c5 .add-all .ensures .stand)) (c5 .add-all .ensures .marks))
 
 same-length : tie.Need-same-length
 same-length c = search needs
@@ -35,7 +35,7 @@ returns : tie.Need-returns
 returns c =
     let c15 = c .before .before .before .before .before .before .before .before .before .before .before .before .before .before .before in
     all-united _ _ (now (c15 .args .out)) _ _ _ (c .before .before .before .before .before .before .before .before .before .add-all .ensures) _ _ _
-        (c .before .before .before .add-all2 .ensures)
+    (c .before .before .before .add-all2 .ensures)
 
 pub together-spec : {M : Type 1} → statement M
 together-spec =

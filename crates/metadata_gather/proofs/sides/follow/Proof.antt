@@ -31,7 +31,7 @@ lay-places-requires : tie.Need-lay-places-requires
 lay-places-requires c κs =
     let c14 = c .before .before .before .before .before .before .before .before .before .before .before .before .before .before in
     side-layable _ _ _ _ _ (c .before .before .before .before .before .before .before .before .offsets .ensures .1)
-        (c .before .before .before .before .before .count-up .ensures) _ _ _ _ (c14 .pre) (omega (arith, c14 .pre .count)) (omega (arith, c14 .pre .count))
+    (c .before .before .before .before .before .count-up .ensures) _ _ _ _ (c14 .pre) (omega (arith, c14 .pre .count)) (omega (arith, c14 .pre .count))
 
 same-length : tie.Need-same-length
 same-length c = search needs
@@ -44,9 +44,9 @@ returns c =
     let c13 = c .before .before .before .before .before .before .before .before .before .before .before .before .before in
     let a = c13 .before .before .before .before .before .before .args in
     c .before .before .before .before .lay-places .ensures ∙ ap
-        (layAll (now (a .both-mappings)) (a .laid-mappings) (now (a .both-intervals)) (a .laid-intervals))
-        (side-picked _ _ _ _ _ (c13 .offsets .ensures .1)
-        (c .before .before .before .before .before .before .before .before .before .before .count-up .ensures))
+    (layAll (now (a .both-mappings)) (a .laid-mappings) (now (a .both-intervals)) (a .laid-intervals))
+    (side-picked _ _ _ _ _ (c13 .offsets .ensures .1)
+    (c .before .before .before .before .before .before .before .before .before .before .count-up .ensures))
 
 pub follow-spec : {M : Type 1} → statement M
 follow-spec =

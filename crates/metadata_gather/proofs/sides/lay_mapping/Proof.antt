@@ -44,15 +44,14 @@ same-length-2 c = search needs
 returns : tie.Need-returns
 returns c =
     let c9 = c .before .before .before .before .before .before .before .before .before in
-    let a = c9 .before .before .before .before .before .before .before .args in
-    (
-  c .before .before .before .before .before .before .put-mapping .ensures ∙ ap
-      (λ (u : ℕ). putMapping (now (a .both-mappings)) (a .laid-mappings) u (c9 .count-at .result)) (c9 .before .name-at .ensures)
-      ∙ ap (putMapping (now (a .both-mappings)) (a .laid-mappings) (nameAt (now (a .mappings)) (a .i))) (c9 .count-at .ensures),
-  c .before .before .copy-intervals .ensures ∙ ap (layIntervals (now (a .both-intervals)) (a .laid-intervals))
-      (rest-list _ _ _ _ _ _ refl (c9 .count-at .ensures)),
-  ap (λ (u : ℕ). a .laid-intervals + u) (c9 .count-at .ensures),
-)
+    let a = c9 .before .before .before .before .before .before .before .args in (
+      c .before .before .before .before .before .before .put-mapping .ensures ∙ ap
+          (λ (u : ℕ). putMapping (now (a .both-mappings)) (a .laid-mappings) u (c9 .count-at .result)) (c9 .before .name-at .ensures)
+          ∙ ap (putMapping (now (a .both-mappings)) (a .laid-mappings) (nameAt (now (a .mappings)) (a .i))) (c9 .count-at .ensures),
+      c .before .before .copy-intervals .ensures ∙ ap (layIntervals (now (a .both-intervals)) (a .laid-intervals))
+          (rest-list _ _ _ _ _ _ refl (c9 .count-at .ensures)),
+      ap (λ (u : ℕ). a .laid-intervals + u) (c9 .count-at .ensures),
+    )
 
 pub lay-mapping-spec : {M : Type 1} → statement M
 lay-mapping-spec =

@@ -32,9 +32,13 @@ lay-mapping-requires c κs =
     let c11 = c3 .before .before .before .before .before .before .before .before in
     let g = c3 .before .loop .inv in
     let a = g .maps in
-    let b = g .same in
-    (c11 .pre .inside _ (c3 .loop-test .taken), omega (arith, c11 .pre .maps), turn-room _ _ _ _ _ _ _ _ _ _ _ _ _ (c3 .before .loop .inv)
-        (c3 .loop-test .taken) _ refl, omega (arith, c11 .pre .small))
+    let b = g .same in (
+      c11 .pre .inside _ (c3 .loop-test .taken),
+      omega (arith, c11 .pre .maps),
+      turn-room _ _ _ _ _ _ _ _ _ _ _ _ _ (c3 .before .loop .inv)
+          (c3 .loop-test .taken) _ refl,
+      omega (arith, c11 .pre .small),
+    )
 
 add-i : tie.Need-add-i Inv-loop μ-loop
 add-i c = omega arith
@@ -46,8 +50,8 @@ loop-again : tie.Need-loop-again Inv-loop μ-loop
 loop-again c =
     let c4 = c .before .before .before .before in
     following-turn _ _ _ _ _ _ _ _ _ _ _ _ _ (c4 .before .before .before .before .before .loop .inv) (c4 .before .before .before .before .loop-test .taken) _
-        refl _ _ _ (c4 .lay-mapping .ensures .0) (c4 .lay-mapping .ensures .1) (c4 .lay-mapping .ensures .2) (c4 .lay-mapping .kept .1 .1 .1 .1 .0)
-        (c4 .lay-mapping .kept .1 .1 .1 .1 .1 .1 .0)
+    refl _ _ _ (c4 .lay-mapping .ensures .0) (c4 .lay-mapping .ensures .1) (c4 .lay-mapping .ensures .2) (c4 .lay-mapping .kept .1 .1 .1 .1 .0)
+    (c4 .lay-mapping .kept .1 .1 .1 .1 .1 .1 .0)
 
 same-length : tie.Need-same-length Inv-loop μ-loop
 same-length c = c .before .loop .inv .maps

@@ -40,7 +40,7 @@ lay-places-requires c κs =
     let c12 = c7 .before .before .before .before .before in
     let c18 = c12 .before .before .before .before .before .before in
     first-layable _ _ _ _ _ _ (c12 .offsets .ensures .1) (omega (arith, c18 .pre .count, c7 .picks .ensures .0)) (c7 .picks .ensures .1) _ _ (c18 .pre)
-        (omega (arith, c18 .pre .count)) (c7 .picks .ensures .0)
+    (omega (arith, c18 .pre .count)) (c7 .picks .ensures .0)
 
 same-length : tie.Need-same-length
 same-length c = search needs
@@ -55,7 +55,7 @@ returns c =
     let c23 = c17 .before .before .before .before .before .before in
     let a = c23 .args in
     from-zero (c .before .before .before .before .lay-places .ensures) ∙ ap (layAll (now (a .both-mappings)) 0 (now (a .both-intervals)) 0)
-        (first-picked _ _ _ _ _ _ (c17 .offsets .ensures .1) (omega (arith, c23 .pre .count, c12 .picks .ensures .0)) (c12 .picks .ensures .1))
+    (first-picked _ _ _ _ _ _ (c17 .offsets .ensures .1) (omega (arith, c23 .pre .count, c12 .picks .ensures .0)) (c12 .picks .ensures .1))
 
 pub lose-repeats-spec : {M : Type 1} → statement M
 lose-repeats-spec =

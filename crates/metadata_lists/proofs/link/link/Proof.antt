@@ -32,13 +32,13 @@ mul-nexts c =
     let c3 = c .before .before .before in
     let c7 = c3 .before .before .before .before in
     let h = c7 .pre .2 (c3 .loop .i - 1) (omega arith) in let n = c .wide .ensures ∙ c .before .name-at .ensures in let z = c3 .loop .inv .2 in omega
-            (arith, c7 .good .1 .1 .1 .0)
+    (arith, c7 .good .1 .1 .1 .0)
 
 slice-read-nexts : tie.Need-slice-read-nexts Inv-loop μ-loop
 slice-read-nexts c =
     let c4 = c .before .before .before .before in
     let h = c4 .before .before .before .before .pre .2 (c4 .loop .i - 1) (omega arith) in let n = c .before .wide .ensures ∙
-            c .before .before .name-at .ensures in let z = c4 .loop .inv .2 in omega arith
+    c .before .before .name-at .ensures in let z = c4 .loop .inv .2 in omega arith
 
 mul-nexts-2 : tie.Need-mul-nexts-2 Inv-loop μ-loop
 mul-nexts-2 c = omega (arith, c .before .before .before .before .before .before .before .before .pre .1, c .before .before .before .before .before .before .before .before .good .1 .1 .0)
@@ -51,13 +51,13 @@ mul-firsts c =
     let c4 = c .before .before .before .before in
     let c8 = c4 .before .before .before .before in
     let h = c8 .pre .2 (c4 .loop .i - 1) (omega arith) in let n = c .before .wide .ensures ∙ c .before .before .name-at .ensures in let z = c4 .loop .inv .2 in
-            omega (arith, c8 .good .1 .1 .1 .0)
+    omega (arith, c8 .good .1 .1 .1 .0)
 
 slice-write-firsts : tie.Need-slice-write-firsts Inv-loop μ-loop
 slice-write-firsts c =
     let c4 = c .before .before .before .before in
     let h = c4 .before .before .before .before .pre .2 (c4 .loop .i - 1) (omega arith) in let n = c .before .wide .ensures ∙
-            c .before .before .name-at .ensures in let z = c4 .loop .inv .2 in omega arith
+    c .before .before .name-at .ensures in let z = c4 .loop .inv .2 in omega arith
 
 loop-less : tie.Need-loop-less Inv-loop μ-loop
 loop-less c = omega arith

@@ -35,7 +35,7 @@ add-o c =
     let a = c5 .args in
     let n = c .count-at .ensures in
     let u : before (a .mappings .now) (c .before .before .loop .t + 1) ≤ before (a .mappings .now) (a .count) = before-up (a .mappings .now)
-            (c .before .before .loop .t + 1) (a .count) (omega arith) in
+    (c .before .before .loop .t + 1) (a .count) (omega arith) in
     omega (arith, before-next (a .mappings .now) (c .before .before .loop .t), c5 .pre .2, c .before .before .loop .inv .2)
 
 add-t : tie.Need-add-t Inv-loop μ-loop

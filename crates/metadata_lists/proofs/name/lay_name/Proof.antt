@@ -47,7 +47,7 @@ add-merge-intervals : tie.Need-add-merge-intervals Inv-loop μ-loop
 add-merge-intervals c =
     let c16 = c .before .before .before .before .before .before .before .before .before .before .before .before .before .before .before .before in
     let w = c16 .pre .within (c .before .before .before .before .before .before .before .before .before .loop .j)
-            (c .before .before .before .before .before .before .before .before .loop-test .taken) in
+    (c .before .before .before .before .before .before .before .before .loop-test .taken) in
     let d = c .before .count-at .ensures in
     omega (arith, c16 .good .1 .1 .0)
 
@@ -59,7 +59,7 @@ merge-intervals-requires c κs =
     let w = c17 .pre .within (c9 .before .loop .j) (c9 .loop-test .taken) in
     let d = c .before .before .count-at .ensures in
     let q = turn-needs _ _ _ _ _ _ _ _ _ (c17 .pre) _ _ _ _ (c9 .before .loop .inv .0) (c9 .loop-test .taken) _ _ (sym (c9 .before .loop .inv .1))
-            (c6 .copy-intervals .ensures) _ _ refl (c .before .before .count-at .ensures) in
+    (c6 .copy-intervals .ensures) _ _ refl (c .before .before .count-at .ensures) in
     let l = laid-length _ _ _ _ (c6 .copy-intervals .ensures) in
     let t = c9 .before .loop .inv .1 in
     let o = c9 .before .loop .inv .0 .same in
@@ -83,8 +83,8 @@ returns c =
     let c14 = c4 .before .before .before .before .before .before .before .before .before .before in
     let c22 = c14 .before .before .before .before .before .before .before .before in
     turn-conflict _ _ _ _ _ _ _ _ _ (c22 .pre) _ _ _ _ (c14 .before .loop .inv .0) (c14 .loop-test .taken) _ _ (sym (c14 .before .loop .inv .1))
-        (c4 .before .before .before .before .before .before .before .copy-intervals .ensures) _ _ refl (c4 .before .before .before .count-at .ensures)
-        (c4 .merge-intervals .last .1 .1 .1 .1 .1 .1 .0)
+    (c4 .before .before .before .before .before .before .before .copy-intervals .ensures) _ _ refl (c4 .before .before .before .count-at .ensures)
+    (c4 .merge-intervals .last .1 .1 .1 .1 .1 .1 .0)
     (ap (λ (q : WalkLaid). endedOf q (c4 .merge-intervals .last .1 .1 .1 .1 .1 .1 .0)) (sym (c .enum-told .given .1)) ∙ c4 .merge-intervals .ensures)
 
 enum-known-walked : tie.Need-enum-known-walked Inv-loop μ-loop
@@ -97,20 +97,20 @@ sub-laid c =
     let c15 = c12 .before .before .before in
     let c23 = c15 .before .before .before .before .before .before .before .before in
     (turn-going _ _ _ _ _ _ _ _ _ (c23 .pre) _ _ _ _ (c15 .before .loop .inv .0) (c15 .loop-test .taken) _ _ (sym (c15 .before .loop .inv .1))
-        (c12 .copy-intervals .ensures) _ _ refl (c5 .before .before .before .count-at .ensures) _ _ _
+    (c12 .copy-intervals .ensures) _ _ refl (c5 .before .before .before .count-at .ensures) _ _ _
     (ap (λ (q : WalkLaid). endedOf q (c5 .merge-intervals .last .1 .1 .1 .1 .1 .1 .0)) (sym (c .before .walked .given .1)) ∙ c5 .merge-intervals .ensures)
-        (c5 .merge-intervals .kept .1 .1 .1 .1 .1 .1 .0) refl) .1
+    (c5 .merge-intervals .kept .1 .1 .1 .1 .1 .1 .0) refl) .1
 
 mul-j : tie.Need-mul-j Inv-loop μ-loop
 mul-j c =
     let c23 = c .before .before .before .before .before .before .before .before .before .before .before .before .before .before .before .before .before .before
-            .before .before .before .before .before in
+    .before .before .before .before .before in
     let a = c23 .pre .links in omega (arith, c23 .good .1 .1 .1 .1 .0)
 
 shared-slice-read-j : tie.Need-shared-slice-read-j Inv-loop μ-loop
 shared-slice-read-j c =
     let c24 = c .before .before .before .before .before .before .before .before .before .before .before .before .before .before .before .before .before .before
-            .before .before .before .before .before .before in
+    .before .before .before .before .before .before in
     let a = c24 .pre .links in omega arith
 
 loop-less : tie.Need-loop-less Inv-loop μ-loop
@@ -119,22 +119,21 @@ loop-less c =
     let c16 = c13 .before .before .before in
     let c24 = c16 .before .before .before .before .before .before .before .before in
     let f = turn-further _ _ _ _ _ _ _ _ _ (c24 .pre) _ _ _ _ (c16 .before .loop .inv .0) (c16 .loop-test .taken) _ _ (sym (c16 .before .loop .inv .1))
-            (c13 .copy-intervals .ensures) _ _ refl (c .before .before .before .before .before .before .before .before .before .count-at .ensures) _ refl in
-            omega arith
+    (c13 .copy-intervals .ensures) _ _ refl (c .before .before .before .before .before .before .before .before .before .count-at .ensures) _ refl in
+    omega arith
 
 loop-again : tie.Need-loop-again Inv-loop μ-loop
 loop-again c =
     let c6 = c .before .before .before .before .before .before in
     let c13 = c6 .before .before .before .before .before .before .before in
     let c16 = c13 .before .before .before in
-    let c24 = c16 .before .before .before .before .before .before .before .before in
-    (
-  (turn-going _ _ _ _ _ _ _ _ _ (c24 .pre) _ _ _ _ (c16 .before .loop .inv .0) (c16 .loop-test .taken) _ _ (sym (c16 .before .loop .inv .1))
-      (c13 .copy-intervals .ensures) _ _ refl (c6 .before .before .before .count-at .ensures) _ _ _
-      (ap (λ (q : WalkLaid). endedOf q (c6 .merge-intervals .last .1 .1 .1 .1 .1 .1 .0)) (sym (c .before .before .walked .given .1)) ∙
+    let c24 = c16 .before .before .before .before .before .before .before .before in (
+      (turn-going _ _ _ _ _ _ _ _ _ (c24 .pre) _ _ _ _ (c16 .before .loop .inv .0) (c16 .loop-test .taken) _ _ (sym (c16 .before .loop .inv .1))
+          (c13 .copy-intervals .ensures) _ _ refl (c6 .before .before .before .count-at .ensures) _ _ _
+          (ap (λ (q : WalkLaid). endedOf q (c6 .merge-intervals .last .1 .1 .1 .1 .1 .1 .0)) (sym (c .before .before .walked .given .1)) ∙
           c6 .merge-intervals .ensures) (c6 .merge-intervals .kept .1 .1 .1 .1 .1 .1 .0) refl) .0,
-  laid-length _ _ _ _ (c13 .copy-intervals .ensures) ∙ c16 .before .loop .inv .1,
-)
+      laid-length _ _ _ _ (c13 .copy-intervals .ensures) ∙ c16 .before .loop .inv .1,
+    )
 
 add-t30 : tie.Need-add-t30 Inv-loop μ-loop
 add-t30 c = omega (arith, c .before .before .before .before .before .before .before .before .good, c .before .loop .inv .0 .room)

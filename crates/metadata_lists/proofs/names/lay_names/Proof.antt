@@ -65,9 +65,9 @@ returns c =
     let c12 = c8 .before .before .before .before in
     let c22 = c12 .before .before .before .before .before .before .before .before .before .before in
     turn-fails _ _ _ _ _ _ _ _ _ (c22 .pre) _ _ _ _ _ _ _ (c12 .before .loop .inv .0) (c12 .loop-test .taken) (c8 .lay-place .last .1 .1 .1 .1 .1 .1 .1 .1 .0)
-        (c8 .lay-place .last .1 .1 .1 .1 .1 .1 .1 .1 .1 .1 .0)
-        (ap (λ (x : NamesLaid). endNames x (c8 .lay-place .last .1 .1 .1 .1 .1 .1 .1 .1 .0) (c8 .lay-place .last .1 .1 .1 .1 .1 .1 .1 .1 .1 .1 .0))
-        (sym (c .enum-told .given .1)) ∙ c8 .lay-place .ensures)
+    (c8 .lay-place .last .1 .1 .1 .1 .1 .1 .1 .1 .1 .1 .0)
+    (ap (λ (x : NamesLaid). endNames x (c8 .lay-place .last .1 .1 .1 .1 .1 .1 .1 .1 .0) (c8 .lay-place .last .1 .1 .1 .1 .1 .1 .1 .1 .1 .1 .0))
+    (sym (c .enum-told .given .1)) ∙ c8 .lay-place .ensures)
 
 enum-known-r : tie.Need-enum-known-r Inv-loop μ-loop
 enum-known-r c = search needs
@@ -82,14 +82,13 @@ loop-again : tie.Need-loop-again Inv-loop μ-loop
 loop-again c =
     let c9 = c .before .before .before .before .before .before .before .before .before in
     let c13 = c9 .before .before .before .before in
-    let c23 = c13 .before .before .before .before .before .before .before .before .before .before in
-    (
-  turn-lays _ _ _ _ _ _ _ _ _ (c23 .pre) _ _ _ _ _ _ _ (c13 .before .loop .inv .0) (c13 .loop-test .taken) _ _ _ _
-      (c9 .lay-place .kept .1 .1 .1 .1 .1 .1 .1 .1 .0) (c9 .lay-place .kept .1 .1 .1 .1 .1 .1 .1 .1 .1 .1 .0)
-      (ap (λ (x : NamesLaid). endNames x (c9 .lay-place .last .1 .1 .1 .1 .1 .1 .1 .1 .0) (c9 .lay-place .last .1 .1 .1 .1 .1 .1 .1 .1 .1 .1 .0))
-      (sym (c .before .r .given .1)) ∙ c9 .lay-place .ensures),
-  c9 .lay-place .kept .1 .1 .1 .1 .1 .1 .1 .0 ∙ c13 .before .loop .inv .1,
-)
+    let c23 = c13 .before .before .before .before .before .before .before .before .before .before in (
+      turn-lays _ _ _ _ _ _ _ _ _ (c23 .pre) _ _ _ _ _ _ _ (c13 .before .loop .inv .0) (c13 .loop-test .taken) _ _ _ _
+          (c9 .lay-place .kept .1 .1 .1 .1 .1 .1 .1 .1 .0) (c9 .lay-place .kept .1 .1 .1 .1 .1 .1 .1 .1 .1 .1 .0)
+          (ap (λ (x : NamesLaid). endNames x (c9 .lay-place .last .1 .1 .1 .1 .1 .1 .1 .1 .0) (c9 .lay-place .last .1 .1 .1 .1 .1 .1 .1 .1 .1 .1 .0))
+          (sym (c .before .r .given .1)) ∙ c9 .lay-place .ensures),
+      c9 .lay-place .kept .1 .1 .1 .1 .1 .1 .1 .0 ∙ c13 .before .loop .inv .1,
+    )
 
 same-length-4 : tie.Need-same-length-4 Inv-loop μ-loop
 same-length-4 c = c .before .loop .inv .1

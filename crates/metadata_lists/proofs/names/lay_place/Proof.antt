@@ -30,7 +30,7 @@ lay-name-requires : tie.Need-lay-name-requires
 lay-name-requires c κs =
     let c14 = c .before .before .before .before .before .before .before .before .before .before .before .before .before .before in
     c14 .pre .5 (ap (λ (y : ℕ). getD (c14 .args .firsts .now) y 0)
-        (sym (c .before .before .before .before .wide .ensures ∙ c .before .before .before .before .before .name-at .ensures)) ∙ c .before .before .if1 .left)
+    (sym (c .before .before .before .before .wide .ensures ∙ c .before .before .before .before .before .name-at .ensures)) ∙ c .before .before .if1 .left)
 
 enum-told : tie.Need-enum-told
 enum-told c = search needs
@@ -42,7 +42,7 @@ sub-size : tie.Need-sub-size
 sub-size c =
     let c7 = c .before .before .before .before .before .before .before in
     (laid-bound _ _ _ _ _ _ (c7 .lay-name .last .1 .1 .1 .1 .1 .1 .1 .0) _ _
-        (ap (λ (x : WalkLaid). endedOf x (c7 .lay-name .last .1 .1 .1 .1 .1 .1 .1 .0)) (sym (c .before .walked .given .1)) ∙ c7 .lay-name .ensures)) .0
+    (ap (λ (x : WalkLaid). endedOf x (c7 .lay-name .last .1 .1 .1 .1 .1 .1 .1 .0)) (sym (c .before .walked .given .1)) ∙ c7 .lay-name .ensures)) .0
 
 put-mapping-requires : tie.Need-put-mapping-requires
 put-mapping-requires c κs =
@@ -50,16 +50,16 @@ put-mapping-requires c κs =
     let c13 = c8 .before .before .before .before .before in
     let c23 = c13 .before .before .before .before .before .before .before .before .before .before in
     let b = laid-bound _ _ _ _ _ _ (c8 .lay-name .last .1 .1 .1 .1 .1 .1 .1 .0) _ _
-            (ap (λ (x : WalkLaid). endedOf x (c8 .lay-name .last .1 .1 .1 .1 .1 .1 .1 .0)) (sym (c .before .before .walked .given .1)) ∙
-            c8 .lay-name .ensures) in
+    (ap (λ (x : WalkLaid). endedOf x (c8 .lay-name .last .1 .1 .1 .1 .1 .1 .1 .0)) (sym (c .before .before .walked .given .1)) ∙
+    c8 .lay-name .ensures) in
     let r = c23 .pre .5 (ap (λ (y : ℕ). getD (c23 .args .firsts .now) y 0) (sym (c13 .wide .ensures ∙ c13 .before .name-at .ensures)) ∙
-            c8 .before .before .before .if1 .left) .room in
+    c8 .before .before .before .if1 .left) .room in
     (omega (arith, c23 .pre .0), omega (arith, c23 .pre .4))
 
 add-t30 : tie.Need-add-t30
 add-t30 c =
     let c26 = c .before .before .before .before .before .before .before .before .before .before .before .before .before .before .before .before .before .before
-            .before .before .before .before .before .before .before .before in
+    .before .before .before .before .before .before .before .before in
     omega (arith, c26 .pre .0, c26 .good)
 
 same-length : tie.Need-same-length
@@ -74,8 +74,8 @@ returns-2 c =
     let c6 = c .before .before .before .before .before .before in
     let c12 = c6 .before .before .before .before .before .before in
     place-conflict _ _ _ _ _ _ _ _ _ (c6 .lay-name .last .1 .1 .1 .1 .1 .1 .1 .0) _ _
-        (c6 .before .before .before .before .before .wide .ensures ∙ c12 .name-at .ensures) (c6 .before .before .before .if1 .left)
-        (ap (λ (x : WalkLaid). endedOf x (c6 .lay-name .last .1 .1 .1 .1 .1 .1 .1 .0)) (sym (c .enum-told .given .1)) ∙ c6 .lay-name .ensures)
+    (c6 .before .before .before .before .before .wide .ensures ∙ c12 .name-at .ensures) (c6 .before .before .before .if1 .left)
+    (ap (λ (x : WalkLaid). endedOf x (c6 .lay-name .last .1 .1 .1 .1 .1 .1 .1 .0)) (sym (c .enum-told .given .1)) ∙ c6 .lay-name .ensures)
 
 same-length-3 : tie.Need-same-length-3
 same-length-3 c = search needs
@@ -94,9 +94,9 @@ returns-3 c =
     let c17 = c14 .before .before .before in
     let c26 = c17 .before .before .before .before .before .before .before .before .before in
     place-laid _ _ _ _ _ _ _ _ _ _ (c11 .lay-name .last .1 .1 .1 .1 .1 .1 .1 .0) _ _ _ _ (c17 .name-at .ensures)
-        (ap (λ (y : ℕ). getD (c26 .args .firsts .now) y 0) (sym (c14 .before .before .wide .ensures)) ∙ c14 .if1 .left)
-        (ap (λ (x : WalkLaid). endedOf x (c11 .lay-name .last .1 .1 .1 .1 .1 .1 .1 .0)) (sym (c .before .before .before .before .before .walked .given .1)) ∙
-        c11 .lay-name .ensures) refl (c .before .before .put-mapping .ensures)
+    (ap (λ (y : ℕ). getD (c26 .args .firsts .now) y 0) (sym (c14 .before .before .wide .ensures)) ∙ c14 .if1 .left)
+    (ap (λ (x : WalkLaid). endedOf x (c11 .lay-name .last .1 .1 .1 .1 .1 .1 .1 .0)) (sym (c .before .before .before .before .before .walked .given .1)) ∙
+    c11 .lay-name .ensures) refl (c .before .before .put-mapping .ensures)
 
 pub lay-place-spec : {M : Type 1} → statement M
 lay-place-spec =

@@ -21,8 +21,11 @@ metadata-fits-requires-2 c κs = c .before .before .before .before .before .pre 
 
 returns-3 : tie.Need-returns-3
 unfolding bothFit
-returns-3 c = rw (le-leb (c .before .before .before .before .before .before .args .names) 4096 (c .before .before .before .if1 .left), sym
-    (c .before .before .metadata-fits .ensures) ∙ not-false _ (c .before .if2 .left)) (c .metadata-fits2 .ensures)
+returns-3 c = rw (
+  le-leb (c .before .before .before .before .before .before .args .names) 4096 (c .before .before .before .if1 .left),
+  sym
+      (c .before .before .metadata-fits .ensures) ∙ not-false _ (c .before .if2 .left),
+) (c .metadata-fits2 .ensures)
 
 pub both-fit-spec : {M : Type 1} → statement M
 both-fit-spec =

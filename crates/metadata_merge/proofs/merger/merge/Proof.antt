@@ -37,10 +37,10 @@ returns-2 : tie.Need-returns-2
 returns-2 c =
     let a = c .before .before .before .before .before .before .before .before .before .before .before .before .before .before .before .before .before .args in
     merge-differs (a .names) (a .header) (lists (now (a .symbols)) (now (a .partial)) (now (a .not-found)) (now (a .mappings)) (now (a .intervals))) (a .added)
-        (lists (now (a .added-symbols)) (now (a .added-partial)) (now (a .added-not-found)) (now (a .added-mappings)) (now (a .added-intervals))) _
-        (both-fit-same _ _ _ _ _ (c .before .before .before .both-fit .ensures) (c .before .before .before .before .before .before .lengths-by .ensures)
-        (c .before .before .before .before .before .lengths-by2 .ensures)) (not-false _ (c .before .before .if1 .left)) _ (c .before .differs .ensures)
-        (c .if2 .taken)
+    (lists (now (a .added-symbols)) (now (a .added-partial)) (now (a .added-not-found)) (now (a .added-mappings)) (now (a .added-intervals))) _
+    (both-fit-same _ _ _ _ _ (c .before .before .before .both-fit .ensures) (c .before .before .before .before .before .before .lengths-by .ensures)
+    (c .before .before .before .before .before .lengths-by2 .ensures)) (not-false _ (c .before .before .if1 .left)) _ (c .before .differs .ensures)
+    (c .if2 .taken)
 
 slice-aggregate-outcome : tie.Need-slice-aggregate-outcome
 slice-aggregate-outcome c = search needs
@@ -63,10 +63,10 @@ outcome-requires c κs =
     let c15 = c12 .before .before .before in
     let a = c15 .before .before .before .before .before .before .before .before .before .before .before .before .args in
     both-plannable (a .names) (a .header) (lists (now (a .symbols)) (now (a .partial)) (now (a .not-found)) (now (a .mappings)) (now (a .intervals))) (a .added)
-        (lists (now (a .added-symbols)) (now (a .added-partial)) (now (a .added-not-found)) (now (a .added-mappings)) (now (a .added-intervals))) _
-        (both-fit-same _ _ _ _ _ (c12 .before .both-fit .ensures) (c15 .before .lengths-by .ensures) (c15 .lengths-by2 .ensures)) (not-false _ (c12 .if1 .left))
-        _ (c15 .before .lengths-by .ensures) _ _ _ _ _ (length-replicate {A = ℕ} 8192 0) (length-replicate {A = ℕ} 8192 0) (length-replicate {A = ℕ} 8192 0)
-        (length-replicate {A = ℕ} 16384 0) (length-replicate {A = ℕ} 393216 0)
+    (lists (now (a .added-symbols)) (now (a .added-partial)) (now (a .added-not-found)) (now (a .added-mappings)) (now (a .added-intervals))) _
+    (both-fit-same _ _ _ _ _ (c12 .before .both-fit .ensures) (c15 .before .lengths-by .ensures) (c15 .lengths-by2 .ensures)) (not-false _ (c12 .if1 .left))
+    _ (c15 .before .lengths-by .ensures) _ _ _ _ _ (length-replicate {A = ℕ} 8192 0) (length-replicate {A = ℕ} 8192 0) (length-replicate {A = ℕ} 8192 0)
+    (length-replicate {A = ℕ} 16384 0) (length-replicate {A = ℕ} 393216 0)
 
 enum-known-verdict : tie.Need-enum-known-verdict
 enum-known-verdict c = search needs
@@ -77,14 +77,14 @@ enum-known-verdict-2 c = search needs
 total-requires : tie.Need-total-requires
 total-requires c κs =
     let c22 = c .before .before .before .before .before .before .before .before .before .before .before .before .before .before .before .before .before .before
-            .before .before .before .before in
+    .before .before .before .before in
     let c25 = c22 .before .before .before in
     let args = c25 .before .before .before .before .before .before .before .before .before .before .before .before .args in
     let f = left-facts (args .names) (args .header) (lists (now (args .symbols)) (now (args .partial)) (now (args .not-found)) (now (args .mappings))
-            (now (args .intervals))) (args .added) (lists (now (args .added-symbols)) (now (args .added-partial)) (now (args .added-not-found))
-            (now (args .added-mappings)) (now (args .added-intervals))) _
-            (both-fit-same _ _ _ _ _ (c22 .before .both-fit .ensures) (c25 .before .lengths-by .ensures) (c25 .lengths-by2 .ensures))
-            (not-false _ (c22 .if1 .left)) .fit in let a = f .maps-lent in let b = f .maps-used in (b, omega arith)
+    (now (args .intervals))) (args .added) (lists (now (args .added-symbols)) (now (args .added-partial)) (now (args .added-not-found))
+    (now (args .added-mappings)) (now (args .added-intervals))) _
+    (both-fit-same _ _ _ _ _ (c22 .before .both-fit .ensures) (c25 .before .lengths-by .ensures) (c25 .lengths-by2 .ensures))
+    (not-false _ (c22 .if1 .left)) .fit in let a = f .maps-lent in let b = f .maps-used in (b, omega arith)
 
 slice-aggregate-commit : tie.Need-slice-aggregate-commit
 slice-aggregate-commit c = search needs
@@ -110,15 +110,15 @@ commit-requires c κs =
     let c37 = c34 .before .before .before in
     let a = c37 .before .before .before .before .before .before .before .before .before .before .before .args in
     merge-commit (a .names) (a .header) (lists (now (a .symbols)) (now (a .partial)) (now (a .not-found)) (now (a .mappings)) (now (a .intervals))) (a .added)
-        (lists (now (a .added-symbols)) (now (a .added-partial)) (now (a .added-not-found)) (now (a .added-mappings)) (now (a .added-intervals))) _
-        (both-fit-same _ _ _ _ _ (c34 .both-fit .ensures) (c37 .lengths-by .ensures) (c34 .before .before .lengths-by2 .ensures))
-        (not-false _ (c31 .before .before .if1 .left)) _ (c31 .before .differs .ensures) (c31 .if2 .left) _ _ _ _ _ _ (c20 .outcome .ensures) _
-        (c13 .verdict2 .given .1) _ (c .before .before .before .before .before .before .before .before .before .before .total .ensures) _ refl
-        (c20 .outcome .kept .1 .1 .1 .1 .1 .1 .1 .1 .1 .1 .1 .1 .1 .1 .0 ∙ (length-replicate {A = ℕ} 8192 0))
-        (c20 .outcome .kept .1 .1 .1 .1 .1 .1 .1 .1 .1 .1 .1 .1 .1 .1 .1 .0 ∙ (length-replicate {A = ℕ} 8192 0))
-        (c20 .outcome .kept .1 .1 .1 .1 .1 .1 .1 .1 .1 .1 .1 .1 .1 .1 .1 .1 .0 ∙ (length-replicate {A = ℕ} 8192 0))
-        (c20 .outcome .kept .1 .1 .1 .1 .1 .1 .1 .1 .1 .1 .1 .1 .1 .1 .1 .1 .1 .0 ∙ (length-replicate {A = ℕ} 16384 0))
-        (c20 .outcome .kept .1 .1 .1 .1 .1 .1 .1 .1 .1 .1 .1 .1 .1 .1 .1 .1 .1 .1 .0 ∙ (length-replicate {A = ℕ} 393216 0))
+    (lists (now (a .added-symbols)) (now (a .added-partial)) (now (a .added-not-found)) (now (a .added-mappings)) (now (a .added-intervals))) _
+    (both-fit-same _ _ _ _ _ (c34 .both-fit .ensures) (c37 .lengths-by .ensures) (c34 .before .before .lengths-by2 .ensures))
+    (not-false _ (c31 .before .before .if1 .left)) _ (c31 .before .differs .ensures) (c31 .if2 .left) _ _ _ _ _ _ (c20 .outcome .ensures) _
+    (c13 .verdict2 .given .1) _ (c .before .before .before .before .before .before .before .before .before .before .total .ensures) _ refl
+    (c20 .outcome .kept .1 .1 .1 .1 .1 .1 .1 .1 .1 .1 .1 .1 .1 .1 .0 ∙ (length-replicate {A = ℕ} 8192 0))
+    (c20 .outcome .kept .1 .1 .1 .1 .1 .1 .1 .1 .1 .1 .1 .1 .1 .1 .1 .0 ∙ (length-replicate {A = ℕ} 8192 0))
+    (c20 .outcome .kept .1 .1 .1 .1 .1 .1 .1 .1 .1 .1 .1 .1 .1 .1 .1 .1 .0 ∙ (length-replicate {A = ℕ} 8192 0))
+    (c20 .outcome .kept .1 .1 .1 .1 .1 .1 .1 .1 .1 .1 .1 .1 .1 .1 .1 .1 .1 .0 ∙ (length-replicate {A = ℕ} 16384 0))
+    (c20 .outcome .kept .1 .1 .1 .1 .1 .1 .1 .1 .1 .1 .1 .1 .1 .1 .1 .1 .1 .1 .0 ∙ (length-replicate {A = ℕ} 393216 0))
 
 merged-header-requires : tie.Need-merged-header-requires
 merged-header-requires c κs = tt
@@ -141,15 +141,15 @@ same-length-7 c = refl
 returns-3 : tie.Need-returns-3
 returns-3 c =
     let c19 = c .before .before .before .before .before .before .before .before .before .before .before .before .before .before .before .before .before .before
-            .before in
+    .before in
     let c22 = c19 .before .before .before in
     let c25 = c22 .before .before .before in
     let a = c25 .before .before .before .before .before .before .before .before .before .before .before .args in
     merge-refuses (a .names) (a .header) (lists (now (a .symbols)) (now (a .partial)) (now (a .not-found)) (now (a .mappings)) (now (a .intervals))) (a .added)
-        (lists (now (a .added-symbols)) (now (a .added-partial)) (now (a .added-not-found)) (now (a .added-mappings)) (now (a .added-intervals))) _
-        (both-fit-same _ _ _ _ _ (c22 .both-fit .ensures) (c25 .lengths-by .ensures) (c22 .before .before .lengths-by2 .ensures))
-        (not-false _ (c19 .before .before .if1 .left)) _ (c19 .before .differs .ensures) (c19 .if2 .left) _ _ _ _ _ _
-        (c .before .before .before .before .before .before .before .before .outcome .ensures) _ (c .before .verdict .given .1)
+    (lists (now (a .added-symbols)) (now (a .added-partial)) (now (a .added-not-found)) (now (a .added-mappings)) (now (a .added-intervals))) _
+    (both-fit-same _ _ _ _ _ (c22 .both-fit .ensures) (c25 .lengths-by .ensures) (c22 .before .before .lengths-by2 .ensures))
+    (not-false _ (c19 .before .before .if1 .left)) _ (c19 .before .differs .ensures) (c19 .if2 .left) _ _ _ _ _ _
+    (c .before .before .before .before .before .before .before .before .outcome .ensures) _ (c .before .verdict .given .1)
 
 same-length-8 : tie.Need-same-length-8
 same-length-8 c = c .before .before .before .before .before .before .before .before .before .before .before .commit .kept .0
@@ -169,7 +169,7 @@ same-length-12 c = c .before .before .before .before .before .before .before .be
 returns-4 : tie.Need-returns-4
 returns-4 c =
     let c22 = c .before .before .before .before .before .before .before .before .before .before .before .before .before .before .before .before .before .before
-            .before .before .before .before in
+    .before .before .before .before in
     let c25 = c22 .before .before .before in
     let c32 = c25 .before .before .before .before .before .before .before in
     let c43 = c32 .before .before .before .before .before .before .before .before .before .before .before in
@@ -177,11 +177,11 @@ returns-4 c =
     let c49 = c46 .before .before .before in
     let a = c49 .before .before .before .before .before .before .before .before .before .before .before .args in
     merge-done (a .names) (a .header) (lists (now (a .symbols)) (now (a .partial)) (now (a .not-found)) (now (a .mappings)) (now (a .intervals))) (a .added)
-        (lists (now (a .added-symbols)) (now (a .added-partial)) (now (a .added-not-found)) (now (a .added-mappings)) (now (a .added-intervals))) _
-        (both-fit-same _ _ _ _ _ (c46 .both-fit .ensures) (c49 .lengths-by .ensures) (c46 .before .before .lengths-by2 .ensures))
-        (not-false _ (c43 .before .before .if1 .left)) _ (c43 .before .differs .ensures) (c43 .if2 .left) _ _ _ _ _ _ (c32 .outcome .ensures) _
-        (c25 .verdict2 .given .1) _ (c22 .total .ensures) _
-        (c .before .before .before .before .before .before .before .before .before .before .before .commit .ensures) _ (c .merged-header .ensures)
+    (lists (now (a .added-symbols)) (now (a .added-partial)) (now (a .added-not-found)) (now (a .added-mappings)) (now (a .added-intervals))) _
+    (both-fit-same _ _ _ _ _ (c46 .both-fit .ensures) (c49 .lengths-by .ensures) (c46 .before .before .lengths-by2 .ensures))
+    (not-false _ (c43 .before .before .if1 .left)) _ (c43 .before .differs .ensures) (c43 .if2 .left) _ _ _ _ _ _ (c32 .outcome .ensures) _
+    (c25 .verdict2 .given .1) _ (c22 .total .ensures) _
+    (c .before .before .before .before .before .before .before .before .before .before .before .commit .ensures) _ (c .merged-header .ensures)
 
 pub merge-spec : {M : Type 1} → statement M
 merge-spec =

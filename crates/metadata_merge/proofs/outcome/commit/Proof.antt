@@ -14,43 +14,43 @@ lay-over-requires-2 c κs = let f = c .before .before .before .before .before .b
 lay-over-requires-3 : tie.Need-lay-over-requires-3
 lay-over-requires-3 c κs =
     let c19 = c .before .before .before .before .before .before .before .before .before .before .before .before .before .before .before .before .before .before
-            .before in
+    .before in
     let f = c19 .pre .not-found in (f .used-lent, f .new-lent, f .new-held)
 
 mul-lay-over : tie.Need-mul-lay-over
 mul-lay-over c =
     let c24 = c .before .before .before .before .before .before .before .before .before .before .before .before .before .before .before .before .before .before
-            .before .before .before .before .before .before in
+    .before .before .before .before .before .before in
     let f = c24 .pre .mappings in let a = f .used-lent in omega (arith, c24 .good .1 .1 .1 .0)
 
 mul-lay-over-2 : tie.Need-mul-lay-over-2
 mul-lay-over-2 c =
     let c25 = c .before .before .before .before .before .before .before .before .before .before .before .before .before .before .before .before .before .before
-            .before .before .before .before .before .before .before in
+    .before .before .before .before .before .before .before in
     let f = c25 .pre .mappings in let a = f .new-lent in omega (arith, c25 .good .1 .1 .1 .0)
 
 lay-over-requires-4 : tie.Need-lay-over-requires-4
 lay-over-requires-4 c κs =
     let c25 = c .before .before .before .before .before .before .before .before .before .before .before .before .before .before .before .before .before .before
-            .before .before .before .before .before .before .before in
+    .before .before .before .before .before .before .before in
     let f = c25 .pre .mappings in (f .used-lent, f .new-lent, f .new-held)
 
 mul-lay-over-3 : tie.Need-mul-lay-over-3
 mul-lay-over-3 c =
     let c29 = c .before .before .before .before .before .before .before .before .before .before .before .before .before .before .before .before .before .before
-            .before .before .before .before .before .before .before .before .before .before .before in
+    .before .before .before .before .before .before .before .before .before .before .before in
     let f = c29 .pre .intervals in let a = f .used-lent in omega (arith, c29 .good .1 .1 .1 .1 .0)
 
 mul-lay-over-4 : tie.Need-mul-lay-over-4
 mul-lay-over-4 c =
     let c30 = c .before .before .before .before .before .before .before .before .before .before .before .before .before .before .before .before .before .before
-            .before .before .before .before .before .before .before .before .before .before .before .before in
+    .before .before .before .before .before .before .before .before .before .before .before .before in
     let f = c30 .pre .intervals in let a = f .new-lent in omega (arith, c30 .good .1 .1 .1 .1 .0)
 
 lay-over-requires-5 : tie.Need-lay-over-requires-5
 lay-over-requires-5 c κs =
     let c30 = c .before .before .before .before .before .before .before .before .before .before .before .before .before .before .before .before .before .before
-            .before .before .before .before .before .before .before .before .before .before .before .before in
+    .before .before .before .before .before .before .before .before .before .before .before .before in
     let f = c30 .pre .intervals in (f .used-lent, f .new-lent, f .new-held)
 
 same-length : tie.Need-same-length
@@ -74,7 +74,7 @@ returns c =
     let c17 = c13 .before .before .before .before in
     let c21 = c17 .before .before .before .before in
     lists-same (c21 .lay-over .ensures) (c17 .lay-over2 .ensures) (c13 .lay-over3 .ensures)
-        (c .before .before .before .before .before .before .before .lay-over4 .ensures) (c .before .before .lay-over5 .ensures)
+    (c .before .before .before .before .before .before .before .lay-over4 .ensures) (c .before .before .lay-over5 .ensures)
 
 pub commit-spec : {M : Type 1} → statement M
 commit-spec =

@@ -14,7 +14,7 @@ unite-requires-2 c κs = set-b _ _ _ _ _ _ _ _ _ _ _ (c .before .before .before 
 unite-requires-3 : tie.Need-unite-requires-3
 unite-requires-3 c κs =
     let c24 = c .before .before .before .before .before .before .before .before .before .before .before .before .before .before .before .before .before .before
-            .before .before .before .before .before .before in
+    .before .before .before .before .before .before in
     set-c _ _ _ _ _ _ _ _ _ _ _ (c24 .pre)
 
 rest-known-requires : tie.Need-rest-known-requires
@@ -23,7 +23,7 @@ rest-known-requires c κs = tt
 plan-requires : tie.Need-plan-requires
 plan-requires c κs =
     let c30 = c .before .before .before .before .before .before .before .before .before .before .before .before .before .before .before .before .before .before
-            .before .before .before .before .before .before .before .before .before .before .before .before in
+    .before .before .before .before .before .before .before .before .before .before .before .before in
     planable _ _ _ _ _ _ _ _ _ _ _ (c30 .pre)
 
 decide-requires : tie.Need-decide-requires
@@ -51,9 +51,9 @@ returns c =
     let c36 = c19 .before .before .before .before .before .before .before .before .before .before .before .before .before .before .before .before .before in
     let a = c36 .args in
     outcomes _ _ _ _ _ _ (now (a .out-mappings)) (now (a .out-intervals)) _ _ _ (c36 .pre) _ _ _ (c19 .unite .ensures) _ _ _ (c15 .unite2 .ensures) _ _ _
-        (c .before .before .before .before .before .before .before .before .before .before .before .unite3 .ensures) _
-        (c .before .before .before .before .before .before .before .before .rest-known .ensures) _ _ _
-        (c .before .before .before .before .before .plan .ensures) _ (c .decide .ensures)
+    (c .before .before .before .before .before .before .before .before .before .before .before .unite3 .ensures) _
+    (c .before .before .before .before .before .before .before .before .rest-known .ensures) _ _ _
+    (c .before .before .before .before .before .plan .ensures) _ (c .decide .ensures)
 
 pub outcome-spec : {M : Type 1} → statement M
 outcome-spec =

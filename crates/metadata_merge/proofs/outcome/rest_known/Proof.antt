@@ -21,31 +21,48 @@ returns-2 : tie.Need-returns-2
 unfolding restOf
 returns-2 c =
     let a = c .before .before .before .before .args in
-    rw (lt-ltb (a .header .dataset) (a .names) (let e = c .before .before .before .wide .ensures in omega arith), le-ltb (a .added .dataset) (a .names)
-        (let e = c .before .wide2 .ensures in omega arith)) refl
+    rw (
+      lt-ltb (a .header .dataset) (a .names) (let e = c .before .before .before .wide .ensures in omega arith),
+      le-ltb (a .added .dataset) (a .names)
+          (let e = c .before .wide2 .ensures in omega arith),
+    ) refl
 
 returns-3 : tie.Need-returns-3
 unfolding restOf
 returns-3 c =
     let a = c .before .before .before .before .before .args in
-    rw (lt-ltb (a .header .dataset) (a .names) (let e = c .before .before .before .before .wide .ensures in omega arith), lt-ltb (a .added .dataset) (a .names)
-        (let e = c .before .before .wide2 .ensures in omega arith), not-true (a .symbols-known) (c .if3 .taken)) refl
+    rw (
+      lt-ltb (a .header .dataset) (a .names) (let e = c .before .before .before .before .wide .ensures in omega arith),
+      lt-ltb (a .added .dataset) (a .names)
+          (let e = c .before .before .wide2 .ensures in omega arith),
+      not-true (a .symbols-known) (c .if3 .taken),
+    ) refl
 
 returns-4 : tie.Need-returns-4
 unfolding restOf
 returns-4 c =
     let a = c .before .before .before .before .before .before .args in
-    rw (lt-ltb (a .header .dataset) (a .names) (let e = c .before .before .before .before .before .wide .ensures in omega arith), lt-ltb (a .added .dataset)
-        (a .names) (let e = c .before .before .before .wide2 .ensures in omega arith), not-false (a .symbols-known) (c .before .if3 .left), not-true
-        (a .partial-known) (c .if4 .taken)) refl
+    rw (
+      lt-ltb (a .header .dataset) (a .names) (let e = c .before .before .before .before .before .wide .ensures in omega arith),
+      lt-ltb (a .added .dataset)
+          (a .names) (let e = c .before .before .before .wide2 .ensures in omega arith),
+      not-false (a .symbols-known) (c .before .if3 .left),
+      not-true
+          (a .partial-known) (c .if4 .taken),
+    ) refl
 
 returns-5 : tie.Need-returns-5
 unfolding restOf
 returns-5 c =
     let a = c .before .before .before .before .before .before .args in
-    rw (lt-ltb (a .header .dataset) (a .names) (let e = c .before .before .before .before .before .wide .ensures in omega arith), lt-ltb (a .added .dataset)
-        (a .names) (let e = c .before .before .before .wide2 .ensures in omega arith), not-false (a .symbols-known) (c .before .if3 .left), not-false
-        (a .partial-known) (c .if4 .left)) refl
+    rw (
+      lt-ltb (a .header .dataset) (a .names) (let e = c .before .before .before .before .before .wide .ensures in omega arith),
+      lt-ltb (a .added .dataset)
+          (a .names) (let e = c .before .before .before .wide2 .ensures in omega arith),
+      not-false (a .symbols-known) (c .before .if3 .left),
+      not-false
+          (a .partial-known) (c .if4 .left),
+    ) refl
 
 pub rest-known-spec : {M : Type 1} → statement M
 rest-known-spec =

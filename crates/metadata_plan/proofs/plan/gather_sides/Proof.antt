@@ -19,15 +19,15 @@ follow-requires c κs =
     let c15 = c6 .before .before .before .before .before .before .before .before .before in
     let a = c15 .args in
     right-sound _ _ _ _ _ _ (now (a .both-mappings)) (now (a .both-intervals)) (c15 .pre) _ _ _ _ (c6 .lose-repeats .ensures) _ _
-        (c6 .lose-repeats .kept .1 .1 .1 .0) (c6 .lose-repeats .kept .1 .1 .1 .1 .0)
+    (c6 .lose-repeats .kept .1 .1 .1 .0) (c6 .lose-repeats .kept .1 .1 .1 .1 .0)
 
 add-t21 : tie.Need-add-t21
 add-t21 c =
     let c20 = c .before .before .before .before .before .before .before .before .before .before .before .before .before .before .before .before .before .before
-            .before .before in
+    .before .before in
     let args = c20 .args in
     let a = q-small _ _ _ _ _ _ (now (args .both-mappings)) (now (args .both-intervals)) (c20 .pre) _ _ _ _
-            (c .before .before .before .before .before .before .before .before .before .before .before .lose-repeats .ensures) in omega arith
+    (c .before .before .before .before .before .before .before .before .before .before .before .lose-repeats .ensures) in omega arith
 
 same-length : tie.Need-same-length
 same-length c = search needs
@@ -38,11 +38,11 @@ same-length-2 c = search needs
 returns : tie.Need-returns
 returns c =
     let c20 = c .before .before .before .before .before .before .before .before .before .before .before .before .before .before .before .before .before .before
-            .before .before in
+    .before .before in
     let a = c20 .args in
     both-stand _ _ _ _ _ _ (now (a .both-mappings)) (now (a .both-intervals)) (c20 .pre) _ _ _ _
-        (c .before .before .before .before .before .before .before .before .before .before .before .lose-repeats .ensures) _ _ _
-        (c .before .before .before .before .follow .ensures)
+    (c .before .before .before .before .before .before .before .before .before .before .before .lose-repeats .ensures) _ _ _
+    (c .before .before .before .before .follow .ensures)
 
 pub gather-sides-spec : {M : Type 1} → statement M
 gather-sides-spec =

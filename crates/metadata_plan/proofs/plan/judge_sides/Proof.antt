@@ -22,40 +22,61 @@ names-known-requires c κs = search needs
 
 returns-3 : tie.Need-returns-3
 unfolding faultFlat
-returns-3 c = rw (sym (c .before .before .before .before .dates-known .ensures) ∙ not-false _ (c .before .before .before .if1 .left), not-false
-    (c .before .before .before .before .before .before .before .args .rest) (c .before .before .if2 .left), sym (c .before .names-known .ensures) ∙ not-true _
-    (c .if3 .taken)) refl
+returns-3 c = rw (
+  sym (c .before .before .before .before .dates-known .ensures) ∙ not-false _ (c .before .before .before .if1 .left),
+  not-false
+      (c .before .before .before .before .before .before .before .args .rest) (c .before .before .if2 .left),
+  sym (c .before .names-known .ensures) ∙ not-true _
+      (c .if3 .taken),
+) refl
 
 symbols-known-requires : tie.Need-symbols-known-requires
 symbols-known-requires c κs = search needs
 
 returns-4 : tie.Need-returns-4
 unfolding faultFlat
-returns-4 c = rw (sym (c .before .before .before .before .before .before .dates-known .ensures) ∙ not-false _
-    (c .before .before .before .before .before .if1 .left), not-false (c .before .before .before .before .before .before .before .before .before .args .rest)
-    (c .before .before .before .before .if2 .left), sym (c .before .before .before .names-known .ensures) ∙ not-false _ (c .before .before .if3 .left), sym
-    (c .before .symbols-known .ensures) ∙ not-true _ (c .if4 .taken)) refl
+returns-4 c = rw (
+  sym (c .before .before .before .before .before .before .dates-known .ensures) ∙ not-false _
+      (c .before .before .before .before .before .if1 .left),
+  not-false (c .before .before .before .before .before .before .before .before .before .args .rest)
+      (c .before .before .before .before .if2 .left),
+  sym (c .before .before .before .names-known .ensures) ∙ not-false _ (c .before .before .if3 .left),
+  sym
+      (c .before .symbols-known .ensures) ∙ not-true _ (c .if4 .taken),
+) refl
 
 forwards-requires : tie.Need-forwards-requires
 forwards-requires c κs = search needs
 
 returns-5 : tie.Need-returns-5
 unfolding faultFlat
-returns-5 c = rw (sym (c .before .before .before .before .before .before .before .before .dates-known .ensures) ∙ not-false _
-    (c .before .before .before .before .before .before .before .if1 .left), not-false
-    (c .before .before .before .before .before .before .before .before .before .before .before .args .rest)
-    (c .before .before .before .before .before .before .if2 .left), sym (c .before .before .before .before .before .names-known .ensures) ∙ not-false _
-    (c .before .before .before .before .if3 .left), sym (c .before .before .before .symbols-known .ensures) ∙ not-false _ (c .before .before .if4 .left), sym
-    (c .before .forwards .ensures) ∙ not-true _ (c .if5 .taken)) refl
+returns-5 c = rw (
+  sym (c .before .before .before .before .before .before .before .before .dates-known .ensures) ∙ not-false _
+      (c .before .before .before .before .before .before .before .if1 .left),
+  not-false
+      (c .before .before .before .before .before .before .before .before .before .before .before .args .rest)
+      (c .before .before .before .before .before .before .if2 .left),
+  sym (c .before .before .before .before .before .names-known .ensures) ∙ not-false _
+      (c .before .before .before .before .if3 .left),
+  sym (c .before .before .before .symbols-known .ensures) ∙ not-false _ (c .before .before .if4 .left),
+  sym
+      (c .before .forwards .ensures) ∙ not-true _ (c .if5 .taken),
+) refl
 
 returns-6 : tie.Need-returns-6
 unfolding faultFlat
-returns-6 c = rw (sym (c .before .before .before .before .before .before .before .before .dates-known .ensures) ∙ not-false _
-    (c .before .before .before .before .before .before .before .if1 .left), not-false
-    (c .before .before .before .before .before .before .before .before .before .before .before .args .rest)
-    (c .before .before .before .before .before .before .if2 .left), sym (c .before .before .before .before .before .names-known .ensures) ∙ not-false _
-    (c .before .before .before .before .if3 .left), sym (c .before .before .before .symbols-known .ensures) ∙ not-false _ (c .before .before .if4 .left), sym
-    (c .before .forwards .ensures) ∙ not-false _ (c .if5 .left)) refl
+returns-6 c = rw (
+  sym (c .before .before .before .before .before .before .before .before .dates-known .ensures) ∙ not-false _
+      (c .before .before .before .before .before .before .before .if1 .left),
+  not-false
+      (c .before .before .before .before .before .before .before .before .before .before .before .args .rest)
+      (c .before .before .before .before .before .before .if2 .left),
+  sym (c .before .before .before .before .before .names-known .ensures) ∙ not-false _
+      (c .before .before .before .before .if3 .left),
+  sym (c .before .before .before .symbols-known .ensures) ∙ not-false _ (c .before .before .if4 .left),
+  sym
+      (c .before .forwards .ensures) ∙ not-false _ (c .if5 .left),
+) refl
 
 pub judge-sides-spec : {M : Type 1} → statement M
 judge-sides-spec =

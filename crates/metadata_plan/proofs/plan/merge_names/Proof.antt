@@ -25,9 +25,13 @@ slice-aggregate-link-2 c = search needs
 link-requires : tie.Need-link-requires
 link-requires c κs =
     let c10 = c .before .before .before .before .before .before .before .before .before .before in
-    let args = c10 .args in
-    (c10 .pre .words, omega (arith, c10 .pre .count), λ t h. let a = c10 .pre .names t h in omega arith, full (args .count) 4096 (replicate 4096 (args .count))
-        refl)
+    let args = c10 .args in (
+      c10 .pre .words,
+      omega (arith, c10 .pre .count),
+      λ t h. let a = c10 .pre .names t h in omega arith,
+      full (args .count) 4096 (replicate 4096 (args .count))
+          refl,
+    )
 
 slice-aggregate-lay-names : tie.Need-slice-aggregate-lay-names
 slice-aggregate-lay-names c = search needs
@@ -43,7 +47,7 @@ lay-names-requires c κs =
     let c12 = c .before .before .before .before .before .before .before .before .before .before .before .before in
     let c19 = c12 .before .before .before .before .before .before .before in
     all-ready _ _ _ _ _ _ (c19 .pre) _ _ _ (c12 .offsets .ensures .1) (c .before .before .before .before .before .before .before .before .link .ensures)
-        (omega (arith, c19 .pre .count)) (omega (arith, c19 .pre .count)) (omega arith)
+    (omega (arith, c19 .pre .count)) (omega (arith, c19 .pre .count)) (omega arith)
 
 same-length : tie.Need-same-length
 same-length c = search needs
@@ -61,8 +65,8 @@ returns c =
     let c26 = c19 .before .before .before .before .before .before .before in
     let a = c26 .args in
     c .before .before .before .before .before .before .lay-names .ensures ∙ ap (finishNames (now (a .out-mappings)) 0 (now (a .out-intervals)) 0)
-        (all-by-name _ _ _ _ _ _ (c26 .pre) _ _ _ (c19 .offsets .ensures .1) (c15 .link .ensures) (omega (arith, c26 .pre .count))
-        (omega (arith, c26 .pre .count)) (omega arith))
+    (all-by-name _ _ _ _ _ _ (c26 .pre) _ _ _ (c19 .offsets .ensures .1) (c15 .link .ensures) (omega (arith, c26 .pre .count))
+    (omega (arith, c26 .pre .count)) (omega arith))
 
 pub merge-names-spec : {M : Type 1} → statement M
 merge-names-spec =

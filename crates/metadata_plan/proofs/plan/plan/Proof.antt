@@ -42,10 +42,10 @@ slice-aggregate-merge-names-3 c = search needs
 merge-names-requires : tie.Need-merge-names-requires
 merge-names-requires c κs =
     let c20 = c .before .before .before .before .before .before .before .before .before .before .before .before .before .before .before .before .before .before
-            .before .before in
+    .before .before in
     plan-linkable _ _ _ _ _ _ _ _ _ (c20 .pre) _ _ _ _ (c .before .before .before .before .before .before .before .before .before .before
-        .before .gather-sides .ensures) _ _ (c .before .before .before .before .before .before .judge-sides .ensures)
-        (c .before .before .before .before .before .if1 .left) _ (length-replicate {A = ℕ} 393216 0)
+    .before .gather-sides .ensures) _ _ (c .before .before .before .before .before .before .judge-sides .ensures)
+    (c .before .before .before .before .before .if1 .left) _ (length-replicate {A = ℕ} 393216 0)
 
 enum-told : tie.Need-enum-told
 enum-told c = search needs
@@ -65,7 +65,7 @@ returns-2 c =
     let c13 = c .before .before .before .before .before .before .before .before .before .before .before .before .before in
     let c19 = c13 .before .before .before .before .before .before in
     plan-laid _ _ _ _ _ (c19 .gather-sides .ensures) _ _ _ _ _ _ _ _ _ (c13 .before .judge-sides .ensures) (c13 .if1 .left)
-        (c .before .before .before .before .before .before .before .merge-names .ensures) (c .enum-told .given .1)
+    (c .before .before .before .before .before .before .before .merge-names .ensures) (c .enum-told .given .1)
 
 same-length-3 : tie.Need-same-length-3
 same-length-3 c = search needs
@@ -79,7 +79,7 @@ returns-3 c =
     let c14 = c .before .before .before .before .before .before .before .before .before .before .before .before .before .before in
     let c20 = c14 .before .before .before .before .before .before in
     plan-laid _ _ _ _ _ (c20 .gather-sides .ensures) _ _ _ _ _ _ _ _ _ (c14 .before .judge-sides .ensures) (c14 .if1 .left)
-        (c .before .before .before .before .before .before .before .before .merge-names .ensures) (c .before .merged .given .1)
+    (c .before .before .before .before .before .before .before .before .merge-names .ensures) (c .before .merged .given .1)
 
 pub plan-spec : {M : Type 1} → statement M
 plan-spec =

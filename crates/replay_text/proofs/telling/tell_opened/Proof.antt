@@ -22,13 +22,13 @@ enum-known-opening c = search needs
 steps-requires : tie.Need-steps-requires
 steps-requires c κs =
     let c19 = c .before .before .before .before .before .before .before .before .before .before .before .before .before .before .before .before .before .before
-            .before in
+    .before in
     let c34 = c19 .before .before .before .before .before .before .before .before .before .before .before .before .before .before .before in
     let o = c19 .open-by in
     let m = c34 .pre in
     let e = opening-held m (ap openingOf (sym (c .before .before .before .before .before .before .before .opening .given .1)) ∙ o .ensures .0) in
     opened-ready m (o .ensures .1 (m .right)) e (o .kept .1 .1 .1 .1 .0) (o .kept .1 .1 .1 .1 .1 .0) (o .kept .1 .1 .1 .1 .1 .1 .0)
-        (o .kept .1 .1 .1 .1 .1 .1 .1 .0) (o .kept .1 .1 .1 .1 .1 .1 .1 .1 .0)
+    (o .kept .1 .1 .1 .1 .1 .1 .1 .0) (o .kept .1 .1 .1 .1 .1 .1 .1 .1 .0)
 
 enum-told : tie.Need-enum-told
 enum-told c = search needs
@@ -55,7 +55,7 @@ returns : tie.Need-returns
 returns c =
     let c12 = c .before .before .before .before .before .before .before .before .before .before .before .before in
     let c32 = c12 .before .before .before .before .before .before .before .before .before .before .before .before .before .before .before .before .before
-            .before .before .before in
+    .before .before .before in
     let c47 = c32 .before .before .before .before .before .before .before .before .before .before .before .before .before .before .before in
     let m = c47 .pre in
     rw (sym (opened-starts m (c32 .open-by .ensures .1 (m .right)))) (c12 .steps .ensures)

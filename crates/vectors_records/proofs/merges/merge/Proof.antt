@@ -25,47 +25,47 @@ print-refusal-requires c κs = search needs
 same-length : tie.Need-same-length
 same-length c =
     let c26 = c .before .before .before .before .before .before .before .before .before .before .before .before .before .before .before .before .before .before
-            .before .before .before .before .before .before .before .before in
+    .before .before .before .before .before .before .before .before in
     let c45 = c26 .before .before .before .before .before .before .before .before .before .before .before .before .before .before .before .before .before
-            .before .before in
+    .before .before in
     c .before .before .before .before .before .before .before .before .before .before .call .kept .1 .1 .1 .0 ∙ c26 .to-end .kept .1 .1 .1 .0 ∙
-        c45 .«open» .kept .1 .1 .1 .0
+    c45 .«open» .kept .1 .1 .1 .0
 
 same-length-2 : tie.Need-same-length-2
 same-length-2 c =
     let c26 = c .before .before .before .before .before .before .before .before .before .before .before .before .before .before .before .before .before .before
-            .before .before .before .before .before .before .before .before in
+    .before .before .before .before .before .before .before .before in
     let c45 = c26 .before .before .before .before .before .before .before .before .before .before .before .before .before .before .before .before .before
-            .before .before in
+    .before .before in
     c .before .before .before .before .before .before .before .before .before .before .call .kept .1 .1 .1 .1 .0 ∙ c26 .to-end .kept .1 .1 .1 .1 .0 ∙
-        c45 .«open» .kept .1 .1 .1 .1 .0
+    c45 .«open» .kept .1 .1 .1 .1 .0
 
 same-length-3 : tie.Need-same-length-3
 same-length-3 c =
     let c26 = c .before .before .before .before .before .before .before .before .before .before .before .before .before .before .before .before .before .before
-            .before .before .before .before .before .before .before .before in
+    .before .before .before .before .before .before .before .before in
     let c45 = c26 .before .before .before .before .before .before .before .before .before .before .before .before .before .before .before .before .before
-            .before .before in
+    .before .before in
     c .before .before .before .before .before .before .before .before .before .before .call .kept .1 .1 .1 .1 .1 .0 ∙ c26 .to-end .kept .1 .1 .1 .1 .1 .0 ∙
-        c45 .«open» .kept .1 .1 .1 .1 .1 .0
+    c45 .«open» .kept .1 .1 .1 .1 .1 .0
 
 same-length-4 : tie.Need-same-length-4
 same-length-4 c =
     let c26 = c .before .before .before .before .before .before .before .before .before .before .before .before .before .before .before .before .before .before
-            .before .before .before .before .before .before .before .before in
+    .before .before .before .before .before .before .before .before in
     let c45 = c26 .before .before .before .before .before .before .before .before .before .before .before .before .before .before .before .before .before
-            .before .before in
+    .before .before in
     c .before .before .before .before .before .before .before .before .before .before .call .kept .1 .1 .1 .1 .1 .1 .0 ∙ c26 .to-end .kept .1 .1 .1 .1 .1 .1 .0
-        ∙ c45 .«open» .kept .1 .1 .1 .1 .1 .1 .0
+    ∙ c45 .«open» .kept .1 .1 .1 .1 .1 .1 .0
 
 same-length-5 : tie.Need-same-length-5
 same-length-5 c =
     let c26 = c .before .before .before .before .before .before .before .before .before .before .before .before .before .before .before .before .before .before
-            .before .before .before .before .before .before .before .before in
+    .before .before .before .before .before .before .before .before in
     let c45 = c26 .before .before .before .before .before .before .before .before .before .before .before .before .before .before .before .before .before
-            .before .before in
+    .before .before in
     c .before .before .before .before .before .before .before .before .before .before .call .kept .1 .1 .1 .1 .1 .1 .1 .0 ∙
-        c26 .to-end .kept .1 .1 .1 .1 .1 .1 .1 .0 ∙ c45 .«open» .kept .1 .1 .1 .1 .1 .1 .1 .0
+    c26 .to-end .kept .1 .1 .1 .1 .1 .1 .1 .0 ∙ c45 .«open» .kept .1 .1 .1 .1 .1 .1 .1 .0
 
 returns : tie.Need-returns
 returns c = search needs

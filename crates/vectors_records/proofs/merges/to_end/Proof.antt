@@ -25,31 +25,31 @@ call-requires c κs = search needs
 same-length : tie.Need-same-length Inv-loop μ-loop
 same-length c =
     let c18 = c .before .before .before .before .before .before .before .before .before .before .before .before .before .before .before .before .before
-            .before in
+    .before in
     c .before .before .before .before .before .before .before .before .before .before .before .call .kept .1 .1 .1 .0 ∙ c18 .loop .inv .0
 
 same-length-2 : tie.Need-same-length-2 Inv-loop μ-loop
 same-length-2 c =
     let c18 = c .before .before .before .before .before .before .before .before .before .before .before .before .before .before .before .before .before
-            .before in
+    .before in
     c .before .before .before .before .before .before .before .before .before .before .before .call .kept .1 .1 .1 .1 .0 ∙ c18 .loop .inv .1
 
 same-length-3 : tie.Need-same-length-3 Inv-loop μ-loop
 same-length-3 c =
     let c18 = c .before .before .before .before .before .before .before .before .before .before .before .before .before .before .before .before .before
-            .before in
+    .before in
     c .before .before .before .before .before .before .before .before .before .before .before .call .kept .1 .1 .1 .1 .1 .0 ∙ c18 .loop .inv .2
 
 same-length-4 : tie.Need-same-length-4 Inv-loop μ-loop
 same-length-4 c =
     let c18 = c .before .before .before .before .before .before .before .before .before .before .before .before .before .before .before .before .before
-            .before in
+    .before in
     c .before .before .before .before .before .before .before .before .before .before .before .call .kept .1 .1 .1 .1 .1 .1 .0 ∙ c18 .loop .inv .3
 
 same-length-5 : tie.Need-same-length-5 Inv-loop μ-loop
 same-length-5 c =
     let c18 = c .before .before .before .before .before .before .before .before .before .before .before .before .before .before .before .before .before
-            .before in
+    .before in
     c .before .before .before .before .before .before .before .before .before .before .before .call .kept .1 .1 .1 .1 .1 .1 .1 .0 ∙ c18 .loop .inv .4
 
 returns : tie.Need-returns Inv-loop μ-loop
@@ -67,9 +67,14 @@ loop-again : tie.Need-loop-again Inv-loop μ-loop
 loop-again c =
     let c17 = c .before .before .before .before .before .before .before .before .before .before .before .before .before .before .before .before .before in
     let k = c .before .before .before .before .before .before .before .before .before .before .before .call in
-    let i = c17 .before .loop .inv in
-    (k .kept .1 .1 .1 .0 ∙ i .0, k .kept .1 .1 .1 .1 .0 ∙ i .1, k .kept .1 .1 .1 .1 .1 .0 ∙ i .2, k .kept .1 .1 .1 .1 .1 .1 .0 ∙ i .3,
-        k .kept .1 .1 .1 .1 .1 .1 .1 .0 ∙ i .4, omega (arith, c17 .loop-test .taken))
+    let i = c17 .before .loop .inv in (
+      k .kept .1 .1 .1 .0 ∙ i .0,
+      k .kept .1 .1 .1 .1 .0 ∙ i .1,
+      k .kept .1 .1 .1 .1 .1 .0 ∙ i .2,
+      k .kept .1 .1 .1 .1 .1 .1 .0 ∙ i .3,
+      k .kept .1 .1 .1 .1 .1 .1 .1 .0 ∙ i .4,
+      omega (arith, c17 .loop-test .taken),
+    )
 
 same-length-6 : tie.Need-same-length-6 Inv-loop μ-loop
 same-length-6 c = c .before .loop .inv .0
