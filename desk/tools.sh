@@ -37,6 +37,7 @@ make_archive() {
 
 # desk/NAME.c to target/desk/NAME, with further flags as they are given
 build_c() {
+    mkdir -p "$(dirname "target/desk/$1")" || return
     rm -f "target/desk/$1"
     if [ "$how" = cc ]; then
         "${compiler[@]}" -std=c99 "${strict[@]}" "${@:2}" -o "target/desk/$1" "desk/$1.c" "$archive"

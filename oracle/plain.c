@@ -1,4 +1,4 @@
-/* desk/answer.c with the plain engine of the record merge (RULES, Requests, No. 12) in the place of the heap's: what it asks of
+/* oracle/answer.c with the plain engine of the record merge (RULES, Requests, No. 12) in the place of the heap's: what it asks of
  * desk_open and desk_next the two exports of crates/bench_plain answer, which no header has. The heap that it lends is left alone. */
 #include "desk.h"
 
@@ -35,4 +35,4 @@ static uint32_t next_by_plain(const uint8_t *buffer, size_t buffer_len, const ui
 
 #define desk_open open_by_plain
 #define desk_next next_by_plain
-#include "../desk/answer.c"
+#include "answer.c"
