@@ -1,5 +1,3 @@
-pub mod Counted
-pub mod Entry
 pub mod Mappings
 pub mod Begin
 pub mod Build

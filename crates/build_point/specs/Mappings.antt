@@ -30,9 +30,9 @@ use Rattle.build_rules.specs.OverTime.{give, Build, built, buildAnswer}
 use Rattle.build_rules.specs.PointInTime.{pointStep, counting, pointTaken, pickMapping, pickMappings}
 use Rattle.build_rules.specs.PointInTimeLaws.{pick-end, pick-stored, pick-refused, pick-is, taken-stop, taken-skip, taken-set, taken-full}
 use Rattle.build_rules.specs.PointInTimeLatest.{entries-over, set-longer}
-use Rattle.build_point.specs.declared.entry.Wanted.{Wanted}
-use Rattle.build_point.specs.declared.entry.Wanted.the-variants as wanted
-use Rattle.build_point.specs.Entry.{wantedOf}
+use Rattle.build_entry.specs.declared.entry.Wanted.{Wanted}
+use Rattle.build_entry.specs.declared.entry.Wanted.the-variants as wanted
+use Rattle.build_entry.specs.Entry.{wantedOf}
 
 -- a table of this size whose entries in use are sorted, and 0 in every other place
 pub record Clean (size : ℕ) (t : List ℕ) (used : ℕ) : Type 0 where

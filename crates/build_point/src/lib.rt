@@ -1,6 +1,4 @@
 // The point-in-time build from metadata (RULES, The map over time).
 mod begin;
 pub mod build;
-mod counted;
-mod entry;
 mod mappings;

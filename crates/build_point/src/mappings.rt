@@ -1,12 +1,12 @@
 // The mappings of a metadata, one after the other, onto an empty point-in-time table (RULES, The map over time, 18): each sets its
 // entry, and a later entry for one instrument replaces the earlier one.
-use crate::entry::Wanted;
-use crate::entry::entry_of_mapping;
+use build_entry::entry::Wanted;
+use build_entry::entry::entry_of_mapping;
 use build_rules::reading::Direction;
 use map_point::points::Stored;
 use map_point::points::set_entry;
-use metadata_form::words::count_at;
-use metadata_form::words::name_at;
+use metadata_words::words::count_at;
+use metadata_words::words::name_at;
 ghost use mathlib.Core.List.{[]};
 ghost use Prim.Native.Nat.{_*_, _/_, _≤_};
 ghost use lib.ListN.{length};
@@ -15,7 +15,7 @@ ghost use Rattle.leaves_names.specs.NamesLaws.{Ordered};
 ghost use Rattle.map_point.specs.Entries.{entries};
 ghost use Rattle.metadata_rules.specs.Words.{before, mappingsFrom};
 ghost use Rattle.build_rules.specs.PointInTime.{pointTaken, pickMappings};
-ghost use Rattle.build_point.specs.Entry.{wantedOf};
+ghost use Rattle.build_entry.specs.Entry.{wantedOf};
 ghost use Rattle.build_point.specs.Mappings.{Clean, Picked, Laid};
 
 // One mapping's entry set in a table whose other places hold 0.

@@ -22,7 +22,7 @@ use Rattle.metadata_rules.specs.Words.{before, mappingsFrom, mappingWords, inte
 use Rattle.metadata_gather.specs.Judge.{knownDate}
 use Rattle.metadata_form.specs.declared.header.Header.{Header}
 use Rattle.metadata_form.specs.Header.{Lists, lists, metadataOf, metadataFits}
-use Rattle.metadata_form.specs.Over.{over}
+use Rattle.metadata_words.specs.Over.{over}
 use Rattle.metadata_form.specs.Header.{numbersOf}
 use Rattle.metadata_merge.specs.Merger.{bothFit, mergeAnswer, mergeLists}
 use Rattle.records_rules.specs.Machine.{answersF, start}

@@ -1,5 +1,5 @@
 // A metadata's header, the test of its memory (15), the six fields compared (6), and the fields of a merge.
-use crate::words::count_at;
+use metadata_words::words::count_at;
 ghost use mathlib.Core.Path.{_≡_};
 ghost use Prim.Native.Nat.{_+_, _-_, _*_, _<_, _≤_, min, max};
 ghost use lib.ListN.{length};

@@ -21,7 +21,7 @@ use Rattle.leaves_days.specs.declared.days.Day.the-variants.{Number, Refused}
 use Rattle.metadata_rules.specs.declared.Interval.{Interval}
 use Rattle.metadata_rules.specs.Metadata.{every}
 use Rattle.metadata_rules.specs.Words.{intervalAt, stretch, nameAt, namesFrom}
-use Rattle.metadata_form.specs.Words.{rest, rest-cons, rest-nil}
+use Rattle.metadata_words.specs.Words.{rest, rest-cons, rest-nil}
 
 -- a date of ISO 8601 from 1970-01-01 to 2554-07-21 (RULES, Names, numbers, days): the numbers that do not get 11
 unfoldable pub knownDate : ℕ → Bool

@@ -15,7 +15,7 @@ use Rattle.metadata_rules.specs.declared.Interval.{Interval}
 use Rattle.metadata_rules.specs.Cases.{eqb-case, cond-eq, cond-ne}
 use Rattle.metadata_rules.specs.Metadata.{Mapping, mapping, enter, enterAll, countIntervals}
 use Rattle.metadata_rules.specs.Words.{nameAt, countAt, stretch, mappingsFrom, before}
-use Rattle.metadata_form.specs.Words.{putMapping, layIntervals}
+use Rattle.metadata_words.specs.Words.{putMapping, layIntervals}
 use Rattle.metadata_lists.specs.Flat.{listAt, placedFrom, placedTo}
 use Rattle.metadata_rules.specs.WordsLaws.{before-next, before-up}
 use Rattle.metadata_lists.specs.Link.{flat-same}

@@ -1,6 +1,6 @@
 // Numbers in the order of first arrival, each once. A number below the length of `marks` is found by its mark there (its place
 // among the arrivals, from 1; 0 for none), any other by a search: a metadata may hold numbers that were never handed out.
-use metadata_form::words::wide;
+use metadata_words::words::wide;
 ghost use mathlib.Core.Path.{_≡_};
 ghost use Prim.Native.Nat.{ℕ, _+_, _-_, _*_, _<_, _≤_};
 ghost use lib.ListN.{length, getD, take, set};

@@ -2,10 +2,10 @@
 // interval. Each answers whether all pass. Helpers: each asks for the words that it reads.
 use leaves_days::days::Day;
 use leaves_days::days::day_of;
-use metadata_form::words::interval_at;
-use metadata_form::words::name_at;
-use metadata_form::words::wide;
 use metadata_rules::Interval;
+use metadata_words::words::interval_at;
+use metadata_words::words::name_at;
+use metadata_words::words::wide;
 ghost use mathlib.Core.Path.{_≡_};
 ghost use mathlib.Core.Bool.{true};
 ghost use Prim.Native.Nat.{_+_, _*_, _<_, _≤_};
@@ -13,7 +13,7 @@ ghost use lib.ListN.{length, take};
 ghost use lib.Dec.{ltb, leb};
 ghost use Rattle.metadata_rules.specs.Metadata.{every};
 ghost use Rattle.metadata_rules.specs.Words.{namesFrom};
-ghost use Rattle.metadata_form.specs.Words.{rest};
+ghost use Rattle.metadata_words.specs.Words.{rest};
 ghost use Rattle.metadata_gather.specs.Judge.{knownDate, dated, known, forward, below, namesTo};
 
 // 1970-01-01 to 2554-07-21.

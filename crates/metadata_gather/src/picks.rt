@@ -1,6 +1,6 @@
 // The mappings that count where a metadata loses its repeats: of two with one name the last, at the place of the first.
 use crate::arrivals::add_one;
-use metadata_form::words::name_at;
+use metadata_words::words::name_at;
 ghost use mathlib.Core.Path.{_≡_};
 ghost use Prim.Native.Nat.{ℕ, _+_, _-_, _*_, _<_, _≤_};
 ghost use mathlib.Core.List.{[]};

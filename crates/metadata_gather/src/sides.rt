@@ -1,19 +1,19 @@
 // The mappings of two sides one after the other, the first side without its repeats: two words a mapping in `both_mappings`, three
 // an interval in `both_intervals`, as in lent memory. So many of each are laid already.
 use crate::picks::picks;
-use metadata_form::words::copy_intervals;
-use metadata_form::words::count_at;
-use metadata_form::words::name_at;
-use metadata_form::words::put_mapping;
 use metadata_lists::link::offsets;
+use metadata_words::words::copy_intervals;
+use metadata_words::words::count_at;
+use metadata_words::words::name_at;
+use metadata_words::words::put_mapping;
 ghost use mathlib.Core.Path.{_≡_};
 ghost use Prim.Native.Nat.{ℕ, _+_, _-_, _*_, _<_, _≤_};
 ghost use mathlib.Core.List.{[], _++_};
 ghost use lib.ListN.{length, getD};
 ghost use Rattle.metadata_rules.specs.Metadata.{enterAll};
 ghost use Rattle.metadata_rules.specs.Words.{nameAt, countAt, mappingsFrom, before};
-ghost use Rattle.metadata_form.specs.Words.{putMapping};
-ghost use Rattle.metadata_form.specs.Words.{layIntervals as layFrom};
+ghost use Rattle.metadata_words.specs.Words.{putMapping};
+ghost use Rattle.metadata_words.specs.Words.{layIntervals as layFrom};
 ghost use Rattle.metadata_lists.specs.Flat.{listAt};
 ghost use Rattle.metadata_lists.specs.Names.{placed, layAll};
 ghost use Rattle.metadata_gather.specs.Sides.{Within, Layable, pickedTo, Sound};

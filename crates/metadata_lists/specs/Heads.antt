@@ -13,7 +13,7 @@ use Rattle.metadata_rules.specs.declared.IntervalOrdering.the-variants.{Equal, 
 use Rattle.metadata_rules.specs.Walk.{Walked, conflict, laid, ordering, joined, out, agreed, heads, against, walk}
 use Rattle.metadata_rules.specs.Words.{intervalAt}
 use Rattle.metadata_rules.specs.Cases.{eqb-case}
-use Rattle.metadata_form.specs.Words.{putAt, rest, layIntervals, length-put, rest-cons, rest-nil, rest-length, lay-length}
+use Rattle.metadata_words.specs.Words.{putAt, rest, layIntervals, length-put, rest-cons, rest-nil, rest-length, lay-length}
 use Rattle.metadata_lists.specs.declared.heads.WalkStep.{WalkStep}
 use Rattle.metadata_lists.specs.declared.heads.WalkStep.the-variants as step
 use Rattle.metadata_lists.specs.declared.heads.WalkLaid.{WalkLaid}

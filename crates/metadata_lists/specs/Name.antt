@@ -9,7 +9,7 @@ use Rattle.metadata_rules.specs.declared.Interval.{Interval}
 use Rattle.metadata_rules.specs.Walk.{Walked, conflict, laid, walk, walkAll}
 use Rattle.metadata_lists.specs.declared.heads.WalkLaid.the-variants as walk-laid
 use Rattle.metadata_rules.specs.Words.{stretch}
-use Rattle.metadata_form.specs.Words.{rest, rest-length, layIntervals, laid-length}
+use Rattle.metadata_words.specs.Words.{rest, rest-length, layIntervals, laid-length}
 use Rattle.metadata_lists.specs.Heads.{finish, endedOf, held, conflicted}
 use Rattle.metadata_rules.specs.Words.{nameAt, countAt}
 use Rattle.metadata_lists.specs.Flat.{listAt, listsFrom, First, Linked, sumLen, lists-here, lists-first, lists-end}

@@ -14,7 +14,7 @@ use Rattle.metadata_rules.specs.Walk.{Walked, conflict, laid, walk, walkAll, th
 use Rattle.metadata_rules.specs.Cases.{eqb-case}
 use Rattle.metadata_lists.specs.declared.heads.WalkLaid.the-variants as walk-laid
 use Rattle.metadata_rules.specs.Words.{intervalAt, stretch}
-use Rattle.metadata_form.specs.Words.{putAt, rest, layIntervals, length-put, lay-length}
+use Rattle.metadata_words.specs.Words.{putAt, rest, layIntervals, length-put, lay-length}
 use Rattle.metadata_lists.specs.Heads.{Ended, conflicted, held, finish, endedOf}
 use Rattle.metadata_lists.specs.Flat.{sumLen}
 

@@ -11,7 +11,7 @@ use Rattle.metadata_rules.specs.Walk.{Walked, conflict, laid, walk, walkAll, th
 use Rattle.metadata_rules.specs.Metadata.{Mapping, mapping, Merged, conflicting, merged, under, inFront}
 use Rattle.metadata_rules.specs.Cases.{cond-eq, cond-ne}
 use Rattle.metadata_lists.specs.declared.heads.WalkLaid.the-variants as walk-laid
-use Rattle.metadata_form.specs.Words.{putMapping, layIntervals, lay-length}
+use Rattle.metadata_words.specs.Words.{putMapping, layIntervals, lay-length}
 use Rattle.metadata_lists.specs.Heads.{finish, endedOf, held, conflicted}
 use Rattle.metadata_rules.specs.Words.{nameAt}
 use Rattle.metadata_lists.specs.Flat.{listsFrom, sumLen}

@@ -9,7 +9,7 @@ use lib.Seq.{set-at, length-take-le}
 use Rattle.metadata_rules.specs.declared.Interval.{Interval}
 use Rattle.metadata_rules.specs.Metadata.{Mapping, countIntervals}
 use Rattle.metadata_rules.specs.Words.{wordsOf, mappingWords, intervalWords, words-length, interval-length, mapping-length}
-use Rattle.metadata_form.specs.Words.{putMapping, layIntervals, lay-words}
+use Rattle.metadata_words.specs.Words.{putMapping, layIntervals, lay-words}
 use Rattle.metadata_lists.specs.Names.{Final, placed, layAll}
 
 put-words : (p r : List ℕ) (a b q n c : ℕ) → length p ≡ 2 * q → putMapping (p ++ a ∷ b ∷ r) q n c ≡ p ++ n ∷ c ∷ r

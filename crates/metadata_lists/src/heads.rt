@@ -1,17 +1,17 @@
 // The walk over the intervals of one name by their two heads, a and b (RULES, Merging metadata). The Rust's `merge_intervals`,
 // `ordering` and `IntervalOrdering`; a conflict is found after the ordering, not in it.
-use metadata_form::words::copy_intervals;
-use metadata_form::words::interval_at;
-use metadata_form::words::put_interval;
 use metadata_rules::Interval;
 use metadata_rules::IntervalOrdering;
+use metadata_words::words::copy_intervals;
+use metadata_words::words::interval_at;
+use metadata_words::words::put_interval;
 ghost use mathlib.Core.Path.{_≡_};
 ghost use Prim.Native.Nat.{_+_, _-_, _*_, _<_, _≤_, min, max};
 ghost use lib.ListN.{length};
 ghost use Rattle.metadata_rules.specs.Walk.{walk};
 ghost use Rattle.metadata_rules.specs.Walk.{ordering as orderingOf};
 ghost use Rattle.metadata_rules.specs.Walk.{joined as joinedOf};
-ghost use Rattle.metadata_form.specs.Words.{rest};
+ghost use Rattle.metadata_words.specs.Words.{rest};
 ghost use Rattle.metadata_lists.specs.Heads.{finish, stepOf, endedOf};
 
 // What two heads give: a conflict, or an interval that goes out and how many of each list are consumed.

@@ -1,7 +1,7 @@
 // Where each mapping's intervals begin, and which mapping is the next of its name.
-use metadata_form::words::count_at;
-use metadata_form::words::name_at;
-use metadata_form::words::wide;
+use metadata_words::words::count_at;
+use metadata_words::words::name_at;
+use metadata_words::words::wide;
 ghost use mathlib.Core.Path.{_≡_};
 ghost use Prim.Native.Nat.{ℕ, _+_, _-_, _*_, _<_, _≤_};
 ghost use lib.ListN.{length, getD};

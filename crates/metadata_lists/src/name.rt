@@ -1,8 +1,8 @@
 // One name's outcome: the walk over its lists in the order of their arrival.
 use crate::heads::WalkLaid;
 use crate::heads::merge_intervals;
-use metadata_form::words::copy_intervals;
-use metadata_form::words::count_at;
+use metadata_words::words::copy_intervals;
+use metadata_words::words::count_at;
 ghost use mathlib.Core.Path.{_≡_};
 ghost use Prim.Native.Nat.{_+_, _-_, _*_, _<_, _≤_};
 ghost use lib.ListN.{length, getD};

@@ -1,9 +1,9 @@
 // Every name's outcome, one after the other, in the order of first arrival.
 use crate::heads::WalkLaid;
 use crate::name::lay_name;
-use metadata_form::words::name_at;
-use metadata_form::words::put_mapping;
-use metadata_form::words::wide;
+use metadata_words::words::name_at;
+use metadata_words::words::put_mapping;
+use metadata_words::words::wide;
 ghost use mathlib.Core.Path.{_≡_};
 ghost use Prim.Native.Nat.{_+_, _-_, _*_, _<_, _≤_};
 ghost use lib.ListN.{length, getD};

@@ -25,7 +25,7 @@ use Rattle.metadata_form.specs.declared.header.Header.{Header}
 use Rattle.metadata_form.specs.declared.header.Lengths.{Lengths}
 use Rattle.metadata_form.specs.declared.header.Counts.{Counts}
 use Rattle.metadata_form.specs.Header.{Lists, lists, lengthsOf, headerFields, metadataOf, metadataFits, mergedHeader, countedHeader, MetadataFitting, metadata-fitting, outcomeFits, numbersOf}
-use Rattle.metadata_form.specs.Over.{over}
+use Rattle.metadata_words.specs.Over.{over}
 use Rattle.metadata_gather.specs.Sets.{AllUnited}
 use Rattle.metadata_merge.specs.Outcome.{given, Deciding, Decided, Fitted, countsOf, front}
 use Rattle.metadata_merge.specs.OutcomeCalls.{Outcomes, Plannable, Commit, Fits1, committed, lists-same}

@@ -13,7 +13,7 @@ use Rattle.metadata_form.specs.declared.header.Header.{Header}
 use Rattle.metadata_form.specs.declared.header.Lengths.{Lengths}
 use Rattle.metadata_form.specs.declared.header.Counts.{Counts}
 use Rattle.metadata_form.specs.Header.{MetadataFitting, Lists, lists, lengthsOf, headerFields, metadataOf}
-use Rattle.metadata_form.specs.Over.{over}
+use Rattle.metadata_words.specs.Over.{over}
 use Rattle.metadata_gather.specs.Sets.{IsUnited}
 use Rattle.metadata_merge.specs.declared.outcome.Verdict.{Verdict}
 use Rattle.metadata_merge.specs.Outcome.{restOf, decideOf, given, Deciding, decided}

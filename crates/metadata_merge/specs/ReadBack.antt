@@ -20,7 +20,7 @@ use Rattle.metadata_rules.specs.Names.{add-only, once-once, enterAll-names}
 use Rattle.metadata_rules.specs.Fold.{opened-once}
 use Rattle.metadata_form.specs.declared.header.Header.{Header}
 use Rattle.metadata_form.specs.Header.{Lists, lengthsOf, headerFields, metadataOf, metadataFits, numbersOf}
-use Rattle.metadata_form.specs.Over.{over}
+use Rattle.metadata_words.specs.Over.{over}
 use Rattle.metadata_merge.specs.Outcome.{given}
 use Rattle.metadata_merge.specs.declared.merger.OpenedMetadata.{OpenedMetadata}
 use Rattle.metadata_merge.specs.declared.merger.OpenedMetadata.the-variants as opening

@@ -13,7 +13,7 @@ use Rattle.metadata_rules.specs.Metadata.{Mapping, Merged, conflicting, merged,
 use Rattle.metadata_rules.specs.Metadata.{forwards as forwardsOf}
 use Rattle.metadata_rules.specs.Cases.{eqb-case}
 use Rattle.metadata_rules.specs.Words.{nameAt, countAt, mappingsFrom, before, mappingWords, intervalWords, namesFrom, stretch, read-back, intervals-test, names-test, mapping-length, interval-length}
-use Rattle.metadata_form.specs.Words.{rest}
+use Rattle.metadata_words.specs.Words.{rest}
 use Rattle.metadata_lists.specs.Flat.{placedFrom, placedTo}
 use Rattle.metadata_rules.specs.WordsLaws.{before-up, before-next}
 use Rattle.metadata_lists.specs.Link.{Chained, chained-linked, chained-heads, flat-same}

@@ -5,7 +5,7 @@ use Prim.Native.Nat.{_≤_, _-_}
 use lib.ListN.{length, length-set}
 use lib.Seq.{paste, paste-zero}
 use denote.Ref.{now}
-use Rattle.metadata_form.specs.Over.{copy-turn}
+use Rattle.metadata_words.specs.Over.{copy-turn}
 use Rattle.door_answers.specs.HeaderLaws.{paste-whole}
 use borrow.Author.Needs.{needs}
 use Rattle.door_answers.proofs.header.copy.Statement.{statement}

@@ -4,7 +4,7 @@ use Prim.Native.Nat.{ℕ, _≤_, _<_, _+_, _-_, _*_}
 use borrow.Author.Tests.{not-true, not-false}
 use denote.Ref.{now}
 use Rattle.metadata_rules.specs.Metadata.{every}
-use Rattle.metadata_form.specs.Words.{rest}
+use Rattle.metadata_words.specs.Words.{rest}
 use Rattle.metadata_gather.specs.Judge.{known, spans-turn, spans-stop, spans-end}
 use borrow.Author.Needs.{needs}
 use native.Mathlib.Omega.{arith}

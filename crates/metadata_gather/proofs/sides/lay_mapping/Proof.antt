@@ -5,7 +5,7 @@ use mathlib.Core.List.{List}
 use denote.Ref.{now}
 use Rattle.metadata_rules.specs.Words.{nameAt}
 use Rattle.metadata_rules.specs.declared.Interval.{Interval}
-use Rattle.metadata_form.specs.Words.{putMapping, layIntervals}
+use Rattle.metadata_words.specs.Words.{putMapping, layIntervals}
 use Rattle.metadata_lists.specs.Name.{rest-list}
 use borrow.Author.Needs.{needs}
 use Rattle.metadata_gather.proofs.sides.lay_mapping.Statement.{statement}

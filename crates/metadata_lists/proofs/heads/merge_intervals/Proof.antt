@@ -8,7 +8,7 @@ use borrow.Author.Tests.{ltb-true, ltb-false}
 use mathlib.Core.Logic.{⊎-elim}
 use lib.ListN.{length}
 use Rattle.metadata_rules.specs.Walk.{walk}
-use Rattle.metadata_form.specs.Words.{layIntervals, rest, put-length, laid-length}
+use Rattle.metadata_words.specs.Words.{layIntervals, rest, put-length, laid-length}
 use Rattle.metadata_lists.specs.Heads.{finish, endedOf, step-counts, turn-conflict, turn-out, end-left, end-right}
 use Rattle.metadata_lists.proofs.heads.merge_intervals.Statement.{statement}
 use Rattle.metadata_lists.proofs.heads.merge_intervals.Tie as tie

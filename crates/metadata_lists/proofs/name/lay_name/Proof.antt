@@ -6,7 +6,7 @@ use native.Mathlib.Omega.{arith}
 use borrow.Author.Needs.{needs}
 use lib.ListN.{length, getD}
 use Rattle.metadata_lists.specs.declared.heads.WalkLaid.{WalkLaid}
-use Rattle.metadata_form.specs.Words.{laid-length}
+use Rattle.metadata_words.specs.Words.{laid-length}
 use Rattle.metadata_lists.specs.Heads.{endedOf}
 use Rattle.metadata_lists.specs.Name.{Going, Ready, start-going, turn-needs, turn-conflict, turn-going, turn-further, going-end}
 use Rattle.metadata_lists.proofs.name.lay_name.Statement.{statement}
