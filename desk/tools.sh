@@ -19,18 +19,20 @@ fi
 if [ -n "${DESK_CC:-}" ]; then how=$DESK_CC; elif [ "$machine" = x86_64 ] && command -v cc >/dev/null; then how=cc; else how=kit; fi
 case $how in cc | kit) ;; *) echo "desk: DESK_CC=$how: there are cc and kit" >&2; exit 2 ;; esac
 
-# the archive of every door's exports, unless it is newer than everything that it is made of; a terminal is told of each door
+# the archive of every door's exports, unless it is newer than everything that it is made of; one call at a time: whoever comes second
+# finds it made
 make_archive() {
     mkdir -p target/desk || return
-    if [ -e "$archive" ] && [ -z "$(find crates crates.txt -newer "$archive" -print -quit)" ]; then return; fi
-    local door
-    for door in "${doors[@]}"; do # one after the other: rt can't prove beside itself in one target/
-        if [ -t 2 ]; then echo "desk: proving and building $door" >&2; fi
-        rt staticlib "$door" >target/desk/staticlib.log 2>&1 || { cat target/desk/staticlib.log; echo "desk: the archive of $door failed"; return 1; }
-    done
-    rm -f "$archive"
-    { echo "create $archive"; printf 'addlib target/staticlib/lib%s.a\n' "${doors[@]}"; echo save; echo end; } | "$toolchain/bin/llvm-ar" -M ||
-        { echo 'desk: the archives were not joined'; return 1; }
+    (
+        if command -v flock >/dev/null; then flock 9; fi
+        if [ -e "$archive" ] && [ -z "$(find crates crates.txt -newer "$archive" -print -quit)" ]; then exit; fi
+        if [ -t 2 ]; then echo "desk: proving and building ${doors[*]}" >&2; fi
+        printf '%s\n' "${doors[@]}" | xargs -P "$(nproc)" -I{} sh -c 'tools/library {} >target/desk/{}.log 2>&1 ||
+            { cat target/desk/{}.log; echo "desk: the archive of {} failed"; exit 1; }' || exit
+        rm -f "$archive"
+        { echo "create $archive"; printf 'addlib target/staticlib/lib%s.a\n' "${doors[@]}"; echo save; echo end; } | "$toolchain/bin/llvm-ar" -M ||
+            { echo 'desk: the archives were not joined'; exit 1; }
+    ) 9>target/desk/lock
 }
 
 # desk/NAME.c to target/desk/NAME, with further flags as they are given
