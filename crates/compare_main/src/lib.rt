@@ -1,8 +1,10 @@
 // The compare program: reads two tables from standard input and writes every stretch in which they disagree (RULES, Requests, No. 1). Its input is
 // three sections: the name count (4 bytes), the left table's intervals, the right one's.
 use compare_text::telling::lay_portion;
+use lines::asked::NAMES_BYTES;
+use lines::asked::TABLE;
+use lines::asked::table_end;
 use lines::parts::PART_HEAD;
-use lines::parts::part_end;
 use map_compare::compare::both_formed;
 use map_compare::compare::compare_fits;
 use map_compare_walk::walk::Position;
@@ -12,7 +14,8 @@ ghost use mathlib.Core.Path.{_≡_};
 ghost use Prim.Native.Nat.{_≤_};
 ghost use lib.ListN.{length};
 ghost use Rattle.map_compare_walk.specs.Walk.{InOrder};
-ghost use Rattle.compare_main.specs.Asked.{leftEnd, Apart, tablesStatus, statusOf, Ends};
+ghost use Rattle.lines.specs.Asked.{Ends};
+ghost use Rattle.compare_main.specs.Asked.{tablesStatus, statusOf};
 
 // The status of two tables that were compared.
 const DONE: u8 = 0;
@@ -22,14 +25,6 @@ const BAD: u8 = 1;
 
 // The status where reading or writing failed.
 const FAILED: u8 = 2;
-
-// The kind of the section with the name count, and of those with a table's intervals.
-const NAMES: u16 = 2;
-
-const TABLE: u16 = 3;
-
-// The section with the name count takes so many bytes.
-const NAMES_BYTES: usize = 10;
 
 // An input over this many bytes is bad.
 const MOST_BYTES: usize = 3145750;
@@ -46,28 +41,6 @@ fn text_space() -> [u8; 65536]
     ensures { λ r. ⌜ 65536 ≡ length r ⌝ }
 {
     [0; 65536]
-}
-
-// Where the left table's section ends, or 0 where the input is not the three sections.
-fn left_end(input: &[u8]) -> usize
-    ensures { λ r. ⌜ (r ≡ leftEnd (now (input .entry))) × Apart r (length (now (input .entry))) ⌝ }
-{
-    if MOST_BYTES < input.len() {
-        return 0;
-    }
-    let first = part_end(input, 0, NAMES);
-    if first != NAMES_BYTES {
-        return 0;
-    }
-    let end = part_end(input, first, TABLE);
-    if end == 0 {
-        return 0;
-    }
-    let last = part_end(input, end, TABLE);
-    if last != input.len() {
-        return 0;
-    }
-    end
 }
 
 // Writes the last line and answers the status.
@@ -130,7 +103,7 @@ fn show(input: &[u8], text: &mut [u8]) -> u8
     requires { ⌜ 105 ≤ length (now text) ⌝ }
     ensures { λ r. ⌜ Ends (statusOf (now (input .entry))) r ⌝ }
 {
-    let end = left_end(input);
+    let end = table_end(input, MOST_BYTES, TABLE);
     if end == 0 {
         return say(b"bad bundle\n", BAD);
     }

@@ -4,12 +4,12 @@ use Prim.Native.Nat.{ℕ, _+_, _-_, _≤_, _<_}
 use native.Mathlib.Omega.{arith}
 use mathlib.Core.Bool.{Bool, true, false, _||_, cond}
 use mathlib.Core.List.{List, [], _∷_, _++_, append-assoc}
-use lib.ListN.{length, take, drop, length-append, length-drop}
-use lib.Seq.{take-at, length-take-le}
+use lib.ListN.{length, take}
 use lib.Dec.{ltb}
 use mir.Facts.{ltb-no}
 use native.Mathlib.Decide.{decLe}
-use Rattle.lines.specs.Lines.{decimal, blank, newline, laid, Lays}
+use Rattle.lines.specs.LinesLaws.{laid-taken, laid-length}
+use Rattle.lines.specs.Lines.{decimal, blank, newline, Lays}
 use Rattle.map_rules.specs.Table.{Row}
 use Rattle.map_compare_rules.specs.Compare.{Difference, Stretches}
 use Rattle.map_compare_rules.specs.Memory.{Value}
@@ -67,18 +67,6 @@ telling-start left n right m l r text w = record {
   near = omega arith;
   begun = λ e. (refl, refl, refl);
 }
-
-laid-taken : (text text′ : List ℕ) (at next : ℕ) (w : List ℕ) → at ≤ length text → Lays text at w next text′ → take next text′ ≡ take at text ++ w
-unfolding laid
-laid-taken text text′ at next w h l =
-    let e : length (take at text ++ w) ≡ next = length-append (take at text) w ∙ omega (arith, length-take-le at text h, l .behind) in
-    ap (take next) (l .whole) ∙ take-at (take at text ++ w) (drop (at + length w) text) next e
-
-laid-length : (text text′ : List ℕ) (at next : ℕ) (w : List ℕ) → next ≤ length text → Lays text at w next text′ → length text′ ≡ length text
-unfolding laid
-laid-length text text′ at next w h l =
-    ap length (l .whole) ∙ length-append (take at text ++ w) (drop (at + length w) text)
-    ∙ omega (arith, length-append (take at text) w, length-take-le at text (omega (arith, l .behind)), length-drop (at + length w) text, l .behind)
 
 pub telling-on : {left : List ℕ} {n : ℕ} {right : List ℕ} {m : ℕ} {l₀ r₀ l r : Position} {at next : ℕ} {text₀ text text′ : List ℕ} {s : Step}
     → Telling left n right m l₀ r₀ l r at text₀ text → Stepped left n right m l r s → Lays text at (turnText (s .stretch)) next text′

@@ -4,9 +4,9 @@ use Prim.Native.Nat.{ℕ, suc, _+_, _-_, _≤_, _<_}
 use native.Mathlib.Omega.{arith}
 use native.Mathlib.Decide.{decLt}
 use mathlib.Core.List.{List, _++_, append-assoc}
-use lib.ListN.{length, take, drop, length-append, length-drop}
-use lib.Seq.{take-at, length-take-le}
-use Rattle.lines.specs.Lines.{laid, Lays}
+use lib.ListN.{length, take}
+use Rattle.lines.specs.LinesLaws.{laid-taken, laid-length}
+use Rattle.lines.specs.Lines.{Lays}
 use Rattle.map_time.specs.declared.table.Checked.{Checked}
 use Rattle.explain_main.specs.Text.{questionText, linesFrom}
 
@@ -39,18 +39,6 @@ telling-start t used c b count from text h = record {
   lines = refl;
   begun = λ e. refl;
 }
-
-laid-taken : (text text′ : List ℕ) (at next : ℕ) (w : List ℕ) → at ≤ length text → Lays text at w next text′ → take next text′ ≡ take at text ++ w
-unfolding laid
-laid-taken text text′ at next w h l =
-    let e : length (take at text ++ w) ≡ next = length-append (take at text) w ∙ omega (arith, length-take-le at text h, l .behind) in
-    ap (take next) (l .whole) ∙ take-at (take at text ++ w) (drop (at + length w) text) next e
-
-laid-length : (text text′ : List ℕ) (at next : ℕ) (w : List ℕ) → next ≤ length text → Lays text at w next text′ → length text′ ≡ length text
-unfolding laid
-laid-length text text′ at next w h l =
-    ap length (l .whole) ∙ length-append (take at text ++ w) (drop (at + length w) text)
-    ∙ omega (arith, length-append (take at text) w, length-take-le at text (omega (arith, l .behind)), length-drop (at + length w) text, l .behind)
 
 one-line : (t : List ℕ) (used : ℕ) (c : Checked) (b : List ℕ) (count k : ℕ) → k < count
     → questionText t used c b k ++ linesFrom t used c b (k + 1) (count - (k + 1)) ≡ linesFrom t used c b k (count - k)

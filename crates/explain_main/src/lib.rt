@@ -2,16 +2,18 @@
 // is three sections: the name count (4 bytes), the table's intervals, the questions.
 use crate::telling::QUESTION;
 use crate::telling::lay_portion;
+use lines::asked::NAMES_BYTES;
+use lines::asked::table_end;
 use lines::parts::PART_HEAD;
-use lines::parts::part_end;
 use map_time::interval::WIDTH;
 use map_time::table::Checked;
 use standard::Input;
 ghost use mathlib.Core.Path.{_≡_};
 ghost use Prim.Native.Nat.{_*_, _≤_};
 ghost use lib.ListN.{length};
+ghost use Rattle.lines.specs.Asked.{Ends};
 ghost use Rattle.explain_main.specs.Text.{Ready};
-ghost use Rattle.explain_main.specs.Asked.{areQuestions, tableEnd, Apart, checkStatus, askedStatus, statusOf, Ends};
+ghost use Rattle.explain_main.specs.Asked.{areQuestions, checkStatus, askedStatus, statusOf};
 
 pub mod telling;
 
@@ -24,15 +26,8 @@ const BAD: u8 = 1;
 // The status where reading or writing failed.
 const FAILED: u8 = 2;
 
-// The kind of the section with the name count, of the one with the table's intervals, and of the one with the questions.
-const NAMES: u16 = 2;
-
-const TABLE: u16 = 3;
-
+// The kind of the section with the questions.
 const QUESTIONS: u16 = 4;
-
-// The section with the name count takes so many bytes.
-const NAMES_BYTES: usize = 10;
 
 // At most so many questions.
 const MOST_QUESTIONS: usize = 65536;
@@ -63,28 +58,6 @@ fn are_questions(bytes: usize) -> bool
     } else {
         false
     }
-}
-
-// Where the table's section ends, or 0 where the input is not the three sections.
-fn table_end(input: &[u8]) -> usize
-    ensures { λ r. ⌜ (r ≡ tableEnd (now (input .entry))) × Apart r (length (now (input .entry))) ⌝ }
-{
-    if MOST_BYTES < input.len() {
-        return 0;
-    }
-    let first = part_end(input, 0, NAMES);
-    if first != NAMES_BYTES {
-        return 0;
-    }
-    let end = part_end(input, first, TABLE);
-    if end == 0 {
-        return 0;
-    }
-    let last = part_end(input, end, QUESTIONS);
-    if last != input.len() {
-        return 0;
-    }
-    end
 }
 
 // Writes the last line and answers the status.
@@ -166,7 +139,7 @@ fn show(input: &[u8], text: &mut [u8]) -> u8
     requires { ⌜ 218 ≤ length (now text) ⌝ }
     ensures { λ r. ⌜ Ends (statusOf (now (input .entry))) r ⌝ }
 {
-    let end = table_end(input);
+    let end = table_end(input, MOST_BYTES, QUESTIONS);
     if end == 0 {
         return say(b"bad bundle\n", BAD);
     }

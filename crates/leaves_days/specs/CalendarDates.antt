@@ -3,30 +3,14 @@
 use Prim.Native.Nat.{ℕ, zero, suc, _+_, _-_, _*_, _≤_, _<_}
 use native.Mathlib.Nat.{add-zero}
 use native.Mathlib.Numerals.{add-one}
-use native.Mathlib.Decide.{decLe}
 use native.Mathlib.Omega.{arith}
 use mathlib.Core.Path.{_≡_, refl, sym, ap, _∙_, subst}
 use mathlib.Core.Bool.{Bool}
 use lib.Dec.{T, leb}
+use Rattle.theory.specs.RunsTools.{Order, less, equal, more, order}
 use mir.Facts.{and-yes, yes-and, leb-yes, yes-leb}
 use Rattle.leaves_days.specs.Calendar.{isLeap, yearDays, monthDays, daysOfYears, daysBefore, dateWritten, yearIn, monthIn, dayIn, isDate, dayNumber, countMonths, countYears, dateNumber}
 use Rattle.leaves_days.specs.CalendarLaws.{ltb-case, years-none, years-suc, years-rise, years-sum, leapsTo, before-suc, before-rises, before-first, before-end, Month, month-known}
-
--- ---- order
-
-pub data Order (a b : ℕ) : Type 0 where
-  less : a < b → Order a b
-  equal : a ≡ b → Order a b
-  more : b < a → Order a b
-
-pub order : (a b : ℕ) → Order a b
-order a b = go (decLe a b) (decLe b a)
-  where
-    go : Dec (a ≤ b) → Dec (b ≤ a) → Order a b
-    go (yes h) (yes k) = equal (omega arith)
-    go (yes h) (no k) = less (omega arith)
-    go (no h) (yes k) = more (omega arith)
-    go (no h) (no k) = absurd (omega arith)
 
 -- ---- what a date is
 

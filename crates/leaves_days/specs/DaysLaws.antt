@@ -12,7 +12,8 @@ use Rattle.theory.specs.Answer.{Answer, answer}
 use Rattle.leaves.specs.Refusal.{refused}
 use Rattle.leaves.specs.declared.refusal.Refusal.the-variants.{NoDate}
 use Rattle.leaves_days.specs.Calendar.{isLeap, monthDays, yearIn, isDate, dayNumber, dateNumber}
-use Rattle.leaves_days.specs.CalendarDates.{Order, less, equal, more, order, Dated, dated-one, number-rises, number-one, date-yes, in-month, dateNumber-dated, number-of-last}
+use Rattle.theory.specs.RunsTools.{Order, less, equal, more, order}
+use Rattle.leaves_days.specs.CalendarDates.{Dated, dated-one, number-rises, number-one, date-yes, in-month, dateNumber-dated, number-of-last}
 use Rattle.leaves_days.specs.Days.{inRange, lastDay, dayOf, dateOf, dayStart}
 
 -- there is such a date, from 1970-01-01 to 2554-07-21

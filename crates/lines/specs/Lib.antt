@@ -3,3 +3,4 @@ pub mod SectionsLaws
 pub mod Lines
 pub mod LinesLaws
 pub mod Parts
+pub mod Asked

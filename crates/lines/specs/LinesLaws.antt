@@ -5,7 +5,7 @@ use Prim.Native.Nat.{ℕ, zero, suc, _+_, _-_, _*_, _/_, _%_, _^_, _≤_, _<_}
 use native.Mathlib.Nat.{pow-succ'}
 use native.Mathlib.Omega.{arith}
 use mathlib.Core.List.{List, [], _∷_, _++_, append-assoc}
-use lib.ListN.{length, take, drop, length-append}
+use lib.ListN.{length, take, drop, length-append, length-drop}
 use lib.Seq.{paste, take-all, take-at, drop-drop, length-take-le, drop-append-add}
 use borrow.Author.Tests.{lt-ltb, le-ltb}
 use Rattle.io.specs.Digits.{digits, glyph, Fewest}
@@ -17,6 +17,20 @@ use Rattle.lines.specs.Lines.{decimalF, decimal, laid, Lays}
 pub laid-paste : (text : List ℕ) (at : ℕ) (word : List ℕ) → paste text at word (length word) ≡ laid text at word
 unfolding laid
 laid-paste text at word = ap (λ (w : List ℕ). take at text ++ w ++ drop (at + length word) text) (take-all (length word) word (omega arith))
+
+-- what stands up to behind a word that was laid
+pub laid-taken : (text text′ : List ℕ) (at next : ℕ) (w : List ℕ) → at ≤ length text → Lays text at w next text′ → take next text′ ≡ take at text ++ w
+unfolding laid
+laid-taken text text′ at next w h l =
+    let e : length (take at text ++ w) ≡ next = length-append (take at text) w ∙ omega (arith, length-take-le at text h, l .behind) in
+    ap (take next) (l .whole) ∙ take-at (take at text ++ w) (drop (at + length w) text) next e
+
+-- laying a word changes no length
+pub laid-length : (text text′ : List ℕ) (at next : ℕ) (w : List ℕ) → next ≤ length text → Lays text at w next text′ → length text′ ≡ length text
+unfolding laid
+laid-length text text′ at next w h l =
+    ap length (l .whole) ∙ length-append (take at text ++ w) (drop (at + length w) text)
+    ∙ omega (arith, length-append (take at text) w, length-take-le at text (omega (arith, l .behind)), length-drop (at + length w) text, l .behind)
 
 module _ (text : List ℕ) (at : ℕ) (v w : List ℕ) (fits : at ≤ length text) where
   head : length (take at text ++ v) ≡ at + length v

@@ -1,4 +1,5 @@
 // Lines of text and sections of input, which the programs share.
+pub mod asked;
 mod copy;
 pub mod lines;
 pub mod parts;

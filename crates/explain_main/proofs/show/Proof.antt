@@ -21,7 +21,7 @@ u32-at-requires : tie.Need-u32-at-requires
 u32-at-requires c κs =
     let d = c in
     let h = d .before .table-end .ensures .1 .table-in (d .if1 .left) in
-    let k = d .before .table-end .ensures .1 .questions-in (d .if1 .left) in omega arith
+    let k = d .before .table-end .ensures .1 .last-in (d .if1 .left) in omega arith
 
 cast-names : tie.Need-cast-names
 cast-names c = search needs
@@ -33,37 +33,37 @@ add-next : tie.Need-add-next
 add-next c =
     let d = c .before in
     let h = d .before .table-end .ensures .1 .table-in (d .if1 .left) in
-    let k = d .before .table-end .ensures .1 .questions-in (d .if1 .left) in omega arith
+    let k = d .before .table-end .ensures .1 .last-in (d .if1 .left) in omega arith
 
 sub-answer-all : tie.Need-sub-answer-all
 sub-answer-all c =
     let d = c .before in
     let h = d .before .table-end .ensures .1 .table-in (d .if1 .left) in
-    let k = d .before .table-end .ensures .1 .questions-in (d .if1 .left) in omega arith
+    let k = d .before .table-end .ensures .1 .last-in (d .if1 .left) in omega arith
 
 part-answer-all-start : tie.Need-part-answer-all-start
 part-answer-all-start c =
     let d = c .before in
     let h = d .before .table-end .ensures .1 .table-in (d .if1 .left) in
-    let k = d .before .table-end .ensures .1 .questions-in (d .if1 .left) in omega arith
+    let k = d .before .table-end .ensures .1 .last-in (d .if1 .left) in omega arith
 
 part-answer-all-end : tie.Need-part-answer-all-end
 part-answer-all-end c =
     let d = c .before in
     let h = d .before .table-end .ensures .1 .table-in (d .if1 .left) in
-    let k = d .before .table-end .ensures .1 .questions-in (d .if1 .left) in omega arith
+    let k = d .before .table-end .ensures .1 .last-in (d .if1 .left) in omega arith
 
 sub-answer-all-2 : tie.Need-sub-answer-all-2
 sub-answer-all-2 c =
     let d = c .before .before in
     let h = d .before .table-end .ensures .1 .table-in (d .if1 .left) in
-    let k = d .before .table-end .ensures .1 .questions-in (d .if1 .left) in omega arith
+    let k = d .before .table-end .ensures .1 .last-in (d .if1 .left) in omega arith
 
 part-answer-all-start-2 : tie.Need-part-answer-all-start-2
 part-answer-all-start-2 c =
     let d = c .before .before in
     let h = d .before .table-end .ensures .1 .table-in (d .if1 .left) in
-    let k = d .before .table-end .ensures .1 .questions-in (d .if1 .left) in omega arith
+    let k = d .before .table-end .ensures .1 .last-in (d .if1 .left) in omega arith
 
 part-answer-all-end-2 : tie.Need-part-answer-all-end-2
 part-answer-all-end-2 c = search needs

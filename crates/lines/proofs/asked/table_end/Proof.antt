@@ -1,17 +1,17 @@
 -- Each return has the facts that decide it. Assumes nothing.
-use Rattle.explain_main.specs.AskedLaws.{end-long, end-names, end-table, end-questions, end-there, apart-none, apart-there}
+use Rattle.lines.specs.Asked.{end-long, end-names, end-table, end-last, end-there, apart-none, apart-there}
 use borrow.Author.Needs.{needs}
-use Rattle.explain_main.proofs.table_end.Statement.{statement}
-use Rattle.explain_main.proofs.table_end.Tie as tie
+use Rattle.lines.proofs.asked.table_end.Statement.{statement}
+use Rattle.lines.proofs.asked.table_end.Tie as tie
 
 returns : tie.Need-returns
-returns c = (end-long _ (c .if1 .taken), apart-none _)
+returns c = (end-long _ _ _ (c .if1 .taken), apart-none _)
 
 part-end-requires : tie.Need-part-end-requires
 part-end-requires c κs = search needs
 
 returns-2 : tie.Need-returns-2
-returns-2 c = (end-names _ (c .before .before .if1 .left) (c .before .part-end .ensures .0) (c .if2 .taken), apart-none _)
+returns-2 c = (end-names _ _ _ (c .before .before .if1 .left) (c .before .part-end .ensures .0) (c .if2 .taken), apart-none _)
 
 part-end-requires-2 : tie.Need-part-end-requires-2
 part-end-requires-2 c κs = search needs
@@ -19,7 +19,7 @@ part-end-requires-2 c κs = search needs
 returns-3 : tie.Need-returns-3
 returns-3 c =
     let p = c .before .before .before in
-    let e = end-table _ (p .before .if1 .left) (p .part-end .ensures .0) (c .before .before .if2 .left) (c .before .part-end2 .ensures .0) (c .if3 .taken) in
+    let e = end-table _ _ _ (p .before .if1 .left) (p .part-end .ensures .0) (c .before .before .if2 .left) (c .before .part-end2 .ensures .0) (c .if3 .taken) in
     (e, apart-none _)
 
 part-end-requires-3 : tie.Need-part-end-requires-3
@@ -30,7 +30,7 @@ returns-4 c =
     let f = c .before .before .before in
     let p = f .before .before in
     let g = c .before .part-end3 .ensures .0 in
-    let e = end-questions _ (p .before .if1 .left) (p .part-end .ensures .0) (f .before .if2 .left) (f .part-end2 .ensures .0)
+    let e = end-last _ _ _ (p .before .if1 .left) (p .part-end .ensures .0) (f .before .if2 .left) (f .part-end2 .ensures .0)
     (c .before .before .if3 .left) g (c .if4 .taken) in
     (e, apart-none _)
 
@@ -42,7 +42,7 @@ returns-5 c =
     let f = c .before .before .before .part-end2 .ensures in
     let d = c .before .before .if3 .left in
     let g = c .before .part-end3 .ensures .0 in
-    (end-there _ h p q (f .0) d g (c .if4 .left), apart-there _ h p q (f .0) d g (f .1) (c .if4 .left))
+    (end-there _ _ _ h p q (f .0) d g (c .if4 .left), apart-there _ _ _ h p q (f .0) d g (f .1) (c .if4 .left))
 
 pub table-end-spec : {M : Type 1} → statement M
 table-end-spec =
