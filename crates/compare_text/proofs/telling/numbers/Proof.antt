@@ -46,9 +46,11 @@ same-length c = search needs
 returns : tie.Need-returns
 unfolding numbersText blank
 returns c =
-    let a = c .before .before .before .before .before .before .before .before .before .before .before .before .before .before .before .before .before .before .before .before .before .before .before .before .before .before .before .before .before .args in
+    let a = c .before .before .before .before .before .before .before .before .before .before .before .before .before .before .before .before .before .before
+    .before .before .before .before .before .before .before .before .before .before .before .args in
     let h : a .at ≤ length (now (a .text)) = omega arith in
-    let w0 = c .before .before .before .before .before .before .before .before .before .before .before .before .before .before .before .before .before .before .before .before .before .before .before .before .before .number .ensures .0 in
+    let w0 = c .before .before .before .before .before .before .before .before .before .before .before .before .before .before .before .before .before .before
+    .before .before .before .before .before .before .before .number .ensures .0 in
     let w1 = c .before .before .before .before .before .before .before .before .before .before .before .before .before .before .before .before .before .before .before .before .word .ensures in
     let w2 = c .before .before .before .before .before .before .before .before .before .before .before .before .before .before .before .before .number2 .ensures .0 in
     let w3 = c .before .before .before .before .before .before .before .before .before .before .before .word2 .ensures in

@@ -42,13 +42,17 @@ same-length c = search needs
 returns : tie.Need-returns
 unfolding recordLine blank newline
 returns c =
-    let w0 = c .before .before .before .before .before .before .before .before .before .before .before .before .before .before .before .before .before .before .before .before .before .before .before .before .before .number .ensures .0 in
+    let w0 = c .before .before .before .before .before .before .before .before .before .before .before .before .before .before .before .before .before .before
+    .before .before .before .before .before .before .before .number .ensures .0 in
     let w1 = c .before .before .before .before .before .before .before .before .before .before .before .before .before .before .before .before .before .before .before .before .word .ensures in
     let w2 = c .before .before .before .before .before .before .before .before .before .before .before .before .before .before .before .before .number2 .ensures .0 in
     let w3 = c .before .before .before .before .before .before .before .before .before .before .before .word2 .ensures in
     let w4 = c .before .before .before .before .before .before .before .number3 .ensures .0 in
     let w5 = c .before .before .word3 .ensures in
-    let h : c .before .before .before .before .before .before .before .before .before .before .before .before .before .before .before .before .before .before .before .before .before .before .before .before .before .before .before .before .args .at ≤ length (now (c .before .before .before .before .before .before .before .before .before .before .before .before .before .before .before .before .before .before .before .before .before .before .before .before .before .before .before .before .args .text)) = omega arith in (
+    let h : c .before .before .before .before .before .before .before .before .before .before .before .before .before .before .before .before .before .before
+    .before .before .before .before .before .before .before .before .before .before .args .at ≤ length
+    (now (c .before .before .before .before .before .before .before .before .before .before .before .before .before .before .before .before .before
+    .before .before .before .before .before .before .before .before .before .before .before .args .text)) = omega arith in (
       lays-then h (lays-then h (lays-then h (lays-then h (lays-then h w0 w1) w2) w3) w4) w5,
       search needs,
     )
