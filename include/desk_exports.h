@@ -385,8 +385,9 @@ uint32_t desk_feed_open(size_t streams, const uint64_t *hints, size_t hints_len,
  * has not 256 places or the window not DESK_WINDOW_BYTES; 12 for a stream that is not there, closed, or ended.
  * After 0: *taken is the number of bytes taken from the portion's front: as many as there are, but no more than make 1,024 kept and
  * 2^63 in all since the opening. What is kept stands from 1024 x stream on, the bytes taken behind what was kept before, and
- * spans[stream] says so; every byte of another stream's part of the window is as before. A stream of which more is needed takes at
- * least one byte of a portion that is not empty, unless 2^63 were taken. After any other answer: all as before. */
+ * spans[stream] says so; every other byte of the window, behind what is kept of this stream too, and every other span is as before. A
+ * stream of which more is needed takes at least one byte of a portion that is not empty, unless 2^63 were taken. After any other
+ * answer: all as before. */
 uint32_t desk_feed_bytes(uint64_t stream, const uint8_t *portion, size_t portion_len, const uint8_t *marks, size_t marks_len,
                          const uint64_t *places, size_t places_len, const uint64_t *heads, size_t heads_len, uint64_t *spans,
                          size_t spans_len, uint8_t *window, size_t window_len, size_t *taken);

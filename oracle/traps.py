@@ -618,7 +618,7 @@ def explain_program_traps():
 
 # Streams in portions (docs/RULES.md, Requests, No. 5). A case is a name and its calls with what they answer, in the words of
 # vectors_feed, whose data they are: o STREAMS HINTS.. opens, a STREAM SIZE HEX is a portion of so many bytes (HEX, then 9s), e STREAM
-# says that a stream has ended, n asks for the next answer, l PLACE lays the place of stream 0, x calls on arrays that are too short.
+# says that a stream has ended, n asks for the next answer, l PLACE lays the place of stream 0; from x on, in the last case, marks have 255 places.
 
 
 def feeding(name, *calls):
@@ -672,7 +672,7 @@ def feed_traps():
     yield feeding("F15", "o 1 0 = opened 1", f"a 0 32 {short(1)}{short(2)} = taken 32", "e 0 = done", "a 0 0 - = 12",
         "n = " + fed(0, 0, 0, 1), "n = " + fed(0, 16, 16, 2), "n = end", "n = end")
     yield feeding("F15", "o 1 0 = opened 1", f"a 0 1024 {longest} = taken 1024", "n = " + fed(0, 0, 0, 5, 1024, 9), "e 0 = done", "n = end")
-    yield feeding("F16", "o 2 0 = opened 2", "a 2 1 00 = 12", "a 256 0 - = 12", f"a {TOP} 0 - = 12", "e 2 = 12", "x = 15 15 15 15",
+    yield feeding("F16", "o 2 0 = opened 2", "a 2 1 00 = 12", "a 256 0 - = 12", f"a {TOP} 0 - = 12", "e 2 = 12",
         "o 257 0 = 12", "o 0 0 = 12", "o 2 1 5 = 12", "n = need 0")
     top = 2**63
     yield feeding("F17", "o 1 0 = opened 1", f"l {top - 16} = laid", f"a 0 20 {short(3)} = taken 16", "n = " + fed(0, top - 16, 0, 3),
@@ -687,6 +687,14 @@ def feed_traps():
     yield feeding("F21", "o 256 0 = opened 256", nines(0, 1024) + " = taken 1024", f"a 255 16 {short(4)} = taken 16", "n = 13 0 0 2",
         f"a 1 16 {short(8)} = taken 16", *[f"e {stream} = done" for stream in range(1, 256)], "n = " + fed(255, 0, 261120, 4),
         "n = " + fed(1, 0, 1024, 8), "n = end")
+    # The calls that ./follow makes of a file that is empty, of one that ends in half a record, and of one whose mark is made while its
+    # last bytes are unread.
+    yield feeding("F22", "o 1 0 = opened 1", "n = need 0", "e 0 = done", "n = end")
+    yield feeding("F22", "o 1 0 = opened 1", "n = need 0", f"a 0 25 {short(5)}{short(6)[:18]} = taken 25", "n = " + fed(0, 0, 0, 5),
+        "n = need 0", "e 0 = done", "n = 13 0 16 1", "n = end")
+    yield feeding("F22", "o 1 0 = opened 1", "n = need 0", f"a 0 7 {short(5)[:14]} = taken 7", "n = need 0",
+        f"a 0 9 {short(5)[14:]} = taken 9", "n = " + fed(0, 0, 0, 5), "n = need 0", "e 0 = done", "n = end")
+    yield feeding("F16", "x = few", "o 1 0 = 15", "a 0 0 - = 15", "e 0 = 15", "n = 15")
 
 
 def printed_portions(size):
@@ -704,6 +712,10 @@ def fed_answer(merge, call):
     """What the model answers to a call of a feed case, and the merge after it."""
     word, *numbers = call.split()
     try:
+        if word == "x":
+            return "few", "few"
+        if merge == "few":
+            return "15", merge
         if word == "o":
             count, many, *hints = map(int, numbers)
             return f"opened {count}", model.FeedMerge(count, hints)
@@ -721,8 +733,6 @@ def fed_answer(merge, call):
         if word == "l":
             merge.places[0] = merge.base[0] = merge.before[0] = int(numbers[0])
             return "laid", merge
-        if word == "x":
-            return "15 15 15 15", merge
         said = merge.next()
         if said is None:
             return "end", merge

@@ -17,7 +17,7 @@ ghost use lib.ListN.{length};
 ghost use Rattle.theory.specs.Answer.{answer};
 ghost use Rattle.records_rules.specs.State.{opening};
 ghost use Rattle.feed_rules.specs.Windows.{addAnswer, endAnswer, nextAnswer};
-ghost use Rattle.feed_rules.specs.Spans.{feedOf, feedFits, FeedOk, FeedSays, FeedUntouched};
+ghost use Rattle.feed_rules.specs.Spans.{feedOf, feedFits, FeedOk, FeedSays, FeedUntouched, FeedNeeds};
 ghost use Rattle.feed_rules.specs.Adding.{wordFits, portionFits, openFits, rightCount, FeedAdds, FeedEnds, FeedOpened};
 ghost use Rattle.door_answers.specs.Answers.{numberIn, valueIn};
 ghost use Rattle.door_feed.specs.Handing.{FedHanded};
@@ -136,6 +136,8 @@ pub extern "C" fn desk_feed_next(
         → FedHanded (nextAnswer (feedOf n (now (window .entry)) (now (marks .entry)) (now (times .entry)) (now (places .entry)) (now (heads .entry)) (now (spans .entry)))) r (now (found .entry)) (now (stream .entry)) (now (place .entry)) (now (index .entry)) (now (long .entry)) (now (kind .entry)) (now (instrument .entry)) (now (time .entry)) (now (reason .entry))
         (now (found .exit)) (now (stream .exit)) (now (place .exit)) (now (index .exit)) (now (long .exit)) (now (kind .exit)) (now (instrument .exit)) (now (time .exit)) (now (reason .exit))
         × FeedSays n (now (window .entry)) (now (marks .entry)) (now (times .entry)) (now (places .entry)) (now (heads .entry)) (now (spans .entry)) (nextAnswer (feedOf n (now (window .entry)) (now (marks .entry)) (now (times .entry)) (now (places .entry)) (now (heads .entry)) (now (spans .entry))))
+        (now (held .exit)) (now (marks .exit)) (now (times .exit)) (now (places .exit)) (now (heads .exit)) (now (heap .exit)) (now (spans .exit))
+        × FeedNeeds (now (window .entry)) (now (held .entry)) (now (marks .entry)) (now (times .entry)) (now (places .entry)) (now (heads .entry)) (now (heap .entry)) (now (spans .entry)) (nextAnswer (feedOf n (now (window .entry)) (now (marks .entry)) (now (times .entry)) (now (places .entry)) (now (heads .entry)) (now (spans .entry))))
         (now (held .exit)) (now (marks .exit)) (now (times .exit)) (now (places .exit)) (now (heads .exit)) (now (heap .exit)) (now (spans .exit))) ⌝ }
 {
     let turned = feed::turns::next(window, *held, marks, times, places, heads, heap, spans);

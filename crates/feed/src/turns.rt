@@ -24,7 +24,7 @@ ghost use mathlib.Core.List.{[], _∷_};
 ghost use Prim.Native.Nat.{ℕ, _<_, _≤_};
 ghost use lib.ListN.{length};
 ghost use Rattle.theory.specs.Answer.{answer};
-ghost use Rattle.feed_rules.specs.Spans.{handedOut, feedFits, FeedRoom, FeedOk, FeedSays, FeedUntouched};
+ghost use Rattle.feed_rules.specs.Spans.{handedOut, feedFits, FeedRoom, FeedOk, FeedSays, FeedUntouched, FeedNeeds};
 ghost use Rattle.feed.specs.Answers.{fedOf};
 
 // What a call answers: a record, with the index in the window at which its bytes stand; the end; that more of a stream is needed first;
@@ -122,7 +122,9 @@ fn turns(
     requires { ⌜ FeedRoom held (now marks) (now times) (now places) (now heads) (now heap) (now spans) ⌝ }
     ensures { λ r. ⌜ (r .held ≤ held) × ((n : ℕ) → n ≤ 256 → FeedOk n held (now (marks .entry)) (now (times .entry)) (now (places .entry)) (now (heads .entry)) (now (heap .entry)) (now (spans .entry))
         → FeedSays n (now (window .entry)) (now (marks .entry)) (now (times .entry)) (now (places .entry)) (now (heads .entry)) (now (spans .entry))
-        (fedOf (r .answer)) (r .held) (now (marks .exit)) (now (times .exit)) (now (places .exit)) (now (heads .exit)) (now (heap .exit)) (now (spans .exit))) ⌝ }
+        (fedOf (r .answer)) (r .held) (now (marks .exit)) (now (times .exit)) (now (places .exit)) (now (heads .exit)) (now (heap .exit)) (now (spans .exit)))
+        × FeedNeeds (now (window .entry)) held (now (marks .entry)) (now (times .entry)) (now (places .entry)) (now (heads .entry)) (now (heap .entry)) (now (spans .entry))
+        (fedOf (r .answer)) (r .held) (now (marks .exit)) (now (times .exit)) (now (places .exit)) (now (heads .exit)) (now (heap .exit)) (now (spans .exit)) ⌝ }
 {
     let mut size = held;
     loop {
@@ -183,7 +185,8 @@ fn turns(
     }
 }
 
-// The next record, the damage of a stream, the end, or that more of a stream is needed first. 15 leaves everything as it was.
+// The next record, the damage of a stream, the end, or that more of a stream is needed first. 15 leaves everything as it was, and so does
+// a second call after one that needs more, where nothing has come.
 pub fn next(
     window: &[u8],
     held: usize,
@@ -201,6 +204,9 @@ pub fn next(
     ensures { λ r. ⌜ (feedFits held (length (now (marks .entry))) (length (now (times .entry))) (length (now (places .entry))) (length (now (heads .entry))) (length (now (heap .entry))) (length (now (spans .entry))) (length (now (window .entry))) ≡ true
         → (n : ℕ) → n ≤ 256 → FeedOk n held (now (marks .entry)) (now (times .entry)) (now (places .entry)) (now (heads .entry)) (now (heap .entry)) (now (spans .entry))
         → FeedSays n (now (window .entry)) (now (marks .entry)) (now (times .entry)) (now (places .entry)) (now (heads .entry)) (now (spans .entry))
+        (fedOf (r .answer)) (r .held) (now (marks .exit)) (now (times .exit)) (now (places .exit)) (now (heads .exit)) (now (heap .exit)) (now (spans .exit))) ⌝ }
+    ensures { λ r. ⌜ (feedFits held (length (now (marks .entry))) (length (now (times .entry))) (length (now (places .entry))) (length (now (heads .entry))) (length (now (heap .entry))) (length (now (spans .entry))) (length (now (window .entry))) ≡ true
+        → FeedNeeds (now (window .entry)) held (now (marks .entry)) (now (times .entry)) (now (places .entry)) (now (heads .entry)) (now (heap .entry)) (now (spans .entry))
         (fedOf (r .answer)) (r .held) (now (marks .exit)) (now (times .exit)) (now (places .exit)) (now (heads .exit)) (now (heap .exit)) (now (spans .exit))) ⌝ }
 {
     if !feed_fits(

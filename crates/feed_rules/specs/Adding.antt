@@ -2,14 +2,14 @@
 use mathlib.Core.Path.{_≡_}
 use mathlib.Core.Logic.{_≢_}
 use Prim.Native.Nat.{ℕ, _+_, _-_, _*_, _/_, _%_, _<_, _≤_, _^_, min}
-use mathlib.Core.Bool.{Bool, true, not, cond, _&&_, _||_}
+use mathlib.Core.Bool.{Bool, true, false, not, cond, _&&_, _||_}
 use mathlib.Core.List.{List}
-use lib.ListN.{getD, drop}
+use lib.ListN.{length, getD, set, drop}
 use lib.Seq.{paste}
 use lib.Dec.{eqb, ltb, leb}
 use Rattle.theory.specs.Answer.{Answer}
 use Rattle.records_rules.specs.State.{arraysFit}
-use Rattle.feed_rules.specs.Windows.{opened, closed, addAnswer, addLeaves, endAnswer, endLeaves, Alike}
+use Rattle.feed_rules.specs.Windows.{opened, closed, taking, addAnswer, addLeaves, endAnswer, endLeaves, Alike}
 use Rattle.feed_rules.specs.Spans.{counts, feedOf, FeedOk}
 
 -- ---- what is lent: where it does not fit, 15
@@ -43,15 +43,21 @@ abbrev pub laidWindow : List ℕ → ℕ → ℕ → List ℕ → ℕ → List �
 laidWindow window p s xs k =
     paste (paste window (1024 * p) (drop (1024 * p + s % 65536) window) (s / 65536 % 65536)) (1024 * p + s / 65536 % 65536) xs k
 
--- the answer x to a portion xs of the stream p, and what it leaves: of the window the part of p alone, and the span of p alone; where it
--- is refused, everything
-pub record FeedAdds (n held : ℕ) (window ms ts cs hs hp ps : List ℕ) (p : ℕ) (xs : List ℕ) (x : Answer) (window' ps' : List ℕ) : Type 0 where
+-- the spans after it: what is kept of p begins at the front of its part
+abbrev pub laidSpans : List ℕ → ℕ → ℕ → List ℕ
+laidSpans ps p k = set ps p (65536 * (getD ps p 0 / 65536 % 65536 + k))
+
+-- the answer x to a portion xs of the stream p, and what it leaves: the kept bytes of p and then those taken stand at the front of its
+-- part, and every other byte and span is as at entry; where it is refused, all are
+pub record FeedAdds (n held : ℕ) (window ms ts cs hs hp ps : List ℕ) (p : ℕ) (xs : List ℕ) (x : Answer) (window' ps' : List ℕ)
+    : Type 0 where
   pub heard : x ≡ addAnswer (feedOf n window ms ts cs hs ps) p xs
   pub leaves : Alike (feedOf n window' ms ts cs hs ps') (addLeaves (feedOf n window ms ts cs hs ps) p xs)
   pub sound : FeedOk n held ms ts cs hs hp ps'
   pub refused : closed (feedOf n window ms ts cs hs ps) p ≡ true → (window' ≡ window) × (ps' ≡ ps)
-  pub others : (i : ℕ) → (1024 * p ≤ i → i < 1024 * p + 1024 → ⊥) → getD window' i 0 ≡ getD window i 0
-  pub spans : (q : ℕ) → q ≢ p → getD ps' q 0 ≡ getD ps q 0
+  pub laid : closed (feedOf n window ms ts cs hs ps) p ≡ false
+      → (window' ≡ laidWindow window p (getD ps p 0) xs (taking (length xs) (feedOf n window ms ts cs hs ps .kept p)))
+      × (ps' ≡ laidSpans ps p (taking (length xs) (feedOf n window ms ts cs hs ps .kept p)))
 
 -- ---- the word that a stream has ended
 

@@ -1,30 +1,27 @@
--- An opening, a portion and the word that a stream has ended, on a sound state. Assumes nothing.
+-- A portion, and the word that a stream has ended, on a sound state. Assumes nothing.
 use mathlib.Core.Path.{_≡_, refl, sym, ap, _∙_}
 use mathlib.Core.Logic.{_≢_}
 use Prim.Native.Nat.{ℕ, zero, suc, _+_, _-_, _*_, _/_, _%_, _<_, _≤_, _^_}
 use native.Mathlib.Decide.{ℕ-discrete, decLt}
 use native.Mathlib.Omega.{arith}
-use mathlib.Core.Bool.{Bool, true, false, not, cond, _&&_, _||_}
-use mathlib.Core.List.{List, [], _∷_, _++_, append-assoc}
-use lib.ListN.{length, getD, set, take, drop, length-drop, length-append, List·getD-append, take-append-drop}
-use lib.Seq.{slice, slice-empty, paste, length-slice, length-paste, length-take-le, take-paste, take-add}
-use lib.Seq.{drop-paste, drop-at, getD-take, getD-drop, ext-getD}
-use lib.Dec.{eqb, ltb, leb}
-use borrow.Author.Tests.{lt-ltb, le-ltb, eq-eqb, ne-eqb, eqb-true, leb-true}
-use Rattle.theory.specs.Answer.{answer}
+use mathlib.Core.Bool.{Bool, true, false, true≢false, not, cond, _||_}
+use mathlib.Core.List.{List, [], _∷_}
+use lib.ListN.{length, getD, set}
+use lib.Seq.{length-slice, getD-set-other}
+use lib.Dec.{eqb, ltb}
+use borrow.Author.Tests.{lt-ltb, le-ltb, eq-eqb, ne-eqb, eqb-true}
+use Rattle.theory.specs.Answer.{Answer, answer}
 use Rattle.records_rules.specs.Machine.{Status, gone}
 use Rattle.records_rules.specs.View.{statusOf, statusesOf, status-at}
-use Rattle.records_rules.specs.State.{arraysFit, Room, StreamsOpened}
-use Rattle.records_rules.specs.Opening.{arrays-room}
-use Rattle.feed_rules.specs.Windows.{Kept, Feed, put, opened, isGone, closed, taking}
+use Rattle.feed_rules.specs.Windows.{Kept, Feed, put, isGone, closed, taking}
 use Rattle.feed_rules.specs.Windows.{grow, shut, addAnswer, addLeaves, endAnswer, endLeaves}
 use Rattle.feed_rules.specs.Spans.{counts, bytesIn, keptOf, feedOf, SlotOk, FeedOk}
 use Rattle.feed_rules.specs.WindowsLaws.{put-case}
 use Rattle.feed_rules.specs.SpansLaws.{kept-one, and-true}
-use Rattle.feed_rules.specs.Steps.{put-set, put-none, slots-put, keptAt, statuses-out, not-there, alive, counts-zero}
-use Rattle.feed_rules.specs.Portions.{slice-is}
-use Rattle.feed_rules.specs.Adding.{wordFits, portionFits, openFits, rightCount, shutAt, roomFor}
-use Rattle.feed_rules.specs.Adding.{laidWindow, FeedAdds, FeedEnds, FeedOpened}
+use Rattle.feed_rules.specs.Stores.{put-set, put-none, slots-put, statuses-out, not-there, alive}
+use Rattle.feed_rules.specs.Going.{keptAt}
+use Rattle.feed_rules.specs.Adding.{wordFits, portionFits, shutAt, roomFor, laidWindow, laidSpans, FeedAdds, FeedEnds}
+use Rattle.feed_rules.specs.Laying.{slice-same, length-laid, laid-other, laid-bytes, fresh-span}
 
 -- ---- who is closed
 
@@ -55,94 +52,10 @@ closed-is {n} {held} {ms} {ts} {cs} {hs} {hp} {ps} window hn ok p = go (decLt p 
         let l : n ≤ p = omega (arith, h) in
         ap (λ (s : Status). isGone s || over) (statuses-out n ms ts cs hs p l) ∙ far (decLt p 256) l
 
--- ---- the window
-
-pub paste-other : (d : List ℕ) (at : ℕ) (s : List ℕ) (n i : ℕ) → at + n ≤ length d → n ≤ length s → (at ≤ i → i < at + n → ⊥)
-    → getD (paste d at s n) i 0 ≡ getD d i 0
-paste-other d at s n i hd hs out = go (decLt i at)
-  where
-    front : length (take at d) ≡ at
-    front = length-take-le at d (omega arith)
-
-    go : Dec (i < at) → getD (paste d at s n) i 0 ≡ getD d i 0
-    go (yes h) =
-        List·getD-append (take at d ++ take n s) (drop (at + n) d) 0 i (omega (arith, length-append (take at d) (take n s), front))
-        ∙ List·getD-append (take at d) (take n s) 0 i (omega (arith, front))
-        ∙ getD-take at d i 0 h
-    go (no h) =
-        let k : at + n ≤ i = above (decLt i (at + n)) (omega (arith, h)) in
-        let e : at + n + (i - (at + n)) ≡ i = omega arith in
-        ap (λ (j : ℕ). getD (paste d at s n) j 0) (sym e)
-        ∙ sym (getD-drop (at + n) (paste d at s n) (i - (at + n)) 0)
-        ∙ ap (λ (l : List ℕ). getD l (i - (at + n)) 0) (drop-paste d at s n (omega arith) hs)
-        ∙ getD-drop (at + n) d (i - (at + n)) 0
-        ∙ ap (λ (j : ℕ). getD d j 0) e
-      where
-        above : Dec (i < at + n) → at ≤ i → at + n ≤ i
-        above (yes l) m = absurd (out m l)
-        above (no l) m = omega (arith, l)
-
--- bytes laid where they stand
-pub paste-self : (d : List ℕ) (at start n : ℕ) → start ≡ 0 → d ≡ paste d at (drop (at + start) d) n
-paste-self d at start n e =
-    let z : at + start ≡ at = omega arith in
-    sym (take-append-drop (at + n) d)
-    ∙ ap (λ (l : List ℕ). l ++ drop (at + n) d) (take-add at n d)
-    ∙ ap (λ (k : ℕ). paste d at (drop k d) n) (sym z)
-
-slice-same : (f t : ℕ) (w w' : List ℕ) → length w' ≡ length w → t ≤ length w → ((i : ℕ) → f ≤ i → i < t → getD w' i 0 ≡ getD w i 0)
-    → slice f t w' ≡ slice f t w
-slice-same f t w w' e h k =
-    ext-getD 0 (slice f t w') (slice f t w) (length-slice f t w' (omega arith) ∙ sym (length-slice f t w h))
-    (λ i l.
-    let b : f + i < t = omega (arith, length-slice f t w' (omega arith)) in
-    getD-drop f (take t w') i 0 ∙ getD-take t w' (f + i) 0 b ∙ k (f + i) (omega arith) b ∙ sym (getD-take t w (f + i) 0 b)
-    ∙ sym (getD-drop f (take t w) i 0))
-
-module _ (window : List ℕ) (p s : ℕ) (xs : List ℕ) (k : ℕ) (long : length window ≡ 262144) (hp : p < 256)
-    (short : s % 65536 + s / 65536 % 65536 ≤ 1024) (room : s / 65536 % 65536 + k ≤ 1024) (enough : k ≤ length xs) where
-  abbrev f : ℕ
-  f = 1024 * p
-
-  abbrev moved : List ℕ
-  moved = paste window f (drop (f + s % 65536) window) (s / 65536 % 65536)
-
-  tail : s / 65536 % 65536 ≤ length (drop (f + s % 65536) window)
-  tail = omega (arith, length-drop (f + s % 65536) window)
-
-  length-moved : length moved ≡ 262144
-  length-moved = length-paste window f (drop (f + s % 65536) window) (s / 65536 % 65536) (omega arith) tail ∙ long
-
-  pub length-laid : length (laidWindow window p s xs k) ≡ length window
-  length-laid = length-paste moved (f + s / 65536 % 65536) xs k (omega (arith, length-moved)) enough ∙ length-moved ∙ sym long
-
-  pub laid-other : (i : ℕ) → (f ≤ i → i < f + 1024 → ⊥) → getD (laidWindow window p s xs k) i 0 ≡ getD window i 0
-  laid-other i out =
-      paste-other moved (f + s / 65536 % 65536) xs k i (omega (arith, length-moved)) enough (λ l u. out (omega arith) (omega arith))
-      ∙ paste-other window f (drop (f + s % 65536) window) (s / 65536 % 65536) i (omega arith) tail (λ l u. out (omega arith) (omega arith))
-
-  pub laid-bytes : slice f (f + (s / 65536 % 65536 + k)) (laidWindow window p s xs k) ≡ bytesIn window p s ++ take k xs
-  laid-bytes =
-      let n = s / 65536 % 65536 in
-      let A : List ℕ = take n (drop (f + s % 65536) window) in
-      let B : List ℕ = take k xs in
-      let e : f + (n + k) ≡ f + n + k = omega arith in
-      ap (λ (t : ℕ). drop f (take t (laidWindow window p s xs k))) e
-      ∙ ap (drop f) (take-paste moved (f + n) xs k (omega (arith, length-moved)) enough)
-      ∙ ap (λ (l : List ℕ). drop f (l ++ B)) (take-paste window f (drop (f + s % 65536) window) n (omega arith) tail)
-      ∙ ap (drop f) (append-assoc (take f window) A B)
-      ∙ drop-at (take f window) (A ++ B) f (length-take-le f window (omega arith))
-      ∙ ap (λ (l : List ℕ). l ++ B) (sym (slice-is (f + s % 65536) n window))
-
--- a span at the front of its part
-fresh-span : (n : ℕ) → n ≤ 1024 → (65536 * n % 65536 ≡ 0) × (65536 * n / 65536 % 65536 ≡ n) × (65536 * n / 4294967296 ≡ 0)
-fresh-span n h =
-    let e : 65536 * n / 65536 ≡ n = omega arith in
-    (omega arith, rw e (omega arith), omega arith)
-
 -- ---- a portion
 
-module _ {n held : ℕ} {ms ts cs hs hp ps : List ℕ} (window : List ℕ) (hn : n ≤ 256) (ok : FeedOk n held ms ts cs hs hp ps) (p : ℕ) (xs : List ℕ) where
+module _ {n held : ℕ} {ms ts cs hs hp ps : List ℕ} (window : List ℕ) (hn : n ≤ 256) (ok : FeedOk n held ms ts cs hs hp ps)
+    (p : ℕ) (xs : List ℕ) where
   abbrev F : Feed
   F = feedOf n window ms ts cs hs ps
 
@@ -156,8 +69,7 @@ module _ {n held : ℕ} {ms ts cs hs hp ps : List ℕ} (window : List ℕ) (hn :
         leaves = rw c (record { statuses = refl; kept = λ q d. refl });
         sound = ok;
         refused = λ z. (refl, refl);
-        others = λ i o. refl;
-        spans = λ q d. refl;
+        laid = λ z. absurd (true≢false (sym c ∙ z));
       }
 
   -- ended, closed or not there: by the tests
@@ -214,7 +126,8 @@ module _ {n held : ℕ} {ms ts cs hs hp ps : List ℕ} (window : List ℕ) (hn :
             let e : ltb 1024 (s % 65536 + s / 65536 % 65536) ≡ false = le-ltb 1024 (s % 65536 + s / 65536 % 65536) (slot .short) in
             rw e (omega arith, omega (arith, slot .short), omega (arith, slot .most, slot .short))
 
-        kept-laid : keptOf (laidWindow window p s xs k) p (getD ms p 0) (getD cs p 0) (getD hs p 0) (65536 * (s / 65536 % 65536 + k)) ≡ grow p xs (F .kept p)
+        kept-laid : keptOf (laidWindow window p s xs k) p (getD ms p 0) (getD cs p 0) (getD hs p 0) (65536 * (s / 65536 % 65536 + k))
+            ≡ grow p xs (F .kept p)
         unfolding feedOf keptOf grow
         kept-laid =
             let n' = s / 65536 % 65536 + k in
@@ -232,7 +145,7 @@ module _ {n held : ℕ} {ms ts cs hs hp ps : List ℕ} (window : List ℕ) (hn :
         after = laidWindow window p s xs k
 
         abbrev spans' : List ℕ
-        spans' = set ps p (65536 * (s / 65536 % 65536 + k))
+        spans' = laidSpans ps p k
 
         slot-laid : SlotOk (getD ms p 0) (getD cs p 0) (getD hs p 0) (65536 * (s / 65536 % 65536 + k))
         slot-laid =
@@ -257,7 +170,7 @@ module _ {n held : ℕ} {ms ts cs hs hp ps : List ℕ} (window : List ℕ) (hn :
             (slice-same from₀ (from₀ + t / 65536 % 65536) window after
             (length-laid window p s xs k long below (slot .short) (room-fits .1) (room-fits .0))
             (omega (arith, o .short))
-            (λ i u v. laid-other window p s xs k long below (slot .short) (room-fits .1) (room-fits .0) i (λ x y. d (omega (arith, o .short)))))
+            (λ i u v. laid-other window p s xs k long below (slot .short) (room-fits .1) (room-fits .0) i (λ x y. d (omega (arith, o .short, room-fits .1)))))
             refl)
 
         kept-all : (q : ℕ) → getD (statusesOf n ms ts cs hs) q gone ≢ gone
@@ -289,10 +202,52 @@ module _ {n held : ℕ} {ms ts cs hs hp ps : List ℕ} (window : List ℕ) (hn :
                 lone = ok .lone;
                 unused = ok .unused;
               };
-              refused = λ e. let z : _≡_ {A = ℕ} 0 1 = cc in absurd (omega arith);
-              others = laid-other window p s xs k long below (slot .short) (room-fits .1) (room-fits .0);
-              spans = u .there;
+              refused = λ e. absurd (true≢false (sym e ∙ c));
+              laid = λ e. (ap (λ (z : ℕ). laidWindow window p s xs z) room-is, ap (λ (z : ℕ). laidSpans ps p z) room-is);
             }
+
+        -- what is taken fits behind what is kept
+        pub stays : (i : ℕ) → (1024 * p ≤ i → i < 1024 * p + (s / 65536 % 65536 + taking (length xs) (F .kept p)) → ⊥)
+            → getD (laidWindow window p s xs (taking (length xs) (F .kept p))) i 0 ≡ getD window i 0
+        stays = rw (← room-is) (laid-other window p s xs k long below (slot .short) (room-fits .1) (room-fits .0))
+
+  shut-no : shutAt p ms ps ≡ false → (p < 256) × (getD ms p 0 ≢ 0) × (getD ps p 0 / 4294967296 ≡ 0)
+  shut-no e = (below (decLt p 256), live, going (ℕ-discrete (getD ps p 0 / 4294967296) 0))
+    where
+      below : Dec (p < 256) → p < 256
+      below (yes h) = h
+      below (no h) = absurd (true≢false (sym (shut-far (omega (arith, h))) ∙ e))
+
+      live : getD ms p 0 ≢ 0
+      live z = true≢false (sym (shut-gone (below (decLt p 256)) z) ∙ e)
+
+      going : Dec (getD ps p 0 / 4294967296 ≡ 0) → getD ps p 0 / 4294967296 ≡ 0
+      going (yes h) = h
+      going (no h) = absurd (true≢false (sym (shut-ended (below (decLt p 256)) live h) ∙ e))
+
+  module _ {x : Answer} {window' ps' : List ℕ} (a : FeedAdds n held window ms ts cs hs hp ps p xs x window' ps') where
+    by-closed : (P : Type 0) → (closed F p ≡ true → P) → (closed F p ≡ false → P) → P
+    by-closed P f g = go (closed F p) refl
+      where
+        go : (b : Bool) → closed F p ≡ b → P
+        go true e = f e
+        go false e = g e
+
+    -- every byte of the window but those kept of the stream then is as at entry
+    pub adds-others : length window ≡ 262144 → 256 ≤ length ps → (i : ℕ)
+        → (1024 * p ≤ i → i < 1024 * p + (getD ps p 0 / 65536 % 65536 + taking (length xs) (F .kept p)) → ⊥)
+        → getD window' i 0 ≡ getD window i 0
+    adds-others long lp i out =
+        by-closed _ (λ e. ap (λ (w : List ℕ). getD w i 0) (a .refused e .0))
+        (λ e.
+        let o = shut-no (sym (closed-is window hn ok p) ∙ e) in
+        ap (λ (w : List ℕ). getD w i 0) (a .laid e .0) ∙ stays (o .0) (o .1) (o .2) long lp i out)
+
+    -- every span but its own is as at entry
+    pub adds-spans : (q : ℕ) → q ≢ p → getD ps' q 0 ≡ getD ps q 0
+    adds-spans q d =
+        by-closed _ (λ e. ap (λ (l : List ℕ). getD l q 0) (a .refused e .1))
+        (λ e. ap (λ (l : List ℕ). getD l q 0) (a .laid e .1) ∙ getD-set-other ps p q _ 0 d)
 
 -- ---- the word that a stream has ended
 
@@ -358,74 +313,12 @@ module _ {n held : ℕ} {ms ts cs hs hp ps : List ℕ} (window : List ℕ) (hn :
             lone = ok .lone;
             unused = ok .unused;
           };
-          refused = λ e. let z : _≡_ {A = ℕ} 0 1 = cc in absurd (omega arith);
+          refused = λ e. absurd (true≢false (sym e ∙ c));
           spans = u .there;
         }
 
--- ---- an opening
+-- ---- what is lent, by the tests
 
-kept-zero : (window : List ℕ) (q m : ℕ) → keptOf window q m 0 0 0 ≡ record { at = 1024 * q; base = 0; bytes = []; over = false }
-unfolding keptOf
-kept-zero window q m =
-    let a : 1024 * q + 0 ≡ 1024 * q = omega arith in
-    let b : 1024 * q + 0 + 0 ≡ 1024 * q + 0 = omega arith in
-    kept-one a (omega arith) (ap (λ (t : ℕ). slice (1024 * q + 0) t window) b ∙ slice-empty (1024 * q + 0) window) refl
-
-slot-zero : (m : ℕ) → SlotOk m 0 0 0
-slot-zero m =
-    let z = counts-zero m in
-    record { short = omega arith; ends = omega arith; fits = omega arith; placed = omega (arith, z); most = omega arith }
-
-pub feed-opened : {n : ℕ} {hints ms ts cs hs hp ps : List ℕ} → n ≤ 256 → length ms ≡ 256 → StreamsOpened n hints ms ts cs hs hp
-    → ((q : ℕ) → q < 256 → getD ps q 0 ≡ 0) → FeedOpened n hints ms ts cs hs hp ps
-unfolding feedOf opened
-feed-opened {n} {hints} {ms} {ts} {cs} {hs} {hp} {ps} hn long o z =
-    record {
-      starts = λ window. record { statuses = o .starts; kept = λ q d. kept-at window q (not-there n ms ts cs hs q (rw (o .starts) d)) };
-      sound = record {
-        state = o .sound;
-        slots = λ q l m. slot-at q l;
-        lone = λ q l m d. rw (o .places q (omega arith) .1) refl;
-        unused = λ q l. out q l (decLt q 256);
-      };
-      spans = z;
-    }
-  where
-    kept-at : (window : List ℕ) (q : ℕ) → q < n
-        → keptAt window ms cs hs ps q ≡ record { at = 1024 * q; base = 0; bytes = []; over = false }
-    kept-at window q l = rw (o .places q (omega arith) .0, o .places q (omega arith) .1, z q (omega arith)) (kept-zero window q (getD ms q 0))
-
-    slot-at : (q : ℕ) → q < n → SlotOk (getD ms q 0) (getD cs q 0) (getD hs q 0) (getD ps q 0)
-    slot-at q l = rw (o .places q (omega arith) .0, o .places q (omega arith) .1, z q (omega arith)) (slot-zero (getD ms q 0))
-
-    beyond : (l : List ℕ) (i : ℕ) → length l ≤ i → getD l i 0 ≡ 0
-    beyond [] i h = refl
-    beyond (x ∷ l) zero h = absurd (omega arith)
-    beyond (x ∷ l) (suc i) h = beyond l i (omega arith)
-
-    out : (q : ℕ) → n ≤ q → Dec (q < 256) → getD ms q 0 ≡ 0
-    out q l (yes h) = o .unused q l h .0
-    out q l (no h) = beyond ms q (omega (arith, h))
-
--- what is lent to an opening fits, by the tests
-module _ (marks times places heads heap spans : ℕ) where
-  pub open-none : arraysFit 0 marks times places heads heap ≡ false → false ≡ openFits marks times places heads heap spans
-  unfolding openFits
-  open-none e = rw e refl
-
-  pub open-spans : arraysFit 0 marks times places heads heap ≡ true → eqb spans 256 ≡ openFits marks times places heads heap spans
-  unfolding openFits
-  open-spans e = rw e refl
-
--- one more place is empty
-pub emptied : (ps : List ℕ) (i : ℕ) → i < length ps → ((q : ℕ) → q < i → getD ps q 0 ≡ 0) → (q : ℕ) → q < i + 1 → getD (set ps i 0) q 0 ≡ 0
-emptied ps i h k q l = go (ℕ-discrete q i)
-  where
-    go : Dec (q ≡ i) → getD (set ps i 0) q 0 ≡ 0
-    go (yes e) = ap (λ (j : ℕ). getD (set ps i 0) j 0) e ∙ put-set ps i 0 h .here
-    go (no e) = put-set ps i 0 h .there q e ∙ k q (omega arith)
-
--- and then there is the room
 pub word-room : (ms ps : List ℕ) → wordFits (length ms) (length ps) ≡ true → (length ms ≡ 256) × (length ps ≡ 256)
 unfolding wordFits
 word-room ms ps e = let a = and-true _ _ e in (eqb-true (length ms) 256 (a .0), eqb-true (length ps) 256 (a .1))
@@ -453,30 +346,6 @@ portion-room ms cs hs ps window e =
       bytes = eqb-true (length window) 262144 (c .0);
     }
 
-marks-256 : (held marks times places heads heap : ℕ) → arraysFit held marks times places heads heap ≡ true → marks ≡ 256
-unfolding arraysFit
-marks-256 held marks times places heads heap e =
-    let a = and-true (leb held 256) (eqb marks 256 && (eqb times 256 && (eqb places 256 && (eqb heads 256 && eqb heap 256)))) e in
-    eqb-true marks 256 (and-true (eqb marks 256) (eqb times 256 && (eqb places 256 && (eqb heads 256 && eqb heap 256))) (a .1) .0)
-
-pub open-room : (ms ts cs hs hp ps : List ℕ) → openFits (length ms) (length ts) (length cs) (length hs) (length hp) (length ps) ≡ true
-    → Room 0 ms ts cs hs hp × (length ps ≡ 256) × (length ms ≡ 256)
-unfolding openFits
-open-room ms ts cs hs hp ps e =
-    let a = and-true _ _ e in
-    (arrays-room 0 ms ts cs hs hp (a .0), eqb-true (length ps) 256 (a .1), marks-256 0 (length ms) (length ts) (length cs) (length hs) (length hp) (a .0))
-
-pub count-room : (n hints : ℕ) → rightCount n hints ≡ true → (1 ≤ n) × (n ≤ 256) × (hints ≤ n)
-unfolding rightCount
-count-room n hints e =
-    let a = and-true _ _ e in
-    let b = and-true _ _ (a .1) in
-    (leb-true 1 n (a .0), leb-true n 256 (b .0), either (eqb hints 0) refl (b .1))
-  where
-    either : (x : Bool) → eqb hints 0 ≡ x → (x || eqb hints n) ≡ true → hints ≤ n
-    either true z w = omega (arith, eqb-true hints 0 z)
-    either false z w = omega (arith, eqb-true hints n w)
-
 -- a portion is taken as far as there is room
 pub room-bounds : (size mark place head s : ℕ) → s % 65536 + s / 65536 % 65536 ≤ 1024
     → (roomFor size mark place head s ≤ size) × (s / 65536 % 65536 + roomFor size mark place head s ≤ 1024)
@@ -484,6 +353,3 @@ unfolding roomFor
 room-bounds size mark place head s h =
     let e : ltb 1024 (s % 65536 + s / 65536 % 65536) ≡ false = le-ltb 1024 (s % 65536 + s / 65536 % 65536) h in
     rw e (omega arith, omega arith)
-
-pub not-both : true ≡ false → ⊥
-not-both e = let z : _≡_ {A = ℕ} 0 1 = cc in omega arith

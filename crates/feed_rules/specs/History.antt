@@ -5,7 +5,7 @@ use mathlib.Core.Logic.{_≢_}
 use Prim.Native.Nat.{ℕ, zero, suc, _+_, _-_, _<_}
 use native.Mathlib.Decide.{ℕ-discrete}
 use native.Mathlib.Omega.{arith}
-use mathlib.Core.Bool.{Bool, true, false, cond, _||_}
+use mathlib.Core.Bool.{Bool, true, false, true≢false, cond, _||_}
 use mathlib.Core.Option.{Option, none, some}
 use mathlib.Core.List.{List, [], _∷_, _++_}
 use lib.ListN.{length, getD, set, take}
@@ -29,7 +29,6 @@ use Rattle.feed_rules.specs.Windows.{Call, portion, word, call, answerTo
 use Rattle.feed_rules.specs.Portions.{Covers, covers-step, call-within, opened-within, record-bytes, Brought, portioned-are}
 use Rattle.feed_rules.specs.Spans.{bytesIn, keptOf, feedOf, FeedSays}
 use Rattle.feed_rules.specs.Adding.{FeedAdds, FeedEnds, FeedOpened}
-use Rattle.feed_rules.specs.AddingLaws.{not-both}
 
 -- ---- a turn asks only of streams that wait, and wakes nobody
 
@@ -199,7 +198,7 @@ module _ (F G : Feed) (s : Alike F G) where
 
   -- who is not closed is not gone
   not-gone : (p : ℕ) → closed G p ≡ false → Alive (G .statuses) p
-  not-gone p e z = not-both (sym (shut-gone G p z) ∙ e)
+  not-gone p e z = true≢false (sym (shut-gone G p z) ∙ e)
 
   same-put : (p q : ℕ) (f : Kept → Kept) → closed G p ≡ false → Alive (G .statuses) q
       → put p (f (F .kept p)) (F .kept) q ≡ put p (f (G .kept p)) (G .kept) q

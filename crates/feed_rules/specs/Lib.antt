@@ -6,8 +6,12 @@ pub mod WindowsLaws
 pub mod Portions
 pub mod Spans
 pub mod SpansLaws
+pub mod Stores
+pub mod Going
 pub mod Steps
 pub mod Adding
+pub mod Laying
 pub mod AddingLaws
+pub mod OpeningLaws
 pub mod History
 pub mod Examples

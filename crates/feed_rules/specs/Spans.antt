@@ -15,6 +15,7 @@ use Rattle.leaves.specs.Frame.{Read}
 use Rattle.records_rules.specs.Heap.{at}
 use Rattle.records_rules.specs.View.{statusesOf}
 use Rattle.records_rules.specs.State.{arraysFit, gotOf, StateOk}
+use Rattle.feed_rules.specs.Partial.{part, knownAt}
 use Rattle.feed_rules.specs.Windows.{Kept, Feed, nextLeaves, nextAnswer, Alike}
 
 -- ---- a span
@@ -111,3 +112,20 @@ pub record FeedSays (n : ℕ) (window ms ts cs hs ps : List ℕ) (x : Answer) (h
   pub heard : x ≡ nextAnswer (feedOf n window ms ts cs hs ps)
   pub leaves : Alike (feedOf n window ms' ts' cs' hs' ps') (nextLeaves (feedOf n window ms ts cs hs ps))
   pub sound : FeedOk n held ms' ts' cs' hs' hp' ps'
+
+-- ---- need more
+
+-- more of the stream at the heap's root must come first: it waits, no record of it counts, and its read is not known
+pub record Wanting (window : List ℕ) (held : ℕ) (ms hs hp ps : List ℕ) : Type 0 where
+  pub any : 0 < held
+  pub waits : getD ms (at hp 0) 0 ≡ 1
+  pub none-counts : getD hs (at hp 0) 0 ≡ 0
+  pub unknown : knownAt (part (bytesIn window (at hp 0) (getD ps (at hp 0) 0)) (not (eqb (getD ps (at hp 0) 0 / 4294967296) 0))) 0 ≡ none
+
+-- a call that answers need more leaves a state in which more must come first; and where more must come first at entry, it answers need
+-- more and leaves everything as it was
+pub record FeedNeeds (window : List ℕ) (held : ℕ) (ms ts cs hs hp ps : List ℕ) (x : Answer) (held' : ℕ) (ms' ts' cs' hs' hp' ps' : List ℕ)
+    : Type 0 where
+  pub left : (p : ℕ) → x ≡ answer 0 (p ∷ []) → (p ≡ at hp' 0) × Wanting window held' ms' hs' hp' ps'
+  pub again : Wanting window held ms hs hp ps
+      → (x ≡ answer 0 (at hp 0 ∷ [])) × (held' ≡ held) × FeedUntouched ms ts cs hs hp ps ms' ts' cs' hs' hp' ps'

@@ -5,12 +5,13 @@ use Prim.Native.Nat.{ℕ, zero, suc, _+_, _-_, _*_, _/_, _%_, _<_, _≤_}
 use native.Mathlib.Omega.{arith}
 use mathlib.Core.Bool.{Bool, true, false, not, cond, _&&_, _||_}
 use mathlib.Core.Option.{Option, none, some}
-use mathlib.Core.List.{List}
+use mathlib.Core.List.{List, [], _∷_}
 use lib.ListN.{length, take, drop}
 use lib.Seq.{slice, drop-drop}
 use lib.Dec.{T, eqb, ltb}
 use mir.Facts.{ltb-yes, eqb-yes}
 use borrow.Author.Tests.{lt-ltb, le-ltb, eq-eqb, ne-eqb, eqb-true}
+use Rattle.theory.specs.Answer.{Answer, answer}
 use Rattle.theory.specs.Fields.{field}
 use Rattle.leaves.specs.Frame.{Read, whole, ended, damaged, judged, recordAt, frameAt}
 use Rattle.leaves.specs.FrameLaws.{found-whole}
@@ -19,7 +20,7 @@ use Rattle.records_rules.specs.State.{arraysFit, gotOf}
 use Rattle.records_rules.specs.Opening.{arrays-room}
 use Rattle.feed_rules.specs.Partial.{part, soFar, knownAt}
 use Rattle.feed_rules.specs.Windows.{Kept, from}
-use Rattle.feed_rules.specs.Spans.{dropped, counts, bytesIn, keptOf, knownBy, gotKnown, feedFits, FeedRoom}
+use Rattle.feed_rules.specs.Spans.{dropped, counts, bytesIn, keptOf, knownBy, gotKnown, feedFits, FeedRoom, FeedUntouched, FeedNeeds}
 
 -- ---- a span without its first bytes
 
@@ -36,6 +37,9 @@ dropped-none s skip h = let e : ltb (s / 65536 % 65536) skip ≡ true = lt-ltb (
 pub dropped-some : (s skip : ℕ) → skip ≤ s / 65536 % 65536 → s - 65535 * skip ≡ dropped s skip
 unfolding dropped
 dropped-some s skip h = let e : ltb (s / 65536 % 65536) skip ≡ false = le-ltb (s / 65536 % 65536) skip h in rw e refl
+
+pub dropped-zero : (s : ℕ) → dropped s 0 ≡ s
+dropped-zero s = sym (dropped-some s 0 (omega arith)) ∙ omega arith
 
 module _ (s skip : ℕ) (h : skip ≤ s / 65536 % 65536) where
   dropped-is : dropped s skip ≡ s - 65535 * skip
@@ -215,3 +219,17 @@ fits-room held ms ts cs hs hp ps window e =
     let b = and-true _ _ (a .1) in
     let r = arrays-room held ms ts cs hs hp (a .0) in
     ((r .0, r .1, r .2, r .3, r .4, r .5, omega (arith, eqb-true (length ps) 256 (b .0))), eqb-true (length window) 262144 (b .1))
+
+pub untouched : {ms ts cs hs hp ps : List ℕ} → FeedUntouched ms ts cs hs hp ps ms ts cs hs hp ps
+untouched = record { marks = refl; times = refl; places = refl; heads = refl; heap = refl; spans = refl }
+
+-- need more, asked again: the same answer, and everything as it was
+pub needs-twice : {window : List ℕ} {held : ℕ} {ms ts cs hs hp ps : List ℕ} {x : Answer} {held' : ℕ} {ms' ts' cs' hs' hp' ps' : List ℕ}
+    {y : Answer} {held'' : ℕ} {ms'' ts'' cs'' hs'' hp'' ps'' : List ℕ} (p : ℕ) → x ≡ answer 0 (p ∷ [])
+    → FeedNeeds window held ms ts cs hs hp ps x held' ms' ts' cs' hs' hp' ps'
+    → FeedNeeds window held' ms' ts' cs' hs' hp' ps' y held'' ms'' ts'' cs'' hs'' hp'' ps''
+    → (y ≡ x) × (held'' ≡ held') × FeedUntouched ms' ts' cs' hs' hp' ps' ms'' ts'' cs'' hs'' hp'' ps''
+needs-twice p e a b =
+    let l = a .left p e in
+    let z = b .again (l .1) in
+    (z .0 ∙ ap (λ (q : ℕ). answer 0 (q ∷ [])) (sym (l .0)) ∙ sym e, z .1, z .2)

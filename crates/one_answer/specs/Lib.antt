@@ -4,3 +4,4 @@ pub mod Explanations
 pub mod Metadata
 pub mod Builds
 pub mod Held
+pub mod Feeds

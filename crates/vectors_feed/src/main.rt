@@ -1,19 +1,18 @@
 // Runs the calls that stand on standard input, one to a line, over `feed`, and prints what they answer.
 // `= NAME` names what follows, and is printed. `o STREAMS COUNT hint..` opens streams; `a STREAM SIZE HEX` hands in a portion of so many
 // bytes, those of HEX and then 9s; `e STREAM` says that a stream has ended; `n` asks for the next answer; `h` prints how many streams
-// the heap holds, `w STREAM` where what is kept of a stream begins in the window; `l PLACE` lays the place of stream 0; `x` makes the
-// four calls on arrays that are too short.
-mod answers;
+// the heap holds, `w STREAM` where what is kept of a stream begins in the window; `l PLACE` lays the place of stream 0; what follows `x`
+// runs on marks of 255 places.
 mod calls;
 
 ghost use mathlib.Core.Path.{_≡_};
 ghost use lib.ListN.{length};
 
 // Room for the whole data.
-fn room() -> [u8; 131072]
-    ensures { λ r. ⌜ 131072 ≡ length r ⌝ }
+fn room() -> [u8; 16384]
+    ensures { λ r. ⌜ 16384 ≡ length r ⌝ }
 {
-    [0; 131072]
+    [0; 16384]
 }
 
 // Room for the window.
@@ -23,9 +22,29 @@ fn window_space() -> [u8; 262144]
     [0; 262144]
 }
 
-// Runs the lines of the text, on memory of its own.
-fn run(text: &[u8]) {
+// Too few places for marks.
+fn few_bytes() -> [u8; 255]
+    ensures { λ r. ⌜ 255 ≡ length r ⌝ }
+{
+    [0; 255]
+}
+
+// Where the lines begin that run on too few marks.
+fn few_from(text: &[u8]) -> usize {
+    let mut at = 0;
+    while at < text.len() {
+        if vectors_text::byte_at(text, at) == b'x' {
+            return at;
+        }
+        at = vectors_text::next_line(text, at);
+    }
+    at
+}
+
+// Runs the lines of two texts, the second on too few marks, on memory of its own.
+fn run(text: &[u8], few: &[u8]) {
     let mut marks = records::merge::empty_bytes();
+    let mut few_marks = few_bytes();
     let mut times = records::merge::empty_numbers();
     let mut places = records::merge::empty_numbers();
     let mut heads = records::merge::empty_numbers();
@@ -42,10 +61,28 @@ fn run(text: &[u8]) {
         &mut spans,
         &mut window,
     );
+    calls::run(
+        few,
+        &mut few_marks,
+        &mut times,
+        &mut places,
+        &mut heads,
+        &mut heap,
+        &mut spans,
+        &mut window,
+    );
+}
+
+// Runs the lines of the text.
+fn run_text(text: &[u8]) {
+    let at = few_from(text);
+    if at <= text.len() {
+        run(&text[..at], &text[at..]);
+    }
 }
 
 fn main() {
     let mut data = room();
     let n = io::read_full(0, &mut data);
-    run(&data[..n]);
+    run_text(&data[..n]);
 }

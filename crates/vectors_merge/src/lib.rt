@@ -50,6 +50,16 @@ pub fn read_numbers(text: &[u8], at: usize, out: &mut [u64]) -> Numbers
     }
 }
 
+// Prints the rest of the line that a place stands in.
+pub fn print_line(text: &[u8], at: usize) {
+    let from = vectors_text::past_blanks(text, at);
+    let to = vectors_text::line_end(text, from);
+    if to <= text.len() {
+        io::write_all(1, &text[from..to]);
+        io::write_all(1, b"\n");
+    }
+}
+
 pub fn print_number(n: u64) {
     io::write_all(1, b" ");
     io::print_decimal(1, n);

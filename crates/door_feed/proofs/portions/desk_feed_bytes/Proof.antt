@@ -1,5 +1,4 @@
 -- Each arm of the match is what its case says. Assumes nothing.
-use mathlib.Core.Path.{refl}
 use Rattle.feed_window.specs.Answers.{addedOf}
 use Rattle.door_answers.specs.Answers.{numberIn, valueIn}
 use Rattle.door_answers.specs.AnswersLaws.{answer-same, done-number, done-value, not-number, not-value}
@@ -35,7 +34,7 @@ returns c =
       (λ w n held ts hp hn ok.
           let x = o .1 w n held ts hp hn ok in
           let e = answer-same addedOf (x .heard) g in
-          (done-number e, done-value t 0 e, record { heard = refl; leaves = x .leaves; sound = x .sound; refused = x .refused; others = x .others; spans = x .spans })),
+          (done-number e, done-value t 0 e, rw (← x .heard) x)),
     )
 
 same-length-3 : tie.Need-same-length-3
@@ -55,7 +54,7 @@ returns-2 c =
       (λ w n held ts hp hn ok.
           let x = o .1 w n held ts hp hn ok in
           let e = answer-same addedOf (x .heard) g in
-          (not-number r (c .number .ensures) e, not-value r t 0 e, record { heard = refl; leaves = x .leaves; sound = x .sound; refused = x .refused; others = x .others; spans = x .spans })),
+          (not-number r (c .number .ensures) e, not-value r t 0 e, rw (← x .heard) x)),
     )
 
 pub desk-feed-bytes-spec : {M : Type 1} → statement M

@@ -1,5 +1,4 @@
 -- Each arm of the match is what its case says. Assumes nothing.
-use mathlib.Core.Path.{refl}
 use Rattle.feed.specs.Answers.{fedOf}
 use Rattle.door_answers.specs.AnswersLaws.{answer-same}
 use Rattle.door_feed.specs.HandingLaws.{fed-record, fed-end, fed-need, fed-not}
@@ -54,11 +53,10 @@ same-length-6 c = search needs
 
 returns : tie.Need-returns
 returns c =
-    let a = c .before .before .before .before .before .before .before .before .before .before .before .before .before .before .before .before .before .before .before .before .before .before .before .before .before .before .before .before .before .before .args in
     let o = c .before .before .before .before .before .before .before .before .before .before .before .before .before .before .before .next .ensures .1 in
     let g = c .before .answer .given .1 in (
-      (λ w. let x = o .0 w in (fed-record (a .found .now) (a .stream .now) (a .place .now) (a .index .now) (a .long .now) (a .kind .now) (a .instrument .now) (a .time .now) (a .reason .now) (answer-same fedOf (x .0) g), x .1, x .2)),
-      (λ w n h s. let x = o .1 w n h s in (fed-record (a .found .now) (a .stream .now) (a .place .now) (a .index .now) (a .long .now) (a .kind .now) (a .instrument .now) (a .time .now) (a .reason .now) (answer-same fedOf (x .heard) g), record { heard = refl; leaves = x .leaves; sound = x .sound })),
+      (λ w. let x = o .0 w in (fed-record _ _ _ _ _ _ _ _ _ (answer-same fedOf (x .0) g), x .1, x .2)),
+      (λ w n h s. let x = o .1 .0 w n h s in (fed-record _ _ _ _ _ _ _ _ _ (answer-same fedOf (x .heard) g), rw (← x .heard) x, rw (← x .heard) (o .1 .1 w))),
     )
 
 same-length-7 : tie.Need-same-length-7
@@ -81,11 +79,10 @@ same-length-12 c = search needs
 
 returns-2 : tie.Need-returns-2
 returns-2 c =
-    let a = c .before .before .before .before .before .before .before .before .before .before .before .before .before .before .before .before .before .before .before .before .before .before .before .before .before .before .before .before .before .args in
     let o = c .before .before .before .before .before .before .before .before .before .before .before .before .before .before .next .ensures .1 in
     let g = c .enum-told .given .1 in (
-      (λ w. let x = o .0 w in (fed-end (a .found .now) (a .stream .now) (a .place .now) (a .index .now) (a .long .now) (a .kind .now) (a .instrument .now) (a .time .now) (a .reason .now) (answer-same fedOf (x .0) g), x .1, x .2)),
-      (λ w n h s. let x = o .1 w n h s in (fed-end (a .found .now) (a .stream .now) (a .place .now) (a .index .now) (a .long .now) (a .kind .now) (a .instrument .now) (a .time .now) (a .reason .now) (answer-same fedOf (x .heard) g), record { heard = refl; leaves = x .leaves; sound = x .sound })),
+      (λ w. let x = o .0 w in (fed-end _ _ _ _ _ _ _ _ _ (answer-same fedOf (x .0) g), x .1, x .2)),
+      (λ w n h s. let x = o .1 .0 w n h s in (fed-end _ _ _ _ _ _ _ _ _ (answer-same fedOf (x .heard) g), rw (← x .heard) x, rw (← x .heard) (o .1 .1 w))),
     )
 
 same-length-13 : tie.Need-same-length-13
@@ -108,11 +105,10 @@ same-length-18 c = search needs
 
 returns-3 : tie.Need-returns-3
 returns-3 c =
-    let a = c .before .before .before .before .before .before .before .before .before .before .before .before .before .before .before .before .before .before .before .before .before .before .before .before .before .before .before .before .before .before .args in
     let o = c .before .before .before .before .before .before .before .before .before .before .before .before .before .before .before .next .ensures .1 in
     let g = c .before .answer2 .given .1 in (
-      (λ w. let x = o .0 w in (fed-need (a .found .now) (a .stream .now) (a .place .now) (a .index .now) (a .long .now) (a .kind .now) (a .instrument .now) (a .time .now) (a .reason .now) (answer-same fedOf (x .0) g), x .1, x .2)),
-      (λ w n h s. let x = o .1 w n h s in (fed-need (a .found .now) (a .stream .now) (a .place .now) (a .index .now) (a .long .now) (a .kind .now) (a .instrument .now) (a .time .now) (a .reason .now) (answer-same fedOf (x .heard) g), record { heard = refl; leaves = x .leaves; sound = x .sound })),
+      (λ w. let x = o .0 w in (fed-need _ _ _ _ _ _ _ _ _ (answer-same fedOf (x .0) g), x .1, x .2)),
+      (λ w n h s. let x = o .1 .0 w n h s in (fed-need _ _ _ _ _ _ _ _ _ (answer-same fedOf (x .heard) g), rw (← x .heard) x, rw (← x .heard) (o .1 .1 w))),
     )
 
 same-length-19 : tie.Need-same-length-19
@@ -135,19 +131,19 @@ same-length-24 c = search needs
 
 returns-4 : tie.Need-returns-4
 returns-4 c =
-    let a = c .before .before .before .before .before .before .before .before .before .before .before .before .before .before .before .before .before .before .before .before .before .before .before .before .before .before .before .before .before .before .before .before .before .before .before .before .before .args in
     let o = c .before .before .before .before .before .before .before .before .before .before .before .before .before .before .before .before .before .before .before .before .before .before .next .ensures .1 in
     let g = c .before .before .before .before .before .before .before .before .answer3 .given .1 in (
       (λ w. let x = o .0 w in (
-        fed-not (a .found .now) (a .stream .now) (a .place .now) (a .index .now) (a .long .now) (a .kind .now) (a .instrument .now) (a .time .now) (a .reason .now)
+        fed-not _ _ _ _ _ _ _ _ _
             (c .before .before .before .before .before .before .before .before .answer3 .given .0 .0) (c .number .ensures) (c .before .before .before .before .before .stream-in .ensures) (c .before .before .before .place-in .ensures) (c .before .reason-in .ensures) (answer-same fedOf (x .0) g),
         x .1,
         x .2,
       )),
-      (λ w n h s. let x = o .1 w n h s in (
-        fed-not (a .found .now) (a .stream .now) (a .place .now) (a .index .now) (a .long .now) (a .kind .now) (a .instrument .now) (a .time .now) (a .reason .now)
+      (λ w n h s. let x = o .1 .0 w n h s in (
+        fed-not _ _ _ _ _ _ _ _ _
             (c .before .before .before .before .before .before .before .before .answer3 .given .0 .0) (c .number .ensures) (c .before .before .before .before .before .stream-in .ensures) (c .before .before .before .place-in .ensures) (c .before .reason-in .ensures) (answer-same fedOf (x .heard) g),
-        record { heard = refl; leaves = x .leaves; sound = x .sound },
+        rw (← x .heard) x,
+        rw (← x .heard) (o .1 .1 w),
       )),
     )
 

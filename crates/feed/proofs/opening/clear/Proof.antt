@@ -3,7 +3,7 @@ use native.Mathlib.Omega.{arith}
 use mathlib.Core.Path.{_≡_, refl}
 use Prim.Native.Nat.{ℕ, _-_, _≤_, _<_}
 use lib.ListN.{length, getD, length-set}
-use Rattle.feed_rules.specs.AddingLaws.{emptied}
+use Rattle.feed_rules.specs.OpeningLaws.{emptied}
 use Rattle.feed.proofs.opening.clear.Statement.{statement}
 use Rattle.feed.proofs.opening.clear.Tie as tie
 

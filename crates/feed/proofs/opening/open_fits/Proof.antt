@@ -1,7 +1,7 @@
 -- The tests of the definition. Assumes nothing.
 use mathlib.Core.Path.{sym, _∙_}
 use borrow.Author.Tests.{not-true, not-false}
-use Rattle.feed_rules.specs.AddingLaws.{open-none, open-spans}
+use Rattle.feed_rules.specs.OpeningLaws.{open-none, open-spans}
 use borrow.Author.Needs.{needs}
 use Rattle.feed.proofs.opening.open_fits.Statement.{statement}
 use Rattle.feed.proofs.opening.open_fits.Tie as tie

@@ -1,11 +1,10 @@
 -- The memory is tested once, and the call is made on it. Assumes nothing.
 use mathlib.Core.Path.{_≡_, refl, sym, _∙_}
-use mathlib.Core.Bool.{true, false}
-use Prim.Native.Nat.{ℕ}
+use mathlib.Core.Bool.{true, false, true≢false}
 use native.Mathlib.Omega.{arith}
 use borrow.Author.Tests.{not-true, not-false}
 use Rattle.feed_rules.specs.Spans.{feedFits}
-use Rattle.feed_rules.specs.SpansLaws.{fits-room}
+use Rattle.feed_rules.specs.SpansLaws.{fits-room, untouched}
 use borrow.Author.Needs.{needs}
 use Rattle.feed.proofs.turns.next.Statement.{statement}
 use Rattle.feed.proofs.turns.next.Tie as tie
@@ -15,10 +14,8 @@ feed-fits-requires c κs = search needs
 
 returns : tie.Need-returns
 returns c =
-    let no : feedFits _ _ _ _ _ _ _ _ ≡ false = sym (c .before .feed-fits .ensures) ∙ not-true _ (c .if1 .taken) in (
-      omega arith,
-      ((λ e. (refl, refl, record { marks = refl; times = refl; places = refl; heads = refl; heap = refl; spans = refl })), (λ e. let z : _≡_ {A = ℕ} 0 1 = cc in absurd (omega arith))),
-    )
+    let no : feedFits _ _ _ _ _ _ _ _ ≡ false = sym (c .before .feed-fits .ensures) ∙ not-true _ (c .if1 .taken) in
+    (omega arith, ((λ e. (refl, refl, untouched)), ((λ e. absurd (true≢false (sym e ∙ no))), (λ e. absurd (true≢false (sym e ∙ no))))))
 
 turns-requires : tie.Need-turns-requires
 turns-requires c κs =
@@ -46,9 +43,10 @@ same-length-6 c = search needs
 
 returns-2 : tie.Need-returns-2
 returns-2 c =
-    let yes : feedFits _ _ _ _ _ _ _ _ ≡ true = sym (c .before .before .before .before .before .before .before .before .before .before .before .before .before .before .before .before .before .before .before .before .feed-fits .ensures) ∙ not-false _ (c .before .before .before .before .before .before .before .before .before .before .before .before .before .before .before .before .before .before .before .if1 .left) in
     let turn = c .before .before .before .before .before .before .before .before .before .before .before .before .turns in
-    (turn .ensures .0, ((λ e. let z : _≡_ {A = ℕ} 0 1 = cc in absurd (omega arith)), (λ e. turn .ensures .1)))
+    let there = c .before .before .before .before .before .before .before .before .before .before .before .before .before .before .before .before .before .before .before in
+    let yes : feedFits _ _ _ _ _ _ _ _ ≡ true = sym (there .before .feed-fits .ensures) ∙ not-false _ (there .if1 .left) in
+    (turn .ensures .0, ((λ e. absurd (true≢false (sym yes ∙ e))), ((λ e. turn .ensures .1), (λ e. turn .ensures .2))))
 
 pub next-spec : {M : Type 1} → statement M
 next-spec =

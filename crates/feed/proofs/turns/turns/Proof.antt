@@ -8,7 +8,8 @@ use lib.ListN.{length-set}
 use Rattle.records_rules.specs.Kept.{waits}
 use Rattle.records_rules.specs.View.{statusesOf}
 use Rattle.records_rules.specs.StateLaws.{less-gone, less-stand}
-use Rattle.feed_rules.specs.Steps.{Going⁺, going-start⁺, step-end⁺, step-record⁺, step-wants⁺, step-ended⁺, step-damaged⁺, step-whole⁺}
+use Rattle.feed_rules.specs.Going.{Going⁺, going-start⁺}
+use Rattle.feed_rules.specs.Steps.{step-end⁺, step-record⁺, step-wants⁺, step-ended⁺, step-damaged⁺, step-whole⁺}
 use borrow.Author.Needs.{needs}
 use Rattle.feed.proofs.turns.turns.Statement.{statement}
 use Rattle.feed.proofs.turns.turns.Tie as tie
@@ -117,7 +118,7 @@ returns-2 c =
     let at = there .before .before .before .before .before .before .before .before .before .loop in
     let start = there .before .before .before .before .before .before .before .before .before .before .before .before .before .before .before .before .before in
     rw (c .ask .ensures, got .ensures .0) (step-wants⁺ (at .inv) (start .pre) (root .slot .ensures .0) (omega (arith, root .before .before .if1 .left)) (there .before .if2 .taken)
-    (got .result .found) (got .result .time) (got .result .head) (got .ensures .1) (c .before .if3 .taken))
+    (got .result .found) (got .result .time) (got .result .head) (got .ensures .1) (c .before .if3 .taken) (root .slot .ensures .1))
 
 slice-write-marks : tie.Need-slice-write-marks Inv-loop μ-loop
 slice-write-marks c = omega arith

@@ -7,7 +7,7 @@ use Prim.Native.Nat.{ℕ, _+_, _-_, _≤_, _<_}
 use lib.ListN.{length, getD, set, drop, length-set, length-drop}
 use lib.Seq.{paste, paste-zero, paste-suc, getD-drop}
 use denote.Ref.{now}
-use Rattle.feed_rules.specs.AddingLaws.{paste-other}
+use Rattle.feed_rules.specs.Laying.{paste-other}
 use Rattle.feed_window.proofs.portions.move_down.Statement.{statement}
 use Rattle.feed_window.proofs.portions.move_down.Tie as tie
 

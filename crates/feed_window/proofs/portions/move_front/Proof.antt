@@ -1,5 +1,5 @@
 -- Bytes at the front stay. Assumes nothing.
-use Rattle.feed_rules.specs.AddingLaws.{paste-self}
+use Rattle.feed_rules.specs.Laying.{paste-self}
 use borrow.Author.Needs.{needs}
 use Rattle.feed_window.proofs.portions.move_front.Statement.{statement}
 use Rattle.feed_window.proofs.portions.move_front.Tie as tie

@@ -3,8 +3,8 @@ use mathlib.Core.Path.{sym}
 use native.Mathlib.Omega.{arith}
 use lib.Seq.{length-take-le}
 use borrow.Author.Needs.{needs}
-use Rattle.vectors_feed.proofs.calls.add_first.Statement.{statement}
-use Rattle.vectors_feed.proofs.calls.add_first.Tie as tie
+use Rattle.vectors_portions.proofs.lines.add_first.Statement.{statement}
+use Rattle.vectors_portions.proofs.lines.add_first.Tie as tie
 
 slice-aggregate-add : tie.Need-slice-aggregate-add
 slice-aggregate-add c = sym (length-take-le _ _ (omega arith))

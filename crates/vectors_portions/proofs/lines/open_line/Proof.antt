@@ -3,11 +3,11 @@ use mathlib.Core.Path.{sym}
 use native.Mathlib.Omega.{arith}
 use lib.Seq.{length-take-le}
 use borrow.Author.Needs.{needs}
-use Rattle.vectors_feed.proofs.calls.open_line.Statement.{statement}
-use Rattle.vectors_feed.proofs.calls.open_line.Tie as tie
+use Rattle.vectors_portions.proofs.lines.open_line.Statement.{statement}
+use Rattle.vectors_portions.proofs.lines.open_line.Tie as tie
 
-hints-space-requires : tie.Need-hints-space-requires
-hints-space-requires c κs = search needs
+numbers-space-requires : tie.Need-numbers-space-requires
+numbers-space-requires c κs = search needs
 
 number-at-requires : tie.Need-number-at-requires
 number-at-requires c κs = search needs
@@ -55,7 +55,7 @@ pub open-line-spec : {M : Type 1} → statement M
 open-line-spec =
     tie.close
     (tie.spec
-    hints-space-requires
+    numbers-space-requires
     number-at-requires
     slice-aggregate-read-numbers
     read-numbers-requires

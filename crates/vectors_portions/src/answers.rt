@@ -3,37 +3,13 @@ use feed::opening::FeedOpening;
 use feed::turns::Fed;
 use feed_window::portions::Added;
 use feed_window::portions::Ended;
-use leaves::refusal::Refusal;
-
-fn print_number(n: u64) {
-    io::write_all(1, b" ");
-    io::print_decimal(1, n);
-}
+use vectors_merge::print_number;
+use vectors_merge::print_refusal;
 
 // A word and a number, on a line.
 pub fn print_word(word: &[u8], n: u64) {
     io::write_all(1, word);
     print_number(n);
-    io::write_all(1, b"\n");
-}
-
-// Prints a refusal's number, and of damage stream, place and reason.
-fn print_refusal(refusal: Refusal) {
-    io::print_decimal(1, leaves::refusal::number(refusal) as u64);
-    if let Refusal::Damaged {
-        stream,
-        place,
-        reason,
-    } = refusal {
-        print_number(stream);
-        print_number(place);
-        print_number(reason);
-    }
-}
-
-// Prints a refusal on a line.
-fn print_refused(refusal: Refusal) {
-    print_refusal(refusal);
     io::write_all(1, b"\n");
 }
 
@@ -111,14 +87,14 @@ pub fn print_fed(window: &[u8], answer: Fed) {
             io::write_all(1, b"end\n");
         }
         Fed::NeedMore(stream) => print_word(b"need", stream),
-        Fed::Refused(refusal) => print_refused(refusal),
+        Fed::Refused(refusal) => print_refusal(refusal),
     }
 }
 
 pub fn print_added(answer: Added) {
     match answer {
         Added::Taken(n) => print_word(b"taken", n),
-        Added::Refused(refusal) => print_refused(refusal),
+        Added::Refused(refusal) => print_refusal(refusal),
     }
 }
 
@@ -127,7 +103,7 @@ pub fn print_ended(answer: Ended) {
         Ended::Done => {
             io::write_all(1, b"done\n");
         }
-        Ended::Refused(refusal) => print_refused(refusal),
+        Ended::Refused(refusal) => print_refusal(refusal),
     }
 }
 
@@ -139,28 +115,8 @@ pub fn print_opening(answer: FeedOpening, held: usize) -> usize {
             held
         }
         FeedOpening::Refused(refusal) => {
-            print_refused(refusal);
+            print_refusal(refusal);
             held
         }
     }
-}
-
-// The numbers of the four calls on arrays that are too short.
-pub fn print_short(opening: FeedOpening, added: Added, ended: Ended, fed: Fed) {
-    if let FeedOpening::Refused(refusal) = opening {
-        print_refusal(refusal);
-    }
-    io::write_all(1, b" ");
-    if let Added::Refused(refusal) = added {
-        print_refusal(refusal);
-    }
-    io::write_all(1, b" ");
-    if let Ended::Refused(refusal) = ended {
-        print_refusal(refusal);
-    }
-    io::write_all(1, b" ");
-    if let Fed::Refused(refusal) = fed {
-        print_refusal(refusal);
-    }
-    io::write_all(1, b"\n");
 }
