@@ -382,6 +382,37 @@ static void fed_records(uint64_t steps, uint64_t most, size_t streams, uint64_t 
     }
 }
 
+/* The same by runs of 100, in portions of 64 KB; the instrument is read from the stream. */
+static void fed_runs(uint64_t steps, uint64_t most, size_t streams) {
+    static desk_feed feed;
+    static uint64_t come[DESK_STREAMS], list[100 * DESK_RUN_WORDS];
+    lay_streams(most, streams);
+    if (desk_feed_begin(&feed, streams, NULL, 0) != DESK_DONE) stop("the streams were refused");
+    for (uint64_t i = 0; i < steps;) {
+        size_t written, taken = 0;
+        uint32_t last;
+        uint64_t stream;
+        if (desk_feed_read_run(&feed, steps - i < 100 ? steps - i : 100, list, 100, NULL, &written, &last, &stream, NULL) != DESK_DONE
+            || last == 0)
+            stop("a page was not handed out");
+        for (size_t k = 0; k < written; k++) {
+            const uint64_t *row = list + DESK_RUN_WORDS * k;
+            const uint8_t *at = buffer + cuts[row[0]] + row[1];
+            uint32_t number = at[4] | (uint32_t)at[5] << 8 | (uint32_t)at[6] << 16 | (uint32_t)at[7] << 24;
+            digest = digest * 31 + (row[2] ^ number);
+        }
+        i += written;
+        if (last == DESK_NEED_MORE) {
+            uint64_t left = cuts[stream + 1] - cuts[stream] - come[stream];
+            if ((left == 0 ? desk_feed_finish(&feed, stream)
+                           : desk_feed_add(&feed, stream, buffer + cuts[stream] + come[stream], left < 65536 ? left : 65536, &taken))
+                != DESK_DONE)
+                stop("a portion or an end was refused");
+            come[stream] += taken;
+        }
+    }
+}
+
 /* ---- Metadata. */
 
 struct metadata {
@@ -507,6 +538,9 @@ int main(int words, char **word) {
     else if (!strcmp(row, "feed-small-4")) fed_records(steps, 200000, 4, 100);
     else if (!strcmp(row, "feed-small-16")) fed_records(steps, 200000, 16, 100);
     else if (!strcmp(row, "feed-small-256")) fed_records(steps, 200000, 256, 100);
+    else if (!strcmp(row, "feed-run-4")) fed_runs(steps, 200000, 4);
+    else if (!strcmp(row, "feed-run-16")) fed_runs(steps, 200000, 16);
+    else if (!strcmp(row, "feed-run-256")) fed_runs(steps, 200000, 256);
     else if (!strcmp(row, "metadata-copy")) merges(steps, 4096, 0, 4096);
     else if (!strcmp(row, "metadata-apart")) merges(steps, 2048, 2048, 4096);
     else if (!strcmp(row, "build")) builds(steps, 4096, 0, 0);

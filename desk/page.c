@@ -35,6 +35,15 @@ static size_t streams_of(size_t len) {
     return streams;
 }
 
+/* A page's records, as lines: the list has stream, place and time, and the instrument stands in the stream. */
+static void put_page(size_t written) {
+    for (size_t i = 0; i < written; i++) {
+        const uint64_t *row = page + DESK_RUN_WORDS * i;
+        const uint8_t *record = buffer + cuts[row[0]] + row[1];
+        printf("%llu %llu %llu\n", (unsigned long long)row[0], (unsigned long long)row[2], (unsigned long long)field(record + 4, 4));
+    }
+}
+
 /* One key press: the page's records, then damage or the end where it stopped there. Whether there is a further page. */
 static int press(size_t streams) {
     size_t calls, written;
@@ -44,11 +53,7 @@ static int press(size_t streams) {
                                heads, DESK_STREAMS, heap, DESK_STREAMS, &held, PAGE, page, PAGE * DESK_RUN_WORDS, &calls, &written,
                                &last, &stream, &place, &reason);
     if (number != DESK_DONE && number != DESK_DAMAGED) return 0;
-    for (size_t i = 0; i < written; i++) {
-        const uint64_t *row = page + DESK_RUN_WORDS * i;
-        const uint8_t *record = buffer + cuts[row[0]] + row[1];
-        printf("%llu %llu %llu\n", (unsigned long long)row[0], (unsigned long long)row[2], (unsigned long long)field(record + 4, 4));
-    }
+    put_page(written);
     if (number == DESK_DAMAGED) printf("%llu damaged %llu\n", (unsigned long long)stream, (unsigned long long)place);
     if (last == 0) printf("end\n");
     return last != 0;

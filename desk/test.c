@@ -879,6 +879,96 @@ static void test_run(void) {
     }
 }
 
+/* ---- Many calls at once of streams in portions. */
+
+/* A run with places of each array as they are given, its list of so many words. */
+static uint32_t feed_run_with(size_t of_window, size_t marks, size_t times, size_t places, size_t heads, size_t heap, size_t spans,
+                              size_t allowance, size_t words) {
+    return desk_feed_run(window, of_window, d.marks, marks, d.times, times, d.places, places, d.heads, heads, d.heap, heap, d.spans, spans,
+                         &d.held, allowance, d.rows, words, &d.calls, &d.written, &d.last, &d.stream, &d.place, &d.reason);
+}
+
+static uint32_t feed_run(size_t allowance, size_t words) {
+    return feed_run_with(DESK_WINDOW_BYTES, 256, 256, 256, 256, 256, 256, allowance, words);
+}
+
+/* A run that is done: what it counted, how it stopped, and at which stream. */
+static int runs(size_t allowance, size_t words, size_t calls, size_t written, uint32_t last, uint64_t stream) {
+    return feed_run(allowance, words) == DESK_DONE && ran(calls, written, last) && d.stream == stream && d.place == 0;
+}
+
+static void test_feed_run(void) {
+    const uint64_t old = UINT64_C(0xA5A5A5A5A5A5A5A5);
+    static uint64_t list[3 * 65];
+    begin_feed();
+    put_head(0, 16, 0, 0, 5);
+    DONE(feed_open(1)); /* a record, and more is needed; asked again; no room, no call; the end */
+    IS(takes(0, 16, 16) && runs(5, 9, 2, 1, DESK_NEED_MORE, 0) && row_is(0, 0, 0, 5) && d.rows[3] == old && d.reason == old);
+    IS(d.held == 1 && runs(5, 9, 1, 0, DESK_NEED_MORE, 0) && row_is(0, 0, 0, 5) && runs(5, 0, 0, 0, 1, 0) && runs(0, 9, 0, 0, 1, 0));
+    DONE(feed_end(0));
+    IS(runs(5, 9, 1, 0, 0, 0) && d.held == 0 && runs(5, 9, 1, 0, 0, 0) && d.reason == old);
+    DONE(feed_open(1)); /* a list of one row is full before more is needed */
+    IS(takes(0, 16, 16) && runs(5, 3, 1, 1, 1, 0) && runs(5, 3, 1, 0, DESK_NEED_MORE, 0));
+
+    /* of 64 records the last alone counts after 64 calls, and none after the call that needs more */
+    for (size_t at = 0; at < sizeof portion; at += 16) put_head(at, 16, 0, 0, 5);
+    for (size_t allowance = 64; allowance <= 65; allowance++) {
+        DONE(feed_open(1));
+        IS(takes(0, 1024, 1024));
+        DONE(desk_feed_run(window, DESK_WINDOW_BYTES, d.marks, 256, d.times, 256, d.places, 256, d.heads, 256, d.heap, 256, d.spans, 256,
+                           &d.held, allowance, list, 3 * 65, &d.calls, &d.written, &d.last, &d.stream, &d.place, &d.reason));
+        IS(ran(allowance, 64, allowance == 64 ? 1 : DESK_NEED_MORE) && list[3 * 63 + 1] == 1008 && takes(0, 2000, allowance == 64 ? 1008 : 1024));
+    }
+
+    /* damage, with its place in the stream; the stream that more is needed of */
+    put_head(16, 5, 0, 0, 5);
+    DONE(feed_open(2));
+    IS(takes(0, 32, 32) && runs(4, RUN_ROOM, 1, 0, DESK_NEED_MORE, 1) && takes(1, 16, 16));
+    was = d;
+    IS(feed_run(4, RUN_ROOM) == DESK_DAMAGED && d.calls == 2 && d.written == 1 && d.last == was.last && row_is(0, 0, 0, 5));
+    IS(d.stream == 0 && d.place == 16 && d.reason == DESK_BAD_LENGTH && d.held == 1);
+    IS(runs(4, RUN_ROOM, 2, 1, DESK_NEED_MORE, 1) && row_is(0, 1, 0, 5) && d.reason == DESK_BAD_LENGTH);
+
+    /* any division leaves the arrays of single calls, byte for byte */
+    for (size_t first = 0; first <= 3; first++) {
+        put_head(16, 16, 0, 0, 6);
+        DONE(feed_open(1));
+        IS(takes(0, 32, 32) && hands_out(0, 0, 5, 0) && hands_out(0, 16, 6, 16) && needs(0));
+        was = d;
+        DONE(feed_open(1));
+        IS(takes(0, 32, 32));
+        DONE(feed_run(first, RUN_ROOM));
+        DONE(feed_run(3 - first, RUN_ROOM));
+        IS(memcmp(d.marks, was.marks, sizeof d.marks) == 0 && memcmp(d.times, was.times, sizeof d.times) == 0);
+        IS(memcmp(d.places, was.places, sizeof d.places) == 0 && memcmp(d.heads, was.heads, sizeof d.heads) == 0);
+        IS(memcmp(d.heap, was.heap, sizeof d.heap) == 0 && memcmp(d.spans, was.spans, sizeof d.spans) == 0 && d.held == was.held);
+    }
+
+    /* 15 is judged before any call, and everything is as before */
+    memcpy(window_was, window, sizeof window);
+    REFUSES(DESK_BAD_MEMORY, feed_run(DESK_RUN_CALLS + 1, RUN_ROOM));
+    REFUSES(DESK_BAD_MEMORY, feed_run(DESK_RUN_CALLS + 1, 0));
+    REFUSES(DESK_BAD_MEMORY, feed_run(SIZE_MAX, 3));
+    REFUSES(DESK_BAD_MEMORY, feed_run(1, 4));
+    for (int missing = 0; missing < 7; missing++)
+        for (int off = -1; off <= 1; off += 2) {
+            size_t n[7];
+            for (int i = 0; i < 7; i++) n[i] = (size_t)(256 + (i == missing ? off : 0));
+            n[6] += DESK_WINDOW_BYTES - 256;
+            REFUSES(DESK_BAD_MEMORY, feed_run_with(n[6], n[0], n[1], n[2], n[3], n[4], n[5], 1, 3));
+        }
+    d.held = DESK_STREAMS + 1;
+    REFUSES(DESK_BAD_MEMORY, feed_run(1, 3));
+    IS(memcmp(window, window_was, sizeof window) == 0);
+
+    begin_feed(); /* a state that no opening made: the run ends, whatever it answers */
+    for (size_t held = 0; held <= DESK_STREAMS; held += 64) {
+        d.held = held;
+        feed_run(4, RUN_ROOM);
+        IS(d.held <= held && d.marks[256] == 0xA5 && d.heap[256] == 0xA5 && window[DESK_WINDOW_BYTES] == 0xA5);
+    }
+}
+
 /* ---- Metadata. A side has its header, its lists in `of` and as many words of each as are lent. */
 
 struct side {
@@ -2026,6 +2116,7 @@ int main(void) {
     test_merge();
     test_feed();
     test_run();
+    test_feed_run();
     test_metadata_open();
     test_metadata_memory();
     test_hint_of();

@@ -16,11 +16,11 @@ static uint8_t *guard; /* below the stack that was lent last */
 void *stack_top;       /* for on_stack, as the next one */
 void (*stack_call)(void);
 
-/* Calls *stack_call with the arguments that it was called with itself, eight at most, on the stack from stack_top down. */
+/* Calls *stack_call with the arguments that it was called with itself, ten at most, on the stack from stack_top down. */
 void on_stack(void);
 __asm__(".text\n.globl on_stack\non_stack:\n"
         "pushq %rbp\n movq %rsp, %rbp\n movq stack_top@GOTPCREL(%rip), %rax\n movq (%rax), %rsp\n"
-        "pushq 24(%rbp)\n pushq 16(%rbp)\n" /* the arguments that are in no register */
+        "pushq 40(%rbp)\n pushq 32(%rbp)\n pushq 24(%rbp)\n pushq 16(%rbp)\n" /* the arguments that are in no register */
         "movq stack_call@GOTPCREL(%rip), %rax\n callq *(%rax)\n"
         "movq %rbp, %rsp\n popq %rbp\n ret\n");
 
@@ -444,6 +444,33 @@ static uint32_t next_by_feed(const uint8_t *window, size_t window_len, uint8_t *
     return number;
 }
 
+/* A list of whole records; of another length, and memory of other sizes, the export is asked. */
+static uint32_t run_by_feed(const uint8_t *window, size_t window_len, uint8_t *marks, size_t marks_len, uint64_t *times, size_t times_len,
+                            uint64_t *places, size_t places_len, uint64_t *heads, size_t heads_len, uint8_t *heap, size_t heap_len,
+                            uint64_t *spans, size_t spans_len, size_t *held, size_t allowance, uint64_t *list, size_t list_len,
+                            size_t *calls, size_t *written, uint32_t *last, uint64_t *stream, uint64_t *place, uint64_t *reason) {
+    desk_damage broken = {*stream, *place, *reason};
+    if (!whole_state(marks_len, times_len, places_len, heads_len, heap_len) || spans_len != DESK_STREAMS || window_len != DESK_WINDOW_BYTES
+        || list_len % DESK_RUN_WORDS != 0)
+        return desk_feed_run(window, window_len, marks, marks_len, times, times_len, places, places_len, heads, heads_len, heap, heap_len,
+                             spans, spans_len, held, allowance, list, list_len, calls, written, last, stream, place, reason);
+    take_feed(marks, places, heads, spans);
+    memcpy(feed.times, times, sizeof feed.times), memcpy(feed.heap, heap, sizeof feed.heap);
+    memcpy(feed.window, window, sizeof feed.window);
+    feed.held = *held;
+    uint32_t number =
+        ASK(DESK_STACK, desk_feed_read_run, &feed, allowance, list, list_len / DESK_RUN_WORDS, calls, written, last, stream, &broken);
+    is(memcmp(feed.window, window, sizeof feed.window) == 0, "desk_feed_read_run leaves the window", __LINE__);
+    memcpy(marks, feed.marks, sizeof feed.marks), memcpy(times, feed.times, sizeof feed.times);
+    memcpy(places, feed.places, sizeof feed.places), memcpy(heads, feed.heads, sizeof feed.heads);
+    memcpy(heap, feed.heap, sizeof feed.heap), memcpy(spans, feed.spans, sizeof feed.spans);
+    *held = feed.held;
+    *reason = broken.reason;
+    if (number == DESK_DAMAGED) *stream = broken.stream, *place = broken.place;
+    if (number == DESK_DONE) *place = 0; /* the function has no such result */
+    return number;
+}
+
 #define desk_check check_by_table
 #define desk_insert insert_by_table
 #define desk_get_for_ts get_by_table
@@ -473,4 +500,5 @@ static uint32_t next_by_feed(const uint8_t *window, size_t window_len, uint8_t *
 #define desk_feed_bytes bytes_by_feed
 #define desk_feed_end end_by_feed
 #define desk_feed_next next_by_feed
+#define desk_feed_run run_by_feed
 #include "test.c"

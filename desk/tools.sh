@@ -11,7 +11,7 @@ machine=$(uname -m)
 toolchain=$kit/on/$machine/toolchain
 libraries=$kit/toolchain/lib
 archive=target/staticlib/libdesk.a
-doors=(door_map door_metadata door_builds door_records door_feed door_run)
+doors=(door_map door_metadata door_builds door_records door_feed door_run door_feed_run)
 strict=(-O2 -Wall -Wextra -pedantic -Werror -Iinclude)
 if [ "$machine" = x86_64 ]; then compiler=(cc) emulator=(); else
     compiler=(x86_64-linux-gnu-gcc -static) emulator=("$toolchain/bin/qemu-x86_64" -cpu qemu64)

@@ -9,8 +9,8 @@
  *
  * Every call ends, on any content of the memory, and returns a number: DESK_DONE (0), or a refusal (desk_refusal_name, and
  * desk_refusal_text for a sentence). A refusal leaves everything as it was, with three exceptions, which the functions name again:
- * a refused build leaves an empty table, 6 sets its field and 13 its damage, and 13 from desk_merge_next, desk_merge_run and desk_feed_read
- * moves the merge on.
+ * a refused build leaves an empty table, 6 sets its field and 13 its damage, and 13 from desk_merge_next, desk_merge_run, desk_feed_read
+ * and desk_feed_read_run moves the merge on.
  *
  * What a program owes, since none of it can be seen from inside:
  *   - lent memory is as long as the length beside it says; NULL with length 0 is fine. A result that is not wanted may be NULL, and
@@ -661,6 +661,33 @@ static inline uint32_t desk_feed_read(desk_feed *feed, desk_record *record, desk
         record->kind = kind;
         record->bytes = found == 1 && at < DESK_WINDOW_BYTES ? feed->window + at : NULL;
     }
+    return number;
+}
+
+/* Many calls of desk_feed_read at once: at most `allowance` of them, up to DESK_RUN_CALLS, and no more than the list has room for,
+ * `list_len` records. Each record's stream, place and time go to the list, DESK_RUN_WORDS words a record, from its front. It stops after
+ * the end, after damage, and where more of a stream is needed first. A record's bytes are not in the list: desk_feed_read has them. 0,
+ * 13, and 15 for more calls than that, or of a feed that desk_feed_begin did not make, which says nothing whatever the number.
+ * After 0: *calls is the number of calls made, *written that of records in the list, and *last 1 where a further call may be made, 0 at
+ * the end, and DESK_NEED_MORE where more is needed: then *stream is that stream, and otherwise 0. After 13, which was the last call:
+ * *calls and *written too, *damage is the damage, and *last and *stream are as before. After both *feed stands before what comes next, and
+ * the list's words behind the records written are as before. After 15: all as before. */
+static inline uint32_t desk_feed_read_run(desk_feed *feed, size_t allowance, uint64_t *list, size_t list_len, size_t *calls,
+                                          size_t *written, uint32_t *last, uint64_t *stream, desk_damage *damage) {
+    uint64_t nothing = 0, of = 0, place = 0;
+    size_t made = 0, laid = 0;
+    uint32_t going = 0;
+    desk_damage no_damage, *d = damage != NULL ? damage : &no_damage;
+    uint32_t number = desk_feed_run(feed->window, DESK_WINDOW_BYTES, feed->marks, DESK_STREAMS, feed->times, DESK_STREAMS, feed->places,
+                                    DESK_STREAMS, feed->heads, DESK_STREAMS, feed->heap, DESK_STREAMS, feed->spans, DESK_STREAMS,
+                                    &feed->held, allowance, list != NULL ? list : &nothing, desk_count_(list_len, DESK_RUN_WORDS),
+                                    calls != NULL ? calls : &made, written != NULL ? written : &laid, last != NULL ? last : &going, &of,
+                                    &place, &d->reason);
+    if (number == DESK_DAMAGED) {
+        d->stream = of;
+        d->place = place;
+    }
+    if (number == DESK_DONE && stream != NULL) *stream = of;
     return number;
 }
 

@@ -6,8 +6,9 @@
  *
  * What stands behind the pointers afterwards each function says by the number returned. "As before" is as it was at the call. What
  * is not named there is as before, and what a pointer to const leads to always is. In short: a refusal leaves all as before, but a
- * refused build leaves an empty table, 6 sets its field, 13 its reason, and 13 from desk_next, desk_feed_next and desk_run its
- * stream and place too, and it moves the state of the merge on as 0 does, and in a run the calls, the records written and the list.
+ * refused build leaves an empty table, 6 sets its field, 13 its reason, and 13 from desk_next, desk_feed_next, desk_run and
+ * desk_feed_run its stream and place too, and it moves the state of the merge on as 0 does, and in a run (both) the calls, the records
+ * written and the list.
  *
  * What a caller owes. None of it can be seen from inside, so nothing tests it:
  *   - a pointer beside a length points to as many elements as the length says, one to a single number to that number;
@@ -43,7 +44,7 @@ extern "C" {
 #define DESK_STREAMS 256          /* the most streams of a merge, and the places of each of its arrays */
 #define DESK_WINDOW 1024          /* the most bytes of a stream that are held where streams arrive in portions */
 #define DESK_WINDOW_BYTES 262144  /* DESK_STREAMS windows */
-#define DESK_NEED_MORE 2          /* *found of desk_feed_next: more of *stream is needed first */
+#define DESK_NEED_MORE 2          /* *found of desk_feed_next, *last of desk_feed_run: more of *stream is needed first */
 #define DESK_RECORD_HEADER 16     /* a record's least length: whole length 2, kind 2, instrument 4, timestamp 8 */
 #define DESK_RECORD_BYTES 1024    /* a record's greatest length */
 #define DESK_SYMBOL_MAPPING 2     /* the kind of a symbol mapping record: start 8, end 8, then the name */
@@ -411,6 +412,21 @@ uint32_t desk_feed_next(const uint8_t *window, size_t window_len, uint8_t *marks
                         uint64_t *places, size_t places_len, uint64_t *heads, size_t heads_len, uint8_t *heap, size_t heap_len,
                         uint64_t *spans, size_t spans_len, size_t *held, uint32_t *found, uint64_t *stream, uint64_t *place, size_t *at,
                         uint16_t *length, uint16_t *kind, uint32_t *instrument, uint64_t *time, uint64_t *reason);
+
+/* As desk_run, of what has come so far: at most `allowance` calls of desk_feed_next, each record's stream, place and time into the list.
+ * It stops after a call that needs more too. A call drops the record before, so afterwards the last record alone counts, and none after
+ * a call that needs more; the list has no index in the window: who wants a record's bytes calls desk_feed_next. 0, 15 as desk_feed_next
+ * and for an allowance over DESK_RUN_CALLS or a list of no multiple of DESK_RUN_WORDS, 13.
+ * After 0: *calls is the number of calls made, *written the number of records in the list, *last 1 where a further call may be made, 0
+ * at the end, and DESK_NEED_MORE where more of *stream is needed, which were the last call; *stream is 0 otherwise, and *place is 0.
+ * After 13, the last call: *calls and *written are these too, *stream is damaged at *place for *reason, and *last is as before. After
+ * both *held and the arrays are the state after these calls, and the list's words behind 3 x *written are as before. *reason is as
+ * before after 0. After 15: all as before. On a state that these calls did not make neither the number nor what the call writes says
+ * anything. */
+uint32_t desk_feed_run(const uint8_t *window, size_t window_len, uint8_t *marks, size_t marks_len, uint64_t *times, size_t times_len,
+                       uint64_t *places, size_t places_len, uint64_t *heads, size_t heads_len, uint8_t *heap, size_t heap_len,
+                       uint64_t *spans, size_t spans_len, size_t *held, size_t allowance, uint64_t *list, size_t list_len,
+                       size_t *calls, size_t *written, uint32_t *last, uint64_t *stream, uint64_t *place, uint64_t *reason);
 
 #ifdef __cplusplus
 }

@@ -487,7 +487,36 @@ static void streams(void) {
     merge(buffer, len, cuts, cuts_len, hints, hints_len, 1);
 }
 
-/* Runs one after the other on one opening, each with its allowance and a list of so many words of 9; every number held 9 before. */
+/* What a run is handed: a list of so many words of 9, and numbers that hold 9. */
+struct running {
+    size_t words, calls, written;
+    uint32_t last;
+    uint64_t stream, place, reason, *list;
+};
+
+static struct running no_run(size_t words) {
+    struct running r = {words, 9, 9, 9, 9, 9, 9, lend(words * 8)};
+    for (size_t k = 0; k < words; k++) r.list[k] = 9;
+    return r;
+}
+
+/* What it handed back: the number, the other numbers, the words of its records, and how many words behind them are not 9 any more. */
+static void put_run(uint32_t answer, const struct running *r) {
+    size_t taken = 0, behind = 0;
+    put_number(answer), put_number(r->calls), put_number(r->written), put_number(r->last);
+    put_number(r->stream), put_number(r->place), put_number(r->reason);
+    if (answer == DESK_BAD_MEMORY) {
+        for (size_t k = 0; k < r->words; k++)
+            if (r->list[k] != 9) fail("a refused run wrote to its list");
+        return;
+    }
+    put_number(DESK_RUN_WORDS * r->written);
+    for (; taken < DESK_RUN_WORDS * r->written && taken < r->words; taken++) put_number(r->list[taken]);
+    for (size_t k = taken; k < r->words; k++) behind += r->list[k] != 9;
+    put_number(behind);
+}
+
+/* Runs one after the other on one opening, each with its allowance and a list of so many words. */
 static void runs(void) {
     size_t len, cuts_len, hints_len, asked_len, streams = 0, held = 0;
     const uint8_t *buffer = bytes(&len);
@@ -499,25 +528,12 @@ static void runs(void) {
         return;
     }
     for (size_t i = 0; i + 1 < asked_len; i += 2) {
-        size_t words = asked[i + 1], calls = 9, written = 9, taken = 0, behind = 0;
-        uint32_t last = 9;
-        uint64_t stream = 9, place = 9, reason = 9, *list = lend(words * 8);
-        for (size_t k = 0; k < words; k++) list[k] = 9;
+        struct running r = no_run(asked[i + 1]);
         answer = desk_run(buffer, len, cuts, cuts_len, marks, DESK_STREAMS, times, DESK_STREAMS, places, DESK_STREAMS, heads,
-                          DESK_STREAMS, heap, DESK_STREAMS, &held, asked[i], list, words, &calls, &written, &last, &stream, &place,
-                          &reason);
+                          DESK_STREAMS, heap, DESK_STREAMS, &held, asked[i], r.list, r.words, &r.calls, &r.written, &r.last, &r.stream,
+                          &r.place, &r.reason);
         next_answer();
-        put_number(answer), put_number(calls), put_number(written), put_number(last);
-        put_number(stream), put_number(place), put_number(reason);
-        if (answer == DESK_BAD_MEMORY) {
-            for (size_t k = 0; k < words; k++)
-                if (list[k] != 9) fail("a refused run wrote to its list");
-            continue;
-        }
-        put_number(DESK_RUN_WORDS * written);
-        for (; taken < DESK_RUN_WORDS * written && taken < words; taken++) put_number(list[taken]);
-        for (size_t k = taken; k < words; k++) behind += list[k] != 9;
-        put_number(behind);
+        put_run(answer, &r);
     }
 }
 
@@ -570,8 +586,8 @@ static desk_feed feed;
 
 struct arriving {
     const uint8_t *buffer;
-    const uint64_t *cuts;
-    size_t count;
+    const uint64_t *cuts, *script;
+    size_t count, script_len, used;
     uint64_t come[DESK_STREAMS];
 };
 
@@ -596,26 +612,39 @@ static void put_portion(struct arriving *s, uint64_t stream, uint64_t size) {
     if (there) s->come[stream] += taken;
 }
 
+/* Opens the streams of a case; whether they were opened. */
+static int begun(struct arriving *s) {
+    size_t len, cuts_len, hints_len;
+    const uint64_t *hints;
+    uint32_t answer;
+    s->buffer = bytes(&len);
+    s->cuts = numbers(&cuts_len), hints = numbers(&hints_len), s->script = numbers(&s->script_len);
+    if (cuts_len == 0 || s->cuts[cuts_len - 1] != len || s->script_len == 0) fail("the case has no streams or no script");
+    s->count = cuts_len - 1;
+    answer = desk_feed_begin(&feed, s->count, hints, hints_len);
+    if (answer == DESK_DONE) return 1;
+    next_answer();
+    put_number(answer);
+    return 0;
+}
+
+static uint64_t scripted(struct arriving *s) { return s->script[s->used++ % s->script_len]; }
+
+/* More of a stream is needed. */
+static void put_needed(struct arriving *s, uint64_t stream) {
+    uint64_t size = scripted(s) % 4096, left = s->cuts[stream + 1] - s->cuts[stream] - s->come[stream];
+    put_portion(s, stream, left == 0 ? 4095 : size == 0 ? 1 : size);
+}
+
 /* Calls to the second end. A record's bytes are held to the stream's own. */
 static void fed(void) {
-    size_t len, cuts_len, hints_len, script_len, used = 0, ends = 0;
-    struct arriving s = {NULL, NULL, 0, {0}};
-    const uint64_t *hints, *script;
-    uint32_t answer;
-    s.buffer = bytes(&len);
-    s.cuts = numbers(&cuts_len), hints = numbers(&hints_len), script = numbers(&script_len);
-    if (cuts_len == 0 || s.cuts[cuts_len - 1] != len || script_len == 0) fail("the case has no streams or no script");
-    s.count = cuts_len - 1;
-    answer = desk_feed_begin(&feed, s.count, hints, hints_len);
-    if (answer != DESK_DONE) {
-        next_answer();
-        put_number(answer);
-        return;
-    }
-    while (ends < 2) {
-        uint64_t unasked = script[used++ % script_len];
+    struct arriving s = {NULL, NULL, NULL, 0, 0, 0, {0}};
+    if (!begun(&s)) return;
+    for (int ends = 0; ends < 2;) {
+        uint64_t unasked = scripted(&s);
         desk_record r = {0, 0, 0, 0, 0, 0, 0, NULL};
         desk_damage broken = {0, 0, 0};
+        uint32_t answer;
         put_portion(&s, unasked / 4096, unasked % 4096);
         answer = desk_feed_read(&feed, &r, &broken);
         next_answer();
@@ -626,10 +655,9 @@ static void fed(void) {
             put_number(answer);
             return;
         } else if (r.found == DESK_NEED_MORE) {
-            uint64_t size = script[used++ % script_len] % 4096, left = s.cuts[r.stream + 1] - s.cuts[r.stream] - s.come[r.stream];
             put_word("n");
             put_number(r.stream), put_number(feed.held);
-            put_portion(&s, r.stream, left == 0 ? 4095 : size == 0 ? 1 : size);
+            put_needed(&s, r.stream);
         } else if (r.found == 0) {
             put_word("e");
             ends++;
@@ -639,6 +667,38 @@ static void fed(void) {
             put_number(r.kind), put_number(r.instrument), put_number(r.time), put_number(feed.held);
             if (memcmp(r.bytes, s.buffer + s.cuts[r.stream] + r.place, r.length) != 0) put_word("other-bytes");
         }
+    }
+}
+
+/* The same by runs, each with the next allowance and a list of so many words of those asked for, to the second end. Beside each run stand
+ * as many single calls from the same state on: all that is lent must be equal afterwards. A run reads the window alone. */
+static void fed_by_runs(void) {
+    enum { STATE = sizeof feed - sizeof feed.window };
+    static uint8_t before[STATE], after[STATE];
+    struct arriving s = {NULL, NULL, NULL, 0, 0, 0, {0}};
+    int opened = begun(&s);
+    size_t asked_len, made = 0;
+    const uint64_t *asked = numbers(&asked_len);
+    if (!opened) return;
+    for (int ends = 0; ends < 2; made += 2) {
+        uint64_t unasked = scripted(&s);
+        size_t lent_before = lent_len;
+        struct running r = no_run(asked[(made + 1) % asked_len]);
+        uint32_t answer;
+        put_portion(&s, unasked / 4096, unasked % 4096);
+        memcpy(before, &feed, STATE);
+        answer = desk_feed_run(feed.window, DESK_WINDOW_BYTES, feed.marks, DESK_STREAMS, feed.times, DESK_STREAMS, feed.places, DESK_STREAMS,
+                               feed.heads, DESK_STREAMS, feed.heap, DESK_STREAMS, feed.spans, DESK_STREAMS, &feed.held,
+                               asked[made % asked_len], r.list, r.words, &r.calls, &r.written, &r.last, &r.stream, &r.place, &r.reason);
+        next_answer();
+        put_run(answer, &r);
+        put_number(feed.held);
+        memcpy(after, &feed, STATE), memcpy(&feed, before, STATE);
+        for (size_t i = 0; answer != DESK_BAD_MEMORY && i < r.calls; i++) desk_feed_read(&feed, NULL, NULL);
+        if (memcmp(after, &feed, STATE) != 0) put_word("other-than-single-calls");
+        lent_len = lent_before;
+        if (answer == DESK_DONE && r.last == DESK_NEED_MORE) put_needed(&s, r.stream);
+        ends += answer == DESK_DONE && r.last == 0;
     }
 }
 
@@ -890,6 +950,7 @@ static void answer_case(void) {
     else if (is(kind, len, "decoder")) records(1);
     else if (is(kind, len, "streams")) streams();
     else if (is(kind, len, "feed")) fed();
+    else if (is(kind, len, "feed_runs")) fed_by_runs();
     else if (is(kind, len, "runs")) runs();
     else if (is(kind, len, "merge")) merge_all();
     else if (is(kind, len, "open_metadata")) open_metadata();

@@ -328,20 +328,21 @@ def runs(case):
     answer, merge = answer_of(lambda: RecordMerge(*given))
     if merge is None:
         return words(answer)
-    out = []
-    for allowance, room in zip(asked[::2], asked[1::2]):
-        listed = [9] * room
-        answer, made = answer_of(lambda: merge.run(allowance, listed))
-        if made is None:
-            out.append(words(answer[0], (9,) * 6))
-            continue
-        calls, written, last = made
-        held, behind = listed[: 3 * written], sum(word != 9 for word in listed[3 * written :])
-        if isinstance(last, tuple):
-            out.append(words(13, calls, written, 9, last[1:], held, behind))
-        else:
-            out.append(words(0, calls, written, 0 if last is None else 1, 0, 0, 9, held, behind))
-    return " ; ".join(out)
+    return " ; ".join(one_run(merge, allowance, room) for allowance, room in zip(asked[::2], asked[1::2]))
+
+
+def one_run(merge, allowance, room):
+    """A run's numbers, each of which held 9 before, the words of its records, and how many words behind them are not 9 any more."""
+    listed = [9] * room
+    answer, made = answer_of(lambda: merge.run(allowance, listed))
+    if made is None:
+        return words(answer[0], (9,) * 6)
+    calls, written, last = made
+    held, behind = listed[: 3 * written], sum(word != 9 for word in listed[3 * written :])
+    if isinstance(last, tuple) and last[0] == 13:
+        return words(13, calls, written, 9, last[1:], held, behind)
+    last, stream = last if isinstance(last, tuple) else (0 if last is None else 1, 0)
+    return words(0, calls, written, last, stream, 0, 9, held, behind)
 
 
 def plain(case):
@@ -351,28 +352,43 @@ def plain(case):
 WHOLE = 4095
 
 
-def feed(case):
-    """Calls to the second end, with portions unasked before each and asked for after "need more", as the script has them (README.md)."""
-    buffer, cuts, hints, script = case.bytes(), case.numbers(), case.numbers(), case.numbers()
-    streams = [buffer[first:end] for first, end in zip(cuts, cuts[1:])]
-    answer, merge = answer_of(lambda: FeedMerge(len(streams), hints))
-    if merge is None:
-        return words(answer)
-    come, out, used, ends = [0] * len(streams), [], 0, 0
+class Arriving:
+    """Streams that come in portions, as a script has them (README.md): each portion and word of an end, and what they answered."""
 
-    def portion(stream, size):
-        left = streams[stream][come[stream] :] if stream < len(streams) else b""
+    def __init__(self, case):
+        self.buffer, self.cuts, self.hints, self.script = case.bytes(), case.numbers(), case.numbers(), case.numbers()
+        self.streams = [self.buffer[first:end] for first, end in zip(self.cuts, self.cuts[1:])]
+        self.answer, self.merge = answer_of(lambda: FeedMerge(len(self.streams), self.hints))
+        self.come, self.out, self.used = [0] * len(self.streams), [], 0
+
+    def portion(self, stream, size):
+        left = self.streams[stream][self.come[stream] :] if stream < len(self.streams) else b""
         if size == WHOLE and not left:
-            out.append("x " + words(answer_of(lambda: merge.end(stream))[0]))
+            self.out.append("x " + words(answer_of(lambda: self.merge.end(stream))[0]))
             return
-        answer, taken = answer_of(lambda: merge.add(stream, left[:size]))
-        out.append("p " + words(answer) + ("" if taken is None else f" {taken}"))
+        answer, taken = answer_of(lambda: self.merge.add(stream, left[:size]))
+        self.out.append("p " + words(answer) + ("" if taken is None else f" {taken}"))
         if taken:
-            come[stream] += taken
+            self.come[stream] += taken
 
+    def scripted(self):
+        self.used += 1
+        return divmod(self.script[(self.used - 1) % len(self.script)], 4096)
+
+    def needed(self, stream):
+        """More of the stream: so many bytes as the script has it, or its end."""
+        size = self.scripted()[1]
+        self.portion(stream, max(1, size) if self.come[stream] < len(self.streams[stream]) else WHOLE)
+
+
+def feed(case):
+    """Calls to the second end, with portions unasked before each and asked for after "need more"."""
+    come = Arriving(case)
+    merge, out, ends = come.merge, come.out, 0
+    if merge is None:
+        return words(come.answer)
     while ends < 2:
-        portion(*divmod(script[used % len(script)], 4096))
-        used += 1
+        come.portion(*come.scripted())
         answer, got = answer_of(merge.next)
         if answer != (0,):
             out.append("d " + words(answer[1:], len(merge.heads)))
@@ -380,12 +396,29 @@ def feed(case):
             out.append("e")
             ends += 1
         elif len(got) == 1:
-            stream, size = got[0], script[used % len(script)] % 4096
-            used += 1
-            out.append(f"n {stream} {len(merge.heads)}")
-            portion(stream, max(1, size) if come[stream] < len(streams[stream]) else WHOLE)
+            out.append(f"n {got[0]} {len(merge.heads)}")
+            come.needed(got[0])
         else:
             out.append("r " + words(got, len(merge.heads)))
+    return " ; ".join(out)
+
+
+def feed_runs(case):
+    """The same by runs, each with the next allowance and a list of so many words of those asked for, to the second end."""
+    come = Arriving(case)
+    asked, merge, out, ends, made = case.numbers(), come.merge, come.out, 0, 0
+    if merge is None:
+        return words(come.answer)
+    while ends < 2:
+        come.portion(*come.scripted())
+        allowance, room = asked[made % len(asked)], asked[(made + 1) % len(asked)]
+        made += 2
+        said = one_run(merge, allowance, room)
+        out.append(said + f" {len(merge.heads)}")
+        number, _, _, last, stream = said.split()[:5]
+        if number == "0" and last == "2":
+            come.needed(int(stream))
+        ends += number == "0" and last == "0"
     return " ; ".join(out)
 
 
@@ -431,6 +464,7 @@ KINDS = {
     "merge_metadata": merge_metadata,
     "streams": streams,
     "feed": feed,
+    "feed_runs": feed_runs,
     "runs": runs,
     "plain": plain,
     "replay": replay,

@@ -278,8 +278,9 @@ def plain(rng, long):
         yield words("plain", b"".join(streams), cuts, [rng.randrange(9) for _ in streams])
 
 
-def in_portions(rng, line):
-    """A case of `records` or `streams` again, its streams in drawn portions, some of them unasked; None where its cuts are wrong."""
+def in_portions(rng, line, by_runs=False):
+    """A case of `records` or `streams` again, its streams in drawn portions, some of them unasked, by calls or by runs (No. 14); None where
+    its cuts are wrong."""
     case = Case(line)
     if next(case.words) == "records":
         hints = case.numbers()
@@ -293,7 +294,13 @@ def in_portions(rng, line):
     script = [4096 * rng.randrange(len(cuts)) + rng.choice([*sizes, 4095]) for _ in range(rng.randrange(1, 8))]
     if rng.random() < 0.1:
         script.append(4096 * rng.choice([len(cuts), 255, 256, 2**51]) + rng.choice([0, 5, 4095]))
-    return words("feed", buffer, cuts, hints, script)
+    given = words(buffer, cuts, hints, script)
+    return f"feed_runs {given} {words(runs_asked(rng))}" if by_runs else f"feed {given}"
+
+
+def runs_asked(rng):
+    """Allowances and words of a list, some refused; the last of them lets a call be made."""
+    return lent.asked_runs(rng, 0.3) + [rng.choice([1, 2, 5, 4096]), 3 * rng.choice([1, 2, 30])]
 
 
 def portions(rng, long):
@@ -301,6 +308,8 @@ def portions(rng, long):
     lines = [*whole_streams(rng, long, 3), *damaged_streams(rng, long, 3)]
     lines += (lent.merge_case("streams", rng, faults) for faults in (0, 0.3) for _ in range(20_000 if long else 2_000))
     yield from (line for line in (in_portions(rng, line) for line in lines) if line)
+    lines = (lent.merge_case("streams", rng, faults) for faults in (0, 0.3) for _ in range(10_000 if long else 1_000))
+    yield from (line for line in (in_portions(rng, line, True) for line in lines) if line)
 
 
 def asked(part, size, seed=None):

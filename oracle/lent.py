@@ -222,7 +222,13 @@ def stream_case(rng, faults):
 
 
 def run_case(rng, faults):
-    """Streams, and runs on them: few calls and short lists, sometimes too many calls or a list of no whole rows (No. 14)."""
+    """Streams, and runs on them (No. 14)."""
+    asked = asked_runs(rng, faults)
+    return merge_case("runs", rng, faults) + " " + words(asked)
+
+
+def asked_runs(rng, faults):
+    """Runs: few calls and short lists, sometimes too many calls or a list of no whole rows."""
     asked = []
     for _ in range(rng.randrange(1, 9)):
         asked += [rng.choice([0, 1, 2, 3, 5, 9, 4096]), 3 * rng.choice([0, 1, 2, 3, 5, 30])]
@@ -230,7 +236,7 @@ def run_case(rng, faults):
             asked[-2 + rng.randrange(2)] = rng.choice([4097, 4099, TOP])
         if asked[-1] > 4099:
             asked[-1] = 4
-    return merge_case("runs", rng, faults) + " " + words(asked)
+    return asked
 
 
 def merge_case(kind, rng, faults):

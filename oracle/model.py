@@ -653,7 +653,33 @@ def build_for_day(table, date, names, lent):
 # Merging records.
 
 
-class RecordMerge:
+class Runs:
+    """Many calls of `next` at once (No. 14)."""
+
+    def run(self, allowance, listed):
+        """At most so many calls, each record's stream, place and time to the list, three words a record.
+
+        The calls, the records written, and how it stopped: the refusal, None at the end, (2, stream) where more is needed first, or 0
+        where a further call may be made.
+        """
+        refuse_if(allowance > RUN_CALLS or len(listed) % 3 != 0, 15)
+        calls = written = 0
+        while calls < allowance and 3 * written < len(listed):
+            calls += 1
+            try:
+                handed = self.next()
+            except Refused as refused:
+                return calls, written, refused.answer
+            if handed is None:
+                return calls, written, None
+            if len(handed) == 1:
+                return calls, written, (2, *handed)
+            listed[3 * written : 3 * written + 3] = handed[0], handed[1], handed[-1]
+            written += 1
+        return calls, written, 0
+
+
+class RecordMerge(Runs):
     """The merge of the streams that stand in one buffer, by the rules' words.
 
     A head is the (time, stream) that stands for a stream: of its hint, or of the record that it stands at.
@@ -696,25 +722,6 @@ class RecordMerge:
             self.read(stream)
         return None
 
-    def run(self, allowance, listed):
-        """At most so many calls of `next` (No. 14), each record's stream, place and time to the list, three words a record.
-
-        The calls, the records written, and the refusal, None at the end, or 0 where a further call may be made.
-        """
-        refuse_if(allowance > RUN_CALLS or len(listed) % 3 != 0, 15)
-        calls = written = 0
-        while calls < allowance and 3 * written < len(listed):
-            calls += 1
-            try:
-                handed = self.next()
-            except Refused as refused:
-                return calls, written, refused.answer
-            if handed is None:
-                return calls, written, None
-            listed[3 * written : 3 * written + 3] = handed[0], handed[1], handed[5]
-            written += 1
-        return calls, written, 0
-
 
 class PlainMerge(RecordMerge):
     """The same answers without a heap (No. 12): before every read and every hand-out a scan of all streams, from 0 on, for the least.
@@ -754,7 +761,7 @@ class PlainMerge(RecordMerge):
                 self.marks[stream], self.records[stream], self.times[stream] = "standing", record, record[3]
 
 
-class FeedMerge:
+class FeedMerge(Runs):
     """The merge of streams that arrive in portions, by the rules' words (Requests, No. 5).
 
     Of each stream it keeps all bytes taken; those before `base` count as dropped. A record's bytes stand in the

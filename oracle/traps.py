@@ -2,7 +2,8 @@
 """The printed examples M1 to M12 of the rules and the traps of docs/TRAPS.md, as cases with their answers.
 
 traps.py checks the model on them, and exits with 1 where an answer is another. traps.py cases, traps.py answers print
-them for another program; traps.py feed cases, traps.py feed answers those of streams in portions, the data of vectors_feed.
+them for another program; traps.py feed cases, traps.py feed answers those of streams in portions, the data of vectors_feed, and traps.py
+run cases, traps.py run answers those of many calls at once, the data of vectors_run.
 """
 
 import random
@@ -439,52 +440,110 @@ def plain_traps():
         yield "No. 12, 12", (words("plain", record(5), cuts, hints), "12")
 
 
-def run_traps():
-    """Many calls at once (RULES, Requests, No. 14), over whole buffers: each run is its allowance and the words of its list."""
+def made(number, calls, last, at, listed):
+    """What a run at the C door hands back where every number held 9 before: its numbers, its rows, and no word behind them changed."""
+    return words(number, calls, len(listed), last, at, [number for row in listed for number in row], 0)
 
-    def running(trap, streams, *runs):
-        cuts = [sum(map(len, streams[:n])) for n in range(len(streams) + 1)]
-        asked = [number for run in runs for number in run[:2]]
-        return f"No. 14, {trap}", (words("runs", b"".join(streams), cuts, [], asked), " ; ".join(run[2] for run in runs))
 
-    def made(number, calls, last, at, listed):
-        return words(number, calls, len(listed), last, at, [number for row in listed for number in row], 0)
+def going(calls, *listed):
+    return made(0, calls, 1, (0, 0, 9), listed)
 
-    def going(calls, *listed):
-        return made(0, calls, 1, (0, 0, 9), listed)
 
-    def ended(calls, *listed):
-        return made(0, calls, 0, (0, 0, 9), listed)
+def ended(calls, *listed):
+    return made(0, calls, 0, (0, 0, 9), listed)
 
-    def damaged(calls, place, *listed):
-        return made(13, calls, 9, (0, place, 1), listed)
 
-    bad = words(15, (9,) * 6)
+def damaged_run(calls, place, *listed):
+    return made(13, calls, 9, (0, place, 1), listed)
+
+
+def needed(calls, stream, *listed):
+    return made(0, calls, 2, (stream, 0, 9), listed)
+
+
+BAD_RUN = words(15, (9,) * 6)
+
+
+def whole_runs():
+    """Many calls at once (RULES, Requests, No. 14), over whole buffers: a trap, its streams, and runs, each its allowance, the words of its
+    list and what it hands back."""
     five, six, printed = (0, 0, 5), (1, 0, 6), [record(5) + b"\0\0\0", record(6)]
     two, one, other = [record(1) + record(2)], (0, 0, 1), (0, 16, 2)
     most = 4096, 12288
-    yield running(1, printed, (*most, damaged(2, 16, five)), (*most, ended(2, six)), (*most, ended(1)))
-    yield running(2, printed, (0, 9, going(0)), (4, 12, damaged(2, 16, five)), (4, 12, ended(2, six)), (0, 9, going(0)))
-    yield running(3, printed, (4097, 12288, bad), (4097, 0, bad), (*most, damaged(2, 16, five)))
-    yield running(4, printed, (1, 4, bad))
-    yield running(4, [b"xxx"], (10, 0, going(0)), (10, 3, damaged(1, 0)), (10, 3, ended(1)))
-    yield running(5, printed, (10, 3, going(1, five)), (10, 3, damaged(1, 16)))
-    steps = [going(1, five), damaged(1, 16), going(1, six), ended(1), ended(1)]
-    yield running(6, printed, *((1, 9, step) for step in steps))
-    yield running(7, two, (10, 6, going(2, one, other)), (10, 6, ended(1)))
-    yield running(7, two, (2, 9, going(2, one, other)))
-    yield running(7, two, (3, 9, ended(3, one, other)))
-    yield running(7, two, (3, 6, going(2, one, other)))
-    yield running(8, printed, *((1, 12, step) for step in steps[:4]))
-    yield running(8, printed, (2, 12, damaged(2, 16, five)), (2, 12, ended(2, six)))
-    yield running(8, printed, (2, 12, damaged(2, 16, five)), (1, 12, going(1, six)), (1, 12, ended(1)))
-    yield running(8, printed, (4, 12, damaged(2, 16, five)), (4, 12, ended(2, six)))
-    yield running(9, [record(5) + b"xxx"], (2, 3, going(1, five)), (2, 3, damaged(1, 16)), (2, 3, ended(1)))
+    yield 1, printed, (*most, damaged_run(2, 16, five)), (*most, ended(2, six)), (*most, ended(1))
+    yield 2, printed, (0, 9, going(0)), (4, 12, damaged_run(2, 16, five)), (4, 12, ended(2, six)), (0, 9, going(0))
+    yield 3, printed, (4097, 12288, BAD_RUN), (4097, 0, BAD_RUN), (*most, damaged_run(2, 16, five))
+    yield 4, printed, (1, 4, BAD_RUN)
+    yield 4, [b"xxx"], (10, 0, going(0)), (10, 3, damaged_run(1, 0)), (10, 3, ended(1))
+    yield 5, printed, (10, 3, going(1, five)), (10, 3, damaged_run(1, 16))
+    steps = [going(1, five), damaged_run(1, 16), going(1, six), ended(1), ended(1)]
+    yield 6, printed, *((1, 9, step) for step in steps)
+    yield 7, two, (10, 6, going(2, one, other)), (10, 6, ended(1))
+    yield 7, two, (2, 9, going(2, one, other))
+    yield 7, two, (3, 9, ended(3, one, other))
+    yield 7, two, (3, 6, going(2, one, other))
+    yield 8, printed, *((1, 12, step) for step in steps[:4])
+    yield 8, printed, (2, 12, damaged_run(2, 16, five)), (2, 12, ended(2, six))
+    yield 8, printed, (2, 12, damaged_run(2, 16, five)), (1, 12, going(1, six)), (1, 12, ended(1))
+    yield 8, printed, (4, 12, damaged_run(2, 16, five)), (4, 12, ended(2, six))
+    yield 9, [record(5) + b"xxx"], (2, 3, going(1, five)), (2, 3, damaged_run(1, 16)), (2, 3, ended(1))
     many = [(0, 16 * i, i) for i in range(5000)]
     whole = b"".join(record(i) for i in range(5000))
-    yield running(10, [whole], (4096, 15000, going(4096, *many[:4096])), (4096, 15000, ended(905, *many[4096:])))
-    yield running(14, [record(5) + record(7), record(6)], (4, 12, ended(4, five, six, (0, 16, 7))))
-    yield running(15, printed, (5000, 9, bad), (1, 4, bad), (3, 9, damaged(2, 16, five)), (3, 9, ended(2, six)))
+    yield 10, [whole], (4096, 15000, going(4096, *many[:4096])), (4096, 15000, ended(905, *many[4096:]))
+    yield 14, [record(5) + record(7), record(6)], (4, 12, ended(4, five, six, (0, 16, 7)))
+    yield 15, printed, (5000, 9, BAD_RUN), (1, 4, BAD_RUN), (3, 9, damaged_run(2, 16, five)), (3, 9, ended(2, six))
+
+
+def portion_runs():
+    """The same over portions, of one stream whose bytes these are: a pair is how many of them are handed in and taken, None the end's word."""
+    five = (0, 0, 5)
+    many = [(0, 16 * i, 5) for i in range(64)]
+    yield 11, record(5), (16, 16), (5, 9, needed(2, 0, five)), (5, 9, needed(1, 0)), (5, 0, going(0)), None, (5, 9, ended(1))
+    yield 12, record(5), (16, 16), (5, 3, going(1, five)), (5, 3, needed(1, 0))
+    yield 13, record(5) * 125, (1024, 1024), (64, 195, going(64, *many)), (2000, 1008)
+    yield 13, record(5) * 125, (1024, 1024), (65, 195, needed(65, 0, *many)), (2000, 1024)
+    yield 15, record(5), (5000, 9, BAD_RUN), (1, 4, BAD_RUN), (16, 16), (1, 9, going(1, five))
+
+
+def run_traps():
+    for trap, streams, *runs in whole_runs():
+        cuts = [sum(map(len, streams[:n])) for n in range(len(streams) + 1)]
+        asked = [number for run in runs for number in run[:2]]
+        yield f"No. 14, {trap}", (words("runs", b"".join(streams), cuts, [], asked), " ; ".join(run[2] for run in runs))
+
+
+def run_line(allowance, room, said):
+    """A run's answer as vectors_run prints it: calls and records, how it stopped, and the first nine words of its list."""
+    number, calls, written, last, stream, place, reason, *rest = map(int, said.split())
+    listed = (rest[1:-1] + [9] * room)[: min(room, 9)]
+    if number == 15:
+        calls, written, listed = 0, 0, ([9] * room)[:9]
+    stop = {0: {0: "end", 1: "going", 2: f"need {stream}"}.get(last), 13: f"13 {stream} {place} {reason}", 15: "15"}[number]
+    return f"ran {calls} {written} {stop}\n" + " ".join(["list", *map(str, listed)])
+
+
+def run_lines():
+    """The data of vectors_run: the name of a trap, its line, and what it prints; those over portions are asked of the model here."""
+    for trap, streams, *runs in whole_runs():
+        cuts = [sum(map(len, streams[:n])) for n in range(len(streams) + 1)]
+        pairs = [number for run in runs for number in run[:2]]
+        yield f"R{trap}", words("w", cuts, pairs, b"".join(streams)), [run_line(*run) for run in runs]
+    for trap, content, *steps in portion_runs():
+        merge, pairs, said = model.FeedMerge(1, []), [], []
+        for step in steps:
+            if step is None:
+                merge.end(0)
+                pairs += [20000, 0]
+                said.append("done")
+            elif len(step) == 2:
+                pairs += [10000, step[0]]
+                said.append(f"taken {step[1]}")
+                assert merge.add(0, content[: step[0]]) == step[1], (trap, step)
+            else:
+                pairs += step[:2]
+                said.append(run_line(*step))
+                assert answers.one_run(merge, *step[:2]) == step[2], (trap, step)
+        yield f"R{trap}", words("p", 1, pairs, content), said
 
 
 def compare_traps():
@@ -814,6 +873,7 @@ def checked_feed():
                 wrong += 1
                 print(f"{name}: {call}\n  asked {said}\n  model {answered}")
     drawn = portions_drawn(2000)
+    print(f"run: {len(list(run_lines()))} lines of vectors_run")
     print(f"feed: {len(list(feed_traps()))} cases, {wrong} wrong; 2000 drawn in portions, {drawn} otherwise than whole")
     return wrong + drawn
 
@@ -827,8 +887,12 @@ if __name__ == "__main__":
         print("\n".join(line for name, calls in feed_traps() for line in (f"= {name}", *(call for call, _ in calls))))
     elif sys.argv[1:] == ["feed", "answers"]:
         print("\n".join(line for name, calls in feed_traps() for line in (name, *(said for _, said in calls))))
+    elif sys.argv[1:] == ["run", "cases"]:
+        print("\n".join(line for name, case, _ in run_lines() for line in (f"= {name}", case)))
+    elif sys.argv[1:] == ["run", "answers"]:
+        print("\n".join(line for name, _, said in run_lines() for line in (name, *said)))
     elif sys.argv[1:]:
-        print("traps.py [[feed] cases|answers]", file=sys.stderr)
+        print("traps.py [[feed|run] cases|answers]", file=sys.stderr)
         sys.exit(2)
     else:
         sys.exit(1 if checked() else 0)

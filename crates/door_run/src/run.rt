@@ -15,14 +15,15 @@ ghost use Rattle.theory.specs.Answer.{answer};
 ghost use Rattle.leaves.specs.Refusal.{refused};
 ghost use Rattle.records_rules.specs.Bytes.{streamsOf};
 ghost use Rattle.records_rules.specs.State.{arraysFit, StateOk, Untouched};
-ghost use Rattle.records_run.specs.Run.{runFits, most};
-ghost use Rattle.door_run.specs.Run.{movedIn, RunHanded, RunMade};
+ghost use Rattle.run_rules.specs.Rows.{runFits, most};
+ghost use Rattle.door_run.specs.Handing.{movedIn, RunHanded};
+ghost use Rattle.door_run.specs.Run.{RunMade};
 
 // Bad memory.
 const BAD_MEMORY: u32 = 15;
 
 // A number that a run moves on, unless it is refused for its memory.
-fn moved(refusal: Refusal, after: usize, held: usize) -> usize
+pub fn moved(refusal: Refusal, after: usize, held: usize) -> usize
     ensures { λ r. ⌜ r ≡ movedIn held after (refused refusal) ⌝ }
 {
     if number(refusal) == BAD_MEMORY {

@@ -109,7 +109,7 @@ fn ask(stream: usize) -> Fed
 
 // A call, on arrays that have the room: the heap's root is read where it waits, and handed out where it stands. It is safe and ends
 // whatever the arrays hold.
-fn turns(
+pub fn turns(
     window: &[u8],
     held: usize,
     marks: &mut [u8],

@@ -297,7 +297,7 @@ pub data FeedCalls (n : ℕ) : FeedLent → List Call → List Answer → Type 0
   more : {s s' : FeedLent} {c : Call} {x : Answer} {cs : List Call} {xs : List Answer} → Calling n s c x s' → FeedCalls n s' cs xs
       → FeedCalls n s (c ∷ cs) (x ∷ xs)
 
-call-answers : (n : ℕ) (s : FeedLent) (c : Call) (x : Answer) (s' : FeedLent) → Calling n s c x s'
+pub call-answers : (n : ℕ) (s : FeedLent) (c : Call) (x : Answer) (s' : FeedLent) → Calling n s c x s'
     → (x ≡ answerTo (feedIn n s) c) × Alike (feedIn n s') (leaves (feedIn n s) c)
 unfolding answerTo leaves
 call-answers n s (portion p xs) x s' (a, e) = (a .heard, subst (λ (t : FeedLent). Alike (feedIn n t) (addLeaves (feedIn n s) p xs)) (sym e) (a .leaves))
@@ -343,7 +343,7 @@ pub after-opening : (n : ℕ) (hints : List ℕ) (s : FeedLent)
 unfolding lastly
 after-opening n hints s o = o .starts (s .window)
 
-alike-trans : {F G H : Feed} → Alike F G → Alike G H → Alike F H
+pub alike-trans : {F G H : Feed} → Alike F G → Alike G H → Alike F H
 alike-trans {F} {G} {H} x y =
     record {
       statuses = x .statuses ∙ y .statuses;

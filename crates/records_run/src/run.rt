@@ -5,22 +5,21 @@ use leaves::refusal::Refusal;
 use records::merge::Turn;
 use records::merge::turns;
 use records::state::arrays_fit;
+use run_list::list::limit_of;
+use run_list::list::put_row;
+use run_list::list::run_fits;
 ghost use mathlib.Core.Path.{_≡_};
 ghost use mathlib.Core.Bool.{true, false};
-ghost use Prim.Native.Nat.{ℕ, _+_, _*_, _≤_, _<_, min};
+ghost use Prim.Native.Nat.{ℕ, _+_, _*_, _≤_};
 ghost use lib.ListN.{length};
 ghost use Rattle.records_rules.specs.Machine as machine;
 ghost use Rattle.records_rules.specs.Bytes.{streamsOf};
 ghost use Rattle.records_rules.specs.State.{answerOf, arraysFit, Room, StateOk};
 ghost use Rattle.records.specs.Merge.{turnOf};
-ghost use Rattle.records_run.specs.Run.{runFits, most, lastOf, RunRefused, RunSays};
-ghost use Rattle.records_run.specs.Running.{row, Noted, Told};
-
-// The most calls that a run may be allowed.
-pub const CALLS: usize = 4096;
-
-// The words of a record in a run's list: stream, place, time.
-pub const WORDS: usize = 3;
+ghost use Rattle.run_rules.specs.Rows.{runFits, most};
+ghost use Rattle.run_rules.specs.RowsLaws.{Noted};
+ghost use Rattle.records_run.specs.Run.{noteOf, lastOf, RunRefused, RunSays};
+ghost use Rattle.records_run.specs.Running.{Told};
 
 // How a run stopped: a further call may be made; the end; or a refusal, damage being 13.
 pub enum Last {
@@ -50,20 +49,10 @@ struct Stepped {
     last: Last,
 }
 
-// Writes a record's row of the list.
-fn put_row(list: &mut [u64], at: usize, stream: u64, place: u64, time: u64)
-    requires { ⌜ 3 * at + 3 ≤ length (now list) ⌝ }
-    ensures { λ r. ⌜ now (list .exit) ≡ row (now (list .entry)) at stream place time ⌝ }
-{
-    list[WORDS * at] = stream;
-    list[WORDS * at + 1] = place;
-    list[WORDS * at + 2] = time;
-}
-
 // Notes a call's answer.
 fn note(answer: Turn, list: &mut [u64], at: usize) -> NotedDown
     requires { ⌜ 3 * at + 3 ≤ length (now list) ⌝ }
-    ensures { λ r. ⌜ ((x : machine.Answer) → turnOf answer ≡ answerOf x → Noted (now (list .entry)) at x (r .more) (lastOf (r .last)) (now (list .exit))) ⌝ }
+    ensures { λ r. ⌜ ((x : machine.Answer) → turnOf answer ≡ answerOf x → Noted (now (list .entry)) at (noteOf x) (r .more) (lastOf (r .last)) (now (list .exit))) ⌝ }
 {
     match answer {
         Turn::Record {
@@ -179,30 +168,6 @@ fn steps(
         held: size,
         last: going,
     }
-}
-
-// Whether what is lent to a run fits: the arrays, an allowance of at most 4,096, a list of whole rows; where not, 15.
-fn run_fits(arrays: bool, allowance: usize, words: usize) -> bool
-    ensures { λ r. ⌜ r ≡ runFits arrays allowance words ⌝ }
-{
-    if !arrays {
-        return false;
-    }
-    if CALLS < allowance {
-        return false;
-    }
-    words % WORDS == 0
-}
-
-// The most calls that a run makes: no more than allowed, and none where the list is full.
-fn limit_of(allowance: usize, words: usize) -> usize
-    ensures { λ r. ⌜ r ≡ most allowance words ⌝ }
-{
-    let rows = words / WORDS;
-    if allowance < rows {
-        return allowance;
-    }
-    rows
 }
 
 // At most `allowance` calls of `next`, on the buffer and the cuts of the opening. 15 leaves everything as it was; 13 keeps what the

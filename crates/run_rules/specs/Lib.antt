@@ -1,1 +1,4 @@
 pub mod Batch
+pub mod Rows
+pub mod RowsLaws
+pub mod Shown

@@ -1,7 +1,7 @@
 -- Each arm of the match is what its case says. Assumes nothing.
 use Rattle.records_run.specs.Run.{lastOf}
 use Rattle.door_answers.specs.AnswersLaws.{answer-same}
-use Rattle.door_run.specs.Run.{makes-same, ran-done, ran-not}
+use Rattle.door_run.specs.Handing.{ran-done, ran-not}
 use borrow.Author.Needs.{needs}
 use Rattle.door_run.proofs.run.desk_run.Statement.{statement}
 use Rattle.door_run.proofs.run.desk_run.Tie as tie
@@ -63,7 +63,12 @@ returns c =
           (ran-done (a .calls .now) (a .written .now) (a .last .now) (a .stream .now) (a .place .now) (a .reason .now) (x .calls) (x .written) (answer-same lastOf (x .answers) (c .enum-told .given .1)), x .held, x .untouched, x .list)),
       (λ w n h s.
           let x = ran .1 w n h s in
-          record { handed = ran-done (a .calls .now) (a .written .now) (a .last .now) (a .stream .now) (a .place .now) (a .reason .now) (x .calls) (x .written) (answer-same lastOf (x .answers) (c .enum-told .given .1)); makes = makes-same x }),
+          let g = x .gives in
+          record {
+            hands = record { handed = ran-done (a .calls .now) (a .written .now) (a .last .now) (a .stream .now) (a .place .now) (a .reason .now) (g .calls) (g .written) (answer-same lastOf (g .answers) (c .enum-told .given .1)); list = g .list };
+            leaves = x .leaves;
+            sound = x .sound;
+          }),
     )
 
 same-length-7 : tie.Need-same-length-7
@@ -93,7 +98,12 @@ returns-2 c =
           (ran-done (a .calls .now) (a .written .now) (a .last .now) (a .stream .now) (a .place .now) (a .reason .now) (x .calls) (x .written) (answer-same lastOf (x .answers) (c .enum-told2 .given .1)), x .held, x .untouched, x .list)),
       (λ w n h s.
           let x = ran .1 w n h s in
-          record { handed = ran-done (a .calls .now) (a .written .now) (a .last .now) (a .stream .now) (a .place .now) (a .reason .now) (x .calls) (x .written) (answer-same lastOf (x .answers) (c .enum-told2 .given .1)); makes = makes-same x }),
+          let g = x .gives in
+          record {
+            hands = record { handed = ran-done (a .calls .now) (a .written .now) (a .last .now) (a .stream .now) (a .place .now) (a .reason .now) (g .calls) (g .written) (answer-same lastOf (g .answers) (c .enum-told2 .given .1)); list = g .list };
+            leaves = x .leaves;
+            sound = x .sound;
+          }),
     )
 
 same-length-13 : tie.Need-same-length-13
@@ -126,12 +136,16 @@ returns-3 c =
     let q = c .before .reason-in .ensures in (
       (λ w.
           let x = ran .0 w in
-          (ran-not (a .calls .now) (a .written .now) (a .last .now) (a .stream .now) (a .place .now) (a .reason .now) (x .calls) (x .written) (known .0 .0) (c .number .ensures) k m i p q (answer-same lastOf (x .answers) (known .1)), x .held, x .untouched, x .list)),
+          let hand = ran-not (a .calls .now) (a .written .now) (a .last .now) (a .stream .now) (a .place .now) (a .reason .now) (x .calls) (x .written) (known .0 .0) (c .number .ensures) k m i p q in
+          (hand (answer-same lastOf (x .answers) (known .1)), x .held, x .untouched, x .list)),
       (λ w n h s.
           let x = ran .1 w n h s in
+          let g = x .gives in
+          let hand = ran-not (a .calls .now) (a .written .now) (a .last .now) (a .stream .now) (a .place .now) (a .reason .now) (g .calls) (g .written) (known .0 .0) (c .number .ensures) k m i p q in
           record {
-            handed = ran-not (a .calls .now) (a .written .now) (a .last .now) (a .stream .now) (a .place .now) (a .reason .now) (x .calls) (x .written) (known .0 .0) (c .number .ensures) k m i p q (answer-same lastOf (x .answers) (known .1));
-            makes = makes-same x;
+            hands = record { handed = hand (answer-same lastOf (g .answers) (known .1)); list = g .list };
+            leaves = x .leaves;
+            sound = x .sound;
           }),
     )
 

@@ -1,7 +1,7 @@
 -- The number tells bad memory from every other refusal. Assumes nothing.
 use mathlib.Core.Path.{sym, _∙_}
 use borrow.Author.Tests.{eq-eqb, ne-eqb}
-use Rattle.door_run.specs.Run.{movedIn}
+use Rattle.door_run.specs.Handing.{movedIn}
 use borrow.Author.Needs.{needs}
 use Rattle.door_run.proofs.run.moved.Statement.{statement}
 use Rattle.door_run.proofs.run.moved.Tie as tie

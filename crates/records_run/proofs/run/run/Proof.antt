@@ -7,8 +7,8 @@ use lib.Dec.{T}
 use borrow.Author.Tests.{not-true, not-false}
 use Rattle.records_rules.specs.State.{arraysFit}
 use Rattle.records_rules.specs.Opening.{arrays-room}
-use Rattle.records_run.specs.Run.{runFits}
-use Rattle.records_run.specs.Running.{fits-arrays}
+use Rattle.run_rules.specs.Rows.{runFits}
+use Rattle.run_rules.specs.RowsLaws.{fits-arrays}
 use borrow.Author.Needs.{needs}
 use Rattle.records_run.proofs.run.run.Statement.{statement}
 use Rattle.records_run.proofs.run.run.Tie as tie

@@ -1,8 +1,8 @@
 -- The tests of the definition, one after the other. Assumes nothing.
 use borrow.Author.Tests.{lt-leb, le-leb, not-true, not-false}
-use Rattle.records_run.specs.Run.{runFits}
-use Rattle.records_run.proofs.run.run_fits.Statement.{statement}
-use Rattle.records_run.proofs.run.run_fits.Tie as tie
+use Rattle.run_rules.specs.Rows.{runFits}
+use Rattle.run_list.proofs.list.run_fits.Statement.{statement}
+use Rattle.run_list.proofs.list.run_fits.Tie as tie
 
 returns : tie.Need-returns
 unfolding runFits

@@ -1,10 +1,10 @@
 -- Three places of one row written. Assumes nothing.
 use native.Mathlib.Omega.{arith}
 use lib.ListN.{length-set}
-use Rattle.records_run.specs.Running.{row}
+use Rattle.run_rules.specs.RowsLaws.{row}
 use borrow.Author.Needs.{needs}
-use Rattle.records_run.proofs.run.put_row.Statement.{statement}
-use Rattle.records_run.proofs.run.put_row.Tie as tie
+use Rattle.run_list.proofs.list.put_row.Statement.{statement}
+use Rattle.run_list.proofs.list.put_row.Tie as tie
 
 mul-list : tie.Need-mul-list
 mul-list c = search needs

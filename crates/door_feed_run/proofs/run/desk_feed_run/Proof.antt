@@ -1,0 +1,248 @@
+-- Each arm of the match is what its case says. Assumes nothing.
+use Rattle.feed_run.specs.Run.{lastOf}
+use Rattle.door_answers.specs.AnswersLaws.{answer-same}
+use Rattle.door_run.specs.Handing.{ran-done, ran-needs, ran-not}
+use borrow.Author.Needs.{needs}
+use Rattle.door_feed_run.proofs.run.desk_feed_run.Statement.{statement}
+use Rattle.door_feed_run.proofs.run.desk_feed_run.Tie as tie
+
+run-requires : tie.Need-run-requires
+run-requires c κs = search needs
+
+enum-told : tie.Need-enum-told
+enum-told c = search needs
+
+enum-told-2 : tie.Need-enum-told-2
+enum-told-2 c = search needs
+
+enum-known-answer : tie.Need-enum-known-answer
+enum-known-answer c = search needs
+
+enum-known-answer-2 : tie.Need-enum-known-answer-2
+enum-known-answer-2 c = search needs
+
+moved-requires : tie.Need-moved-requires
+moved-requires c κs = search needs
+
+moved-requires-2 : tie.Need-moved-requires-2
+moved-requires-2 c κs = search needs
+
+stream-in-requires : tie.Need-stream-in-requires
+stream-in-requires c κs = search needs
+
+place-in-requires : tie.Need-place-in-requires
+place-in-requires c κs = search needs
+
+reason-in-requires : tie.Need-reason-in-requires
+reason-in-requires c κs = search needs
+
+number-requires : tie.Need-number-requires
+number-requires c κs = search needs
+
+same-length : tie.Need-same-length
+same-length c = search needs
+
+same-length-2 : tie.Need-same-length-2
+same-length-2 c = search needs
+
+same-length-3 : tie.Need-same-length-3
+same-length-3 c = search needs
+
+same-length-4 : tie.Need-same-length-4
+same-length-4 c = search needs
+
+same-length-5 : tie.Need-same-length-5
+same-length-5 c = search needs
+
+same-length-6 : tie.Need-same-length-6
+same-length-6 c = search needs
+
+same-length-7 : tie.Need-same-length-7
+same-length-7 c = search needs
+
+returns : tie.Need-returns
+returns c =
+    let a = c .before .before .before .before .before .before .before .before .before .before .before .before .before .before .before .before .before .before .before .before .before .before .before .before .before .before .before .before .before .before .before .before .before .args in
+    let ran = c .before .before .before .before .before .before .before .before .before .before .before .before .before .before .before .before .run .ensures in (
+      (λ w.
+          let x = ran .0 w in
+          (ran-done (a .calls .now) (a .written .now) (a .last .now) (a .stream .now) (a .place .now) (a .reason .now) (x .calls) (x .written) (answer-same lastOf (x .answers) (c .enum-told .given .1)), x .held, x .untouched, x .list)),
+      (λ w n h s.
+          let x = ran .1 w n h s in
+          let g = x .gives in
+          record {
+            hands = record { handed = ran-done (a .calls .now) (a .written .now) (a .last .now) (a .stream .now) (a .place .now) (a .reason .now) (g .calls) (g .written) (answer-same lastOf (g .answers) (c .enum-told .given .1)); list = g .list };
+            leaves = x .leaves;
+            sound = x .sound;
+          }),
+    )
+
+same-length-8 : tie.Need-same-length-8
+same-length-8 c = search needs
+
+same-length-9 : tie.Need-same-length-9
+same-length-9 c = search needs
+
+same-length-10 : tie.Need-same-length-10
+same-length-10 c = search needs
+
+same-length-11 : tie.Need-same-length-11
+same-length-11 c = search needs
+
+same-length-12 : tie.Need-same-length-12
+same-length-12 c = search needs
+
+same-length-13 : tie.Need-same-length-13
+same-length-13 c = search needs
+
+same-length-14 : tie.Need-same-length-14
+same-length-14 c = search needs
+
+returns-2 : tie.Need-returns-2
+returns-2 c =
+    let a = c .before .before .before .before .before .before .before .before .before .before .before .before .before .before .before .before .before .before .before .before .before .before .before .before .before .before .before .before .before .before .before .before .before .args in
+    let ran = c .before .before .before .before .before .before .before .before .before .before .before .before .before .before .before .before .run .ensures in (
+      (λ w.
+          let x = ran .0 w in
+          (ran-done (a .calls .now) (a .written .now) (a .last .now) (a .stream .now) (a .place .now) (a .reason .now) (x .calls) (x .written) (answer-same lastOf (x .answers) (c .enum-told2 .given .1)), x .held, x .untouched, x .list)),
+      (λ w n h s.
+          let x = ran .1 w n h s in
+          let g = x .gives in
+          record {
+            hands = record { handed = ran-done (a .calls .now) (a .written .now) (a .last .now) (a .stream .now) (a .place .now) (a .reason .now) (g .calls) (g .written) (answer-same lastOf (g .answers) (c .enum-told2 .given .1)); list = g .list };
+            leaves = x .leaves;
+            sound = x .sound;
+          }),
+    )
+
+same-length-15 : tie.Need-same-length-15
+same-length-15 c = search needs
+
+same-length-16 : tie.Need-same-length-16
+same-length-16 c = search needs
+
+same-length-17 : tie.Need-same-length-17
+same-length-17 c = search needs
+
+same-length-18 : tie.Need-same-length-18
+same-length-18 c = search needs
+
+same-length-19 : tie.Need-same-length-19
+same-length-19 c = search needs
+
+same-length-20 : tie.Need-same-length-20
+same-length-20 c = search needs
+
+same-length-21 : tie.Need-same-length-21
+same-length-21 c = search needs
+
+returns-3 : tie.Need-returns-3
+returns-3 c =
+    let a = c .before .before .before .before .before .before .before .before .before .before .before .before .before .before .before .before .before .before .before .before .before .before .before .before .before .before .before .before .before .before .before .before .before .before .args in
+    let ran = c .before .before .before .before .before .before .before .before .before .before .before .before .before .before .before .before .before .run .ensures in (
+      (λ w.
+          let x = ran .0 w in
+          (ran-needs (a .calls .now) (a .written .now) (a .last .now) (a .stream .now) (a .place .now) (a .reason .now) (x .calls) (x .written) (answer-same lastOf (x .answers) (c .before .answer .given .1)), x .held, x .untouched, x .list)),
+      (λ w n h s.
+          let x = ran .1 w n h s in
+          let g = x .gives in
+          record {
+            hands = record { handed = ran-needs (a .calls .now) (a .written .now) (a .last .now) (a .stream .now) (a .place .now) (a .reason .now) (g .calls) (g .written) (answer-same lastOf (g .answers) (c .before .answer .given .1)); list = g .list };
+            leaves = x .leaves;
+            sound = x .sound;
+          }),
+    )
+
+same-length-22 : tie.Need-same-length-22
+same-length-22 c = search needs
+
+same-length-23 : tie.Need-same-length-23
+same-length-23 c = search needs
+
+same-length-24 : tie.Need-same-length-24
+same-length-24 c = search needs
+
+same-length-25 : tie.Need-same-length-25
+same-length-25 c = search needs
+
+same-length-26 : tie.Need-same-length-26
+same-length-26 c = search needs
+
+same-length-27 : tie.Need-same-length-27
+same-length-27 c = search needs
+
+same-length-28 : tie.Need-same-length-28
+same-length-28 c = search needs
+
+returns-4 : tie.Need-returns-4
+returns-4 c =
+    let a = c .before .before .before .before .before .before .before .before .before .before .before .before .before .before .before .before .before .before .before .before .before .before .before .before .before .before .before .before .before .before .before .before .before .before .before .before .before .before .before .before .before .before .before .before .before .args in
+    let ran = c .before .before .before .before .before .before .before .before .before .before .before .before .before .before .before .before .before .before .before .before .before .before .before .before .before .before .before .before .run .ensures in
+    let known = c .before .before .before .before .before .before .before .before .before .before .before .before .answer2 .given in
+    let k = c .before .before .before .before .before .before .before .before .before .moved .ensures in
+    let m = c .before .before .before .before .before .before .before .moved2 .ensures in
+    let i = c .before .before .before .before .before .stream-in .ensures in
+    let p = c .before .before .before .place-in .ensures in
+    let q = c .before .reason-in .ensures in (
+      (λ w.
+          let x = ran .0 w in
+          let hand = ran-not (a .calls .now) (a .written .now) (a .last .now) (a .stream .now) (a .place .now) (a .reason .now) (x .calls) (x .written) (known .0 .0) (c .number .ensures) k m i p q in
+          (hand (answer-same lastOf (x .answers) (known .1)), x .held, x .untouched, x .list)),
+      (λ w n h s.
+          let x = ran .1 w n h s in
+          let g = x .gives in
+          let hand = ran-not (a .calls .now) (a .written .now) (a .last .now) (a .stream .now) (a .place .now) (a .reason .now) (g .calls) (g .written) (known .0 .0) (c .number .ensures) k m i p q in
+          record {
+            hands = record { handed = hand (answer-same lastOf (g .answers) (known .1)); list = g .list };
+            leaves = x .leaves;
+            sound = x .sound;
+          }),
+    )
+
+pub desk-feed-run-spec : {M : Type 1} → statement M
+desk-feed-run-spec =
+    tie.close
+    (tie.spec
+    run-requires
+    enum-told
+    enum-told-2
+    enum-known-answer
+    enum-known-answer-2
+    moved-requires
+    moved-requires-2
+    stream-in-requires
+    place-in-requires
+    reason-in-requires
+    number-requires
+    same-length
+    same-length-2
+    same-length-3
+    same-length-4
+    same-length-5
+    same-length-6
+    same-length-7
+    returns
+    same-length-8
+    same-length-9
+    same-length-10
+    same-length-11
+    same-length-12
+    same-length-13
+    same-length-14
+    returns-2
+    same-length-15
+    same-length-16
+    same-length-17
+    same-length-18
+    same-length-19
+    same-length-20
+    same-length-21
+    returns-3
+    same-length-22
+    same-length-23
+    same-length-24
+    same-length-25
+    same-length-26
+    same-length-27
+    same-length-28
+    returns-4)

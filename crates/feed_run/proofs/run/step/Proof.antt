@@ -1,0 +1,52 @@
+-- The answer is the turn's, and is noted as that turn. Assumes nothing.
+use Rattle.feed_run.specs.Running.{says-told}
+use borrow.Author.Needs.{needs}
+use Rattle.feed_run.proofs.run.step.Statement.{statement}
+use Rattle.feed_run.proofs.run.step.Tie as tie
+
+turns-requires : tie.Need-turns-requires
+turns-requires c κs = search needs
+
+note-requires : tie.Need-note-requires
+note-requires c κs = search needs
+
+same-length : tie.Need-same-length
+same-length c = search needs
+
+same-length-2 : tie.Need-same-length-2
+same-length-2 c = search needs
+
+same-length-3 : tie.Need-same-length-3
+same-length-3 c = search needs
+
+same-length-4 : tie.Need-same-length-4
+same-length-4 c = search needs
+
+same-length-5 : tie.Need-same-length-5
+same-length-5 c = search needs
+
+same-length-6 : tie.Need-same-length-6
+same-length-6 c = search needs
+
+same-length-7 : tie.Need-same-length-7
+same-length-7 c = search needs
+
+returns : tie.Need-returns
+returns c =
+    let t = c .before .before .before .before .before .before .before .before .before .before .before .before .before .before .before .before .turns .ensures in
+    (t .0, λ n few ok. says-told (t .1 n few ok) (c .before .before .note .ensures))
+
+pub step-spec : {M : Type 1} → statement M
+step-spec =
+    tie.close
+    (tie.spec
+    turns-requires
+    note-requires
+    same-length
+    same-length-2
+    same-length-3
+    same-length-4
+    same-length-5
+    same-length-6
+    same-length-7
+    returns)

@@ -1,0 +1,148 @@
+-- Loop: what the run is to hand back is what is handed back from here on (`Under⁺`); the calls that are left fall. Assumes nothing.
+use native.Mathlib.Omega.{arith}
+use mathlib.Core.Path.{_∙_}
+use Prim.Native.Nat.{_-_}
+use borrow.Author.Tests.{not-true, not-false}
+use Rattle.feed_run.specs.Running.{Under⁺, under-start, under-room, under-done, under-more, under-stop}
+use Rattle.feed_run.proofs.run.steps.Statement.{statement}
+use Rattle.feed_run.proofs.run.steps.Tie as tie
+
+abbrev Inv-loop : tie.InvT-loop
+Inv-loop window held marks₀ times₀ places₀ heads₀ heap₀ spans₀ list₀ limit size₀ calls₀ marks times places heads heap spans list size calls =
+    Under⁺ window limit held marks₀ times₀ places₀ heads₀ heap₀ spans₀ list₀ calls size marks times places heads heap spans list
+
+abbrev μ-loop : tie.MeasureT-loop
+μ-loop window held marks₀ times₀ places₀ heads₀ heap₀ spans₀ list₀ limit size₀ calls₀ marks times places heads heap spans list size calls =
+    limit - calls
+
+loop-holds : tie.Need-loop-holds Inv-loop μ-loop
+loop-holds c = under-start _ _ _ _ _ _ _ _ _ _
+
+step-requires : tie.Need-step-requires Inv-loop μ-loop
+step-requires c κs =
+    let at = c .before .before .before .before .before .before .before in
+    let u = at .before .loop .inv in
+    let p = at .before .before .before .before .before .before .before .before .before .before .pre in
+    (under-room u (p .0), omega (arith, u .lengths .list, p .1, at .loop-test .taken))
+
+add-t31 : tie.Need-add-t31 Inv-loop μ-loop
+add-t31 c =
+    let at = c .before .before .before .before .before .before .before .before .before .before .before .before .before .before .before .before .before .before .before .before .before .before .before .before in
+    omega (arith, at .loop-test .taken, at .before .before .before .before .before .before .before .before .before .before .fits .limit)
+
+same-length : tie.Need-same-length Inv-loop μ-loop
+same-length c =
+    let at = c .before .before .before .before .before .before .before .before .before .before .before .before .before .before .before .before in
+    at .step .kept .1 .1 .0 ∙ at .before .before .before .before .before .before .before .before .before .loop .inv .lengths .marks
+
+same-length-2 : tie.Need-same-length-2 Inv-loop μ-loop
+same-length-2 c =
+    let at = c .before .before .before .before .before .before .before .before .before .before .before .before .before .before .before .before in
+    at .step .kept .1 .1 .1 .0 ∙ at .before .before .before .before .before .before .before .before .before .loop .inv .lengths .times
+
+same-length-3 : tie.Need-same-length-3 Inv-loop μ-loop
+same-length-3 c =
+    let at = c .before .before .before .before .before .before .before .before .before .before .before .before .before .before .before .before in
+    at .step .kept .1 .1 .1 .1 .0 ∙ at .before .before .before .before .before .before .before .before .before .loop .inv .lengths .places
+
+same-length-4 : tie.Need-same-length-4 Inv-loop μ-loop
+same-length-4 c =
+    let at = c .before .before .before .before .before .before .before .before .before .before .before .before .before .before .before .before in
+    at .step .kept .1 .1 .1 .1 .1 .0 ∙ at .before .before .before .before .before .before .before .before .before .loop .inv .lengths .heads
+
+same-length-5 : tie.Need-same-length-5 Inv-loop μ-loop
+same-length-5 c =
+    let at = c .before .before .before .before .before .before .before .before .before .before .before .before .before .before .before .before in
+    at .step .kept .1 .1 .1 .1 .1 .1 .0 ∙ at .before .before .before .before .before .before .before .before .before .loop .inv .lengths .heap
+
+same-length-6 : tie.Need-same-length-6 Inv-loop μ-loop
+same-length-6 c =
+    let at = c .before .before .before .before .before .before .before .before .before .before .before .before .before .before .before .before in
+    at .step .kept .1 .1 .1 .1 .1 .1 .1 .0 ∙ at .before .before .before .before .before .before .before .before .before .loop .inv .spans
+
+same-length-7 : tie.Need-same-length-7 Inv-loop μ-loop
+same-length-7 c =
+    let at = c .before .before .before .before .before .before .before .before .before .before .before .before .before .before .before .before in
+    at .step .kept .1 .1 .1 .1 .1 .1 .1 .1 .0 ∙ at .before .before .before .before .before .before .before .before .before .loop .inv .lengths .list
+
+returns : tie.Need-returns Inv-loop μ-loop
+returns c =
+    let at = c .before .before .before .before .before .before .before .before .before .before .before .before .before .before .before .before in
+    let test = at .before .before .before .before .before .before .before .before in
+    let u = test .before .loop .inv in
+    let s = at .step .ensures in
+    (omega (arith, s .0, u .holds), under-stop u (s .1) (test .loop-test .taken) (not-true _ (c .if1 .taken)) (test .before .before .before .before .before .before .before .before .before .before .pre .1))
+
+add-calls : tie.Need-add-calls Inv-loop μ-loop
+add-calls c =
+    let at = c .before .before .before .before .before .before .before .before .before .before .before .before .before .before .before .before .before .before .before .before .before .before .before .before in
+    omega (arith, at .loop-test .taken, at .before .before .before .before .before .before .before .before .before .before .fits .limit)
+
+loop-less : tie.Need-loop-less Inv-loop μ-loop
+loop-less c = omega (arith, c .before .before .before .before .before .before .before .before .before .before .before .before .before .before .before .before .before .before .before .before .before .before .before .before .loop-test .taken)
+
+loop-again : tie.Need-loop-again Inv-loop μ-loop
+loop-again c =
+    let at = c .before .before .before .before .before .before .before .before .before .before .before .before .before .before .before .before in
+    let test = at .before .before .before .before .before .before .before .before in
+    let u = test .before .loop .inv in
+    let s = at .step .ensures in
+    let k = at .step .kept .1 .1 in
+    under-more u (s .1) (test .loop-test .taken) (not-false _ (c .if1 .left)) (s .0)
+    (record { marks = k .0; times = k .1 .0; places = k .1 .1 .0; heads = k .1 .1 .1 .0; heap = k .1 .1 .1 .1 .0; list = k .1 .1 .1 .1 .1 .1 .0 })
+    (k .1 .1 .1 .1 .1 .0)
+
+same-length-8 : tie.Need-same-length-8 Inv-loop μ-loop
+same-length-8 c = c .before .loop .inv .lengths .marks
+
+same-length-9 : tie.Need-same-length-9 Inv-loop μ-loop
+same-length-9 c = c .before .loop .inv .lengths .times
+
+same-length-10 : tie.Need-same-length-10 Inv-loop μ-loop
+same-length-10 c = c .before .loop .inv .lengths .places
+
+same-length-11 : tie.Need-same-length-11 Inv-loop μ-loop
+same-length-11 c = c .before .loop .inv .lengths .heads
+
+same-length-12 : tie.Need-same-length-12 Inv-loop μ-loop
+same-length-12 c = c .before .loop .inv .lengths .heap
+
+same-length-13 : tie.Need-same-length-13 Inv-loop μ-loop
+same-length-13 c = c .before .loop .inv .spans
+
+same-length-14 : tie.Need-same-length-14 Inv-loop μ-loop
+same-length-14 c = c .before .loop .inv .lengths .list
+
+returns-2 : tie.Need-returns-2 Inv-loop μ-loop
+returns-2 c =
+    let u = c .before .loop .inv in
+    (u .holds, under-done u (c .before .before .before .before .before .before .before .before .before .before .pre .1) (c .loop-test .left))
+
+pub steps-spec : {M : Type 1} → statement M
+steps-spec =
+    tie.close
+    (tie.spec
+    Inv-loop
+    μ-loop
+    loop-holds
+    step-requires
+    add-t31
+    same-length
+    same-length-2
+    same-length-3
+    same-length-4
+    same-length-5
+    same-length-6
+    same-length-7
+    returns
+    add-calls
+    loop-less
+    loop-again
+    same-length-8
+    same-length-9
+    same-length-10
+    same-length-11
+    same-length-12
+    same-length-13
+    same-length-14
+    returns-2)

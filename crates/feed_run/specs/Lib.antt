@@ -1,0 +1,4 @@
+pub mod Run
+pub mod Running
+pub mod Divided
+pub mod Fixed

@@ -1,0 +1,2 @@
+// What runs of calls share (RULES, Requests, No. 14).
+pub mod list;
