@@ -157,6 +157,11 @@ upto-is s (suc left) at to n e l h u =
     ∙ is-1 (getD s at 0) (slice (at + 1) to s) (first-yes (getD s at 0) (omega (arith, u .each at (omega arith) (omega arith))))
     ∙ upto-is s left (at + 1) to n (omega arith) l h (record { each = λ k p q. u .each k (omega arith) q })
 
+-- the same of a part of them
+pub plain-is : (s : List ℕ) (from to at end : ℕ) → Upto s from to 0x7F → from ≤ at → at ≤ end → end ≤ to → to ≤ length s → isUtf8 (slice at end s) ≡ true
+plain-is s from to at end u a b c l =
+    upto-is s (end - at) at end 0x7F (omega arith) (omega arith) (omega arith) (record { each = λ k p q. u .each k (omega arith) (omega arith) })
+
 -- ---- the ways that a step goes; f1 to f4 are what the tests of the four productions answered
 
 good : {s : List ℕ} {at to n : ℕ} → 0 < n → at + n ≤ to → isUtf8 (slice at to s) ≡ isUtf8 (slice (at + n) to s) → Stepped s at to n

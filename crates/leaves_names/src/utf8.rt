@@ -1,5 +1,6 @@
 // UTF-8 as RFC 3629, section 4, defines it: one function a production, then a walk from one UTF8-char to the next.
 ghost use mathlib.Core.Path.{_≡_};
+ghost use mathlib.Core.Bool.{true};
 ghost use Prim.Native.Nat.{_<_, _≤_};
 ghost use lib.ListN.{length};
 ghost use lib.Seq.{slice};
@@ -150,12 +151,20 @@ fn greatest(text: &[u8], from: usize, to: usize) -> u8
     most
 }
 
-// Whether the bytes from `from` to before `to` are UTF-8. Most texts are UTF8-1 alone, which the greatest byte tells.
+// Whether the bytes from `from` to before `to` are UTF8-1 alone, which the greatest of them tells.
+pub fn is_plain(text: &[u8], from: usize, to: usize) -> bool
+    requires { ⌜ (from ≤ to) × (to ≤ length (now text)) ⌝ }
+    ensures { λ r. ⌜ (r ≡ true → Upto (now (text .entry)) from to 0x7F) ⌝ }
+{
+    greatest(text, from, to) <= 0x7F
+}
+
+// Whether the bytes from `from` to before `to` are UTF-8. Most texts are UTF8-1 alone.
 pub fn is_utf8_within(text: &[u8], from: usize, to: usize) -> bool
     requires { ⌜ (from ≤ to) × (to ≤ length (now text)) ⌝ }
     ensures { λ r. ⌜ r ≡ isUtf8 (slice from to (now (text .entry))) ⌝ }
 {
-    if greatest(text, from, to) <= 0x7F {
+    if is_plain(text, from, to) {
         return true;
     }
     let mut at = from;

@@ -6,7 +6,7 @@ use native.Mathlib.Omega.{arith}
 use borrow.Author.Needs.{needs}
 use lib.Seq.{slice}
 use Rattle.leaves_names.specs.Utf8.{isUtf8}
-use Rattle.leaves_names.specs.Utf8Laws.{none-left-is, upto-is}
+use Rattle.leaves_names.specs.Utf8Laws.{none-left-is, plain-is}
 use Rattle.leaves_names.proofs.utf8.is_utf8_within.Statement.{statement}
 use Rattle.leaves_names.proofs.utf8.is_utf8_within.Tie as tie
 
@@ -16,13 +16,14 @@ Inv-loop text from to at₀ at = (at ≤ to) × (isUtf8 (slice from to text) ≡
 abbrev μ-loop : tie.MeasureT-loop
 μ-loop text from to at₀ at = to - at
 
-greatest-requires : tie.Need-greatest-requires Inv-loop μ-loop
-greatest-requires c κs = search needs
+is-plain-requires : tie.Need-is-plain-requires Inv-loop μ-loop
+is-plain-requires c κs = search needs
 
 returns : tie.Need-returns Inv-loop μ-loop
 returns c =
     let a = c .before .before .before .args in
-    sym (upto-is (a .text .now) (a .to - a .from) (a .from) (a .to) _ (omega arith) (omega arith) (omega arith) (c .before .greatest .ensures))
+    let plain = c .before .is-plain .ensures (c .if1 .taken) in
+    sym (plain-is (a .text .now) (a .from) (a .to) (a .from) (a .to) plain (omega arith) (omega arith) (omega arith) (omega arith))
 
 loop-holds : tie.Need-loop-holds Inv-loop μ-loop
 loop-holds c = (search needs, refl)
@@ -54,7 +55,7 @@ is-utf8-within-spec =
     (tie.spec
     Inv-loop
     μ-loop
-    greatest-requires
+    is-plain-requires
     returns
     loop-holds
     char-len-requires
