@@ -1,6 +1,6 @@
 /* The desk's side of the benchmark: `ours ROW STEPS` lays the row's inputs out, takes so many steps over them through the C door,
  * and prints a digest of the answers, which theirs.rs prints too. With 0 steps only the inputs are laid out. theirs.rs has the same
- * rows, save the comparison's and the plain engine's, and makes the same inputs with the same generator: a change here is a change
+ * rows, save those that bench/run names as ours alone, and makes the same inputs with the same generator: a change here is a change
  * there. */
 #include <stdint.h>
 #include <stdio.h>
@@ -505,6 +505,38 @@ static void names(uint64_t steps, uint64_t least, uint64_t most) {
     for (uint64_t i = 0; i < steps; i++) digest += desk_utf8(texts[i % TEXTS], DESK_NAME_BYTES) == DESK_DONE;
 }
 
+/* ---- Naming: rows that dbn has not. */
+
+static uint8_t list_bytes[DESK_NAME_LIST_BYTES];
+static uint32_t list_ends[DESK_NAMES];
+static size_t list_names, list_used;
+
+/* The number of an instrument's name, which is the text of its number. */
+static void name_one(uint64_t which) {
+    char text[16];
+    int size = sprintf(text, "%u", instrument(which));
+    uint32_t number;
+    if (desk_number_of(list_bytes, sizeof list_bytes, list_ends, DESK_NAMES, &list_names, &list_used, (const uint8_t *)text, (size_t)size,
+                       &number) != DESK_DONE || number != which)
+        stop("a name was not numbered");
+    digest = digest * 31 + number;
+}
+
+/* So many names one after the other, from an empty list. */
+static void name_all(uint64_t most) {
+    list_names = list_used = 0;
+    for (uint64_t i = 0; i < most; i++) name_one(i);
+}
+
+/* Names drawn among those of a list of so many. */
+static void namings(uint64_t steps, uint64_t most) {
+    for (uint64_t i = 0; i < most; i++) {
+        list_used += (size_t)sprintf((char *)list_bytes + list_used, "%u", instrument(i));
+        list_ends[list_names++] = (uint32_t)list_used;
+    }
+    for (uint64_t i = 0; i < steps; i++) name_one(draw(most));
+}
+
 int main(int words, char **word) {
     if (words != 3) stop("a row and a number of steps");
     uint64_t steps = strtoull(word[2], NULL, 10);
@@ -550,6 +582,10 @@ int main(int words, char **word) {
     else if (!strcmp(row, "utf8-ascii")) names(steps, 1, 1);
     else if (!strcmp(row, "utf8-two")) names(steps, 2, 2);
     else if (!strcmp(row, "utf8-mixed")) names(steps, 1, 4);
+    else if (!strcmp(row, "name-256")) namings(steps, 256);
+    else if (!strcmp(row, "name-1024")) namings(steps, 1024);
+    else if (!strcmp(row, "name-4096")) namings(steps, 4096);
+    else if (!strcmp(row, "names-4096")) for (; steps > 0; steps--) name_all(4096);
     else stop("no such row");
     printf("%016llx\n", (unsigned long long)digest);
     return 0;

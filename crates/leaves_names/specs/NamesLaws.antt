@@ -12,6 +12,7 @@ use lib.ListN.{length, getD, set, take, drop}
 use lib.Seq.{slice, length-slice, paste, paste-suc, length-paste, getD-drop, getD-take}
 use native.Mathlib.Nat.{add-zero, zero-add}
 use Rattle.leaves_names.specs.Utf8.{isUtf8}
+use Rattle.leaves_names.specs.Utf8Laws.{Upto, plain-is}
 use Rattle.theory.specs.Slices.{cut, none-left, whole}
 use Rattle.leaves_names.specs.Names.{nameStart, nameEnd, nameOf, namesFrom, namesOf, isName, standFrom, wellFormed, listFits, same, least, hasRoom, numbering, naming, namingAnswer, nameWritten, bytesAfter, endsAfter}
 use Rattle.theory.specs.Answer.{answer}
@@ -264,6 +265,15 @@ name-long s from to k h = rw (length-slice from to s k, lt-leb (to - from) 255 h
 pub name-short : (s : List ℕ) (from to : ℕ) → to ≤ length s → to - from ≤ 255 → isUtf8 (slice from to s) ≡ isName (slice from to s)
 unfolding isName
 name-short s from to k h = rw (length-slice from to s k, le-leb (to - from) 255 h)
+
+and-true : (t : Bool) → t ≡ (t && true)
+and-true true = refl
+and-true false = refl
+
+pub name-plain : (s : List ℕ) (all from to : ℕ) → Upto s 0 all 0x7F → from ≤ to → to ≤ all → all ≤ length s → leb (to - from) 255 ≡ isName (slice from to s)
+unfolding isName
+name-plain s all from to u a b l =
+    rw (length-slice from to s (omega arith), plain-is s 0 all from to u (omega arith) a b l) (and-true (leb (to - from) 255))
 
 -- ---- the walk that compares two stretches
 

@@ -7,11 +7,11 @@ use mathlib.Core.Path.{_≡_, refl, ap, _∙_, sym}
 use native.Mathlib.Decide.{decLt}
 use native.Mathlib.Omega.{arith}
 use native.Mathlib.Numerals.{add-one}
-use lib.Dec.{T, leb, le→leb}
 use lib.ListN.{length, getD}
 use lib.Seq.{slice}
 use Rattle.theory.specs.Slices.{cut, none-left}
-use Rattle.leaves_names.specs.Utf8.{within, utf8-1, utf8-2, three, utf8-3, four, utf8-4, isUtf8}
+use Rattle.leaves_names.specs.Utf8Bytes.{within-yes, and-not, yes-1, not-1, not-2, not-3, not-4}
+use Rattle.leaves_names.specs.Utf8.{within, isTail, utf8-1, utf8-2, three, utf8-3, four, utf8-4, isUtf8}
 
 -- n is the length of the UTF8-char that stands at place at, of the bytes before to; 0 where none does
 pub record Stepped (s : List ℕ) (at to n : ℕ) : Type 0 where
@@ -19,29 +19,7 @@ pub record Stepped (s : List ℕ) (at to n : ℕ) : Type 0 where
   pub stuck : n ≡ 0 → isUtf8 (slice at to s) ≡ false
   pub onward : (n ≡ 0 → ⊥) → isUtf8 (slice at to s) ≡ isUtf8 (slice (at + n) to s)
 
--- ---- the alternatives of a production, tried in their order; f1 to f4 are what their tests answered
-
-pub third-1 : (a b c : ℕ) {f1 : Bool} → f1 ≡ three 0xE0 0xE0 0xA0 0xBF a b c → f1 ≡ true → true ≡ utf8-3 a b c
-unfolding utf8-3
-third-1 a b c e1 t1 = rw (sym e1 ∙ t1)
-
-pub third-2 : (a b c : ℕ) {f1 f2 : Bool} → f1 ≡ three 0xE0 0xE0 0xA0 0xBF a b c → f1 ≡ false
-    → f2 ≡ three 0xE1 0xEC 0x80 0xBF a b c → f2 ≡ true → true ≡ utf8-3 a b c
-unfolding utf8-3
-third-2 a b c e1 t1 e2 t2 = rw (sym e1 ∙ t1, sym e2 ∙ t2)
-
-pub third-3 : (a b c : ℕ) {f1 f2 f3 : Bool} → f1 ≡ three 0xE0 0xE0 0xA0 0xBF a b c → f1 ≡ false
-    → f2 ≡ three 0xE1 0xEC 0x80 0xBF a b c → f2 ≡ false
-    → f3 ≡ three 0xED 0xED 0x80 0x9F a b c → f3 ≡ true → true ≡ utf8-3 a b c
-unfolding utf8-3
-third-3 a b c e1 t1 e2 t2 e3 t3 = rw (sym e1 ∙ t1, sym e2 ∙ t2, sym e3 ∙ t3)
-
-pub third-4 : (a b c : ℕ) {f1 f2 f3 f4 : Bool} → f1 ≡ three 0xE0 0xE0 0xA0 0xBF a b c → f1 ≡ false
-    → f2 ≡ three 0xE1 0xEC 0x80 0xBF a b c → f2 ≡ false
-    → f3 ≡ three 0xED 0xED 0x80 0x9F a b c → f3 ≡ false
-    → f4 ≡ three 0xEE 0xEF 0x80 0xBF a b c → f4 ≡ utf8-3 a b c
-unfolding utf8-3
-third-4 a b c e1 t1 e2 t2 e3 t3 e4 = rw (sym e1 ∙ t1, sym e2 ∙ t2, sym e3 ∙ t3) e4
+-- ---- the alternatives of UTF8-4, tried in their order; f1 to f3 are what their tests answered
 
 pub fourth-1 : (a b c d : ℕ) {f1 : Bool} → f1 ≡ four 0xF0 0xF0 0x90 0xBF a b c d → f1 ≡ true → true ≡ utf8-4 a b c d
 unfolding utf8-4
@@ -141,21 +119,18 @@ module _ {s : List ℕ} {from at n x : ℕ} (u : Upto s from at n) (e : x ≡ ge
 pub upto-all : {s : List ℕ} {from at to n : ℕ} → Upto s from at n → at ≤ to → to ≤ at → Upto s from to n
 upto-all u h l = record { each = λ k p q. u .each k p (omega arith) }
 
-T-true : (b : Bool) → T b → b ≡ true
-T-true true t = refl
-T-true false t = absurd t
-
-first-yes : (a : ℕ) → a ≤ 0x7F → utf8-1 a ≡ true
-unfolding within
-first-yes a h = rw (T-true (leb 0 a) (le→leb 0 a (omega arith)), T-true (leb a 0x7F) (le→leb a 0x7F h))
-
 -- bytes up to %x7F are UTF-8
 pub upto-is : (s : List ℕ) (left at to n : ℕ) → at + left ≡ to → to ≤ length s → n ≤ 0x7F → Upto s at to n → isUtf8 (slice at to s) ≡ true
 upto-is s zero at to n e l h u = none-left-is s at to (omega arith)
 upto-is s (suc left) at to n e l h u =
     ap isUtf8 (cut s at to (omega arith) l)
-    ∙ is-1 (getD s at 0) (slice (at + 1) to s) (first-yes (getD s at 0) (omega (arith, u .each at (omega arith) (omega arith))))
+    ∙ is-1 (getD s at 0) (slice (at + 1) to s) (yes-1 (getD s at 0) (omega (arith, u .each at (omega arith) (omega arith))))
     ∙ upto-is s left (at + 1) to n (omega arith) l h (record { each = λ k p q. u .each k (omega arith) q })
+
+-- the same of a part of them
+pub plain-is : (s : List ℕ) (from to at end : ℕ) → Upto s from to 0x7F → from ≤ at → at ≤ end → end ≤ to → to ≤ length s → isUtf8 (slice at end s) ≡ true
+plain-is s from to at end u a b c l =
+    upto-is s (end - at) at end 0x7F (omega arith) (omega arith) (omega arith) (record { each = λ k p q. u .each k (omega arith) (omega arith) })
 
 -- ---- the ways that a step goes; f1 to f4 are what the tests of the four productions answered
 
@@ -220,4 +195,56 @@ pub none-4 : {s : List ℕ} {at to : ℕ} {f1 f2 f3 f4 : Bool} → at < to → t
 none-4 {s} {at} {to} h k e1 t1 l2 e2 t2 l3 e3 t3 l4 e4 t4 =
     bad h (ap isUtf8 (cut-4 s at to (omega arith) k) ∙ no-4 _ _ _ _ _ (sym e1 ∙ t1) (sym e2 ∙ t2) (sym e3 ∙ t3) (sym e4 ∙ t4))
 
--- the whole text is its bytes from 0 to its length
+-- ---- the walk by the first byte, where four bytes are left
+
+module _ (s : List ℕ) (at to : ℕ) (h : at + 4 ≤ to) (k : to ≤ length s) where
+  pub by-1 : getD s at 0 < 0x80 → isUtf8 (slice at to s) ≡ isUtf8 (slice (at + 1) to s)
+  by-1 l = ap isUtf8 (cut s at to (omega arith) k) ∙ is-1 _ _ (yes-1 (getD s at 0) (omega arith))
+
+  pub by-2 : 0xC2 ≤ getD s at 0 → getD s at 0 < 0xE0 → isTail (getD s (at + 1) 0) ≡ true → isUtf8 (slice at to s) ≡ isUtf8 (slice (at + 2) to s)
+  unfolding utf8-2
+  by-2 l m e =
+      ap isUtf8 (cut-2 s at to (omega arith) k)
+      ∙ is-2 _ _ _ (not-1 (getD s at 0) (omega arith)) (rw (within-yes 0xC2 0xDF (getD s at 0) l (omega arith)) e)
+
+  pub by-3 : 0xE0 ≤ getD s at 0 → utf8-3 (getD s at 0) (getD s (at + 1) 0) (getD s (at + 2) 0) ≡ true → isUtf8 (slice at to s) ≡ isUtf8 (slice (at + 3) to s)
+  by-3 l e =
+      ap isUtf8 (cut-3 s at to (omega arith) k)
+      ∙ is-3 _ _ _ _ (not-1 (getD s at 0) (omega arith)) (not-2 (getD s at 0) (getD s (at + 1) 0) (λ p q. omega arith)) e
+
+  pub by-4 : 0xF0 ≤ getD s at 0 → utf8-4 (getD s at 0) (getD s (at + 1) 0) (getD s (at + 2) 0) (getD s (at + 3) 0) ≡ true
+      → isUtf8 (slice at to s) ≡ isUtf8 (slice (at + 4) to s)
+  by-4 l e =
+      ap isUtf8 (cut-4 s at to (omega arith) k)
+      ∙ is-4 _ _ _ _ _ (not-1 (getD s at 0) (omega arith)) (not-2 (getD s at 0) (getD s (at + 1) 0) (λ p q. omega arith))
+      (sym (not-3 (getD s at 0) (getD s (at + 1) 0) (getD s (at + 2) 0) (λ p q. omega arith))) e
+
+  -- no UTF8-char stands there
+  none : 0x80 ≤ getD s at 0 → utf8-2 (getD s at 0) (getD s (at + 1) 0) ≡ false → utf8-3 (getD s at 0) (getD s (at + 1) 0) (getD s (at + 2) 0) ≡ false
+      → utf8-4 (getD s at 0) (getD s (at + 1) 0) (getD s (at + 2) 0) (getD s (at + 3) 0) ≡ false → isUtf8 (slice at to s) ≡ false
+  none l e f g = ap isUtf8 (cut-4 s at to (omega arith) k) ∙ no-4 _ _ _ _ _ (not-1 (getD s at 0) l) e f g
+
+  pub no-lead : 0x80 ≤ getD s at 0 → getD s at 0 < 0xC2 → isUtf8 (slice at to s) ≡ false
+  no-lead l m =
+      none l (not-2 (getD s at 0) (getD s (at + 1) 0) (λ p q. omega arith))
+      (sym (not-3 (getD s at 0) (getD s (at + 1) 0) (getD s (at + 2) 0) (λ p q. omega arith)))
+      (not-4 (getD s at 0) (getD s (at + 1) 0) (getD s (at + 2) 0) (getD s (at + 3) 0) (λ p q. omega arith))
+
+  pub no-2nd : 0xC2 ≤ getD s at 0 → getD s at 0 < 0xE0 → isTail (getD s (at + 1) 0) ≡ false → isUtf8 (slice at to s) ≡ false
+  unfolding utf8-2
+  no-2nd l m e =
+      none (omega arith) (rw e (and-not (within 0xC2 0xDF (getD s at 0))))
+      (sym (not-3 (getD s at 0) (getD s (at + 1) 0) (getD s (at + 2) 0) (λ p q. omega arith)))
+      (not-4 (getD s at 0) (getD s (at + 1) 0) (getD s (at + 2) 0) (getD s (at + 3) 0) (λ p q. omega arith))
+
+  pub no-3rd : 0xE0 ≤ getD s at 0 → getD s at 0 < 0xF0 → utf8-3 (getD s at 0) (getD s (at + 1) 0) (getD s (at + 2) 0) ≡ false
+      → isUtf8 (slice at to s) ≡ false
+  no-3rd l m e =
+      none (omega arith) (not-2 (getD s at 0) (getD s (at + 1) 0) (λ p q. omega arith)) e
+      (not-4 (getD s at 0) (getD s (at + 1) 0) (getD s (at + 2) 0) (getD s (at + 3) 0) (λ p q. omega arith))
+
+  pub no-4th : 0xF0 ≤ getD s at 0 → utf8-4 (getD s at 0) (getD s (at + 1) 0) (getD s (at + 2) 0) (getD s (at + 3) 0) ≡ false
+      → isUtf8 (slice at to s) ≡ false
+  no-4th l e =
+      none (omega arith) (not-2 (getD s at 0) (getD s (at + 1) 0) (λ p q. omega arith))
+      (sym (not-3 (getD s at 0) (getD s (at + 1) 0) (getD s (at + 2) 0) (λ p q. omega arith))) e

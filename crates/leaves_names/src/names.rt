@@ -7,6 +7,8 @@ ghost use lib.ListN.{length, set};
 ghost use lib.Seq.{slice};
 ghost use Rattle.leaves_names.specs.Names.{nameStart, nameEnd, namesOf, isName, wellFormed, listFits, same, least, hasRoom, nameWritten, checkedOf, checkNames, naming, namedOf, namingAnswer, bytesAfter, endsAfter, placedOf, placeOfName};
 ghost use Rattle.leaves_names.specs.NamesLaws.{standing, Ordered};
+ghost use Rattle.leaves_names.specs.Utf8Laws.{Upto};
+use crate::utf8::is_plain;
 use crate::utf8::is_utf8_within;
 use leaves::refusal::Refusal;
 
@@ -80,9 +82,9 @@ pub fn is_name(text: &[u8], from: usize, to: usize) -> bool
     is_utf8_within(text, from, to)
 }
 
-// Whether a name lies from `start` to `end`, within the bytes in use.
-fn stands(bytes: &[u8], name_bytes: usize, start: usize, end: usize) -> bool
-    requires { ⌜ «name_bytes» ≤ length (now bytes) ⌝ }
+// Whether a name lies from `start` to `end`, within the bytes in use. Where all of these are plain, its length alone is asked.
+fn stands(bytes: &[u8], name_bytes: usize, plain: bool, start: usize, end: usize) -> bool
+    requires { ⌜ («name_bytes» ≤ length (now bytes)) × (plain ≡ true → Upto (now bytes) 0 «name_bytes» 0x7F) ⌝ }
     ensures { λ r. ⌜ r ≡ standing (now (bytes .entry)) «name_bytes» start end ⌝ }
 {
     if end < start {
@@ -90,6 +92,9 @@ fn stands(bytes: &[u8], name_bytes: usize, start: usize, end: usize) -> bool
     }
     if name_bytes < end {
         return false;
+    }
+    if plain {
+        return end - start <= NAME_SIZE;
     }
     is_name(bytes, start, end)
 }
@@ -99,11 +104,12 @@ pub fn is_list(bytes: &[u8], ends: &[u32], names: usize, name_bytes: usize) -> b
     requires { ⌜ (names ≤ length (now ends)) × («name_bytes» ≤ length (now bytes)) ⌝ }
     ensures { λ r. ⌜ r ≡ wellFormed (now (bytes .entry)) (now (ends .entry)) names «name_bytes» ⌝ }
 {
+    let plain = is_plain(bytes, 0, name_bytes);
     let mut start = 0;
     let mut n = 0;
     while n < names {
         let end = place(ends[n]);
-        if stands(bytes, name_bytes, start, end) {
+        if stands(bytes, name_bytes, plain, start, end) {
             start = end;
             n += 1;
         } else {

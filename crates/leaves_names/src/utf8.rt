@@ -1,7 +1,8 @@
 // UTF-8 as RFC 3629, section 4, defines it: one function a production, then a walk from one UTF8-char to the next.
 ghost use mathlib.Core.Path.{_≡_};
-ghost use Prim.Native.Nat.{_<_, _≤_};
-ghost use lib.ListN.{length};
+ghost use mathlib.Core.Bool.{true};
+ghost use Prim.Native.Nat.{_+_, _<_, _≤_};
+ghost use lib.ListN.{length, getD};
 ghost use lib.Seq.{slice};
 ghost use Rattle.leaves_names.specs.Utf8.{within, isTail, utf8-1, utf8-2, three, utf8-3, four, utf8-4, isUtf8};
 ghost use Rattle.leaves_names.specs.Utf8Laws.{Stepped, Upto};
@@ -53,20 +54,28 @@ fn is_three(from: u8, to: u8, low: u8, high: u8, first: u8, second: u8, third: u
     }
 }
 
-// RFC 3629, 4: UTF8-3.
-fn is_3(a: u8, b: u8, c: u8) -> bool
-    ensures { λ r. ⌜ r ≡ utf8-3 a b c ⌝ }
+// RFC 3629, 4: UTF8-3. Of its four alternatives E0 has a higher least second byte, ED a lower greatest one.
+fn is_3(text: &[u8], at: usize, a: u8) -> bool
+    requires { ⌜ at + 2 < length (now text) ⌝ }
+    ensures { λ r. ⌜ r ≡ utf8-3 a (getD (now (text .entry)) (at + 1) 0) (getD (now (text .entry)) (at + 2) 0) ⌝ }
 {
-    if is_three(0xE0, 0xE0, 0xA0, 0xBF, a, b, c) {
-        return true;
+    if !is_within(0xE0, 0xEF, a) {
+        return false;
     }
-    if is_three(0xE1, 0xEC, 0x80, 0xBF, a, b, c) {
-        return true;
+    let b = text[at + 1];
+    if !is_tail(b) {
+        return false;
     }
-    if is_three(0xED, 0xED, 0x80, 0x9F, a, b, c) {
-        return true;
+    if !is_tail(text[at + 2]) {
+        return false;
     }
-    is_three(0xEE, 0xEF, 0x80, 0xBF, a, b, c)
+    if a == 0xE0 {
+        return 0xA0 <= b;
+    }
+    if a == 0xED {
+        return b <= 0x9F;
+    }
+    true
 }
 
 // Whether four bytes are one from `from` to `to`, one from `low` to `high` and two UTF8-tails.
@@ -122,13 +131,13 @@ fn char_len(text: &[u8], at: usize, to: usize) -> usize
     if left < 3 {
         return 0;
     }
-    let c = text[at + 2];
-    if is_3(a, b, c) {
+    if is_3(text, at, a) {
         return 3;
     }
     if left < 4 {
         return 0;
     }
+    let c = text[at + 2];
     let d = text[at + 3];
     if is_4(a, b, c, d) { 4 } else { 0 }
 }
@@ -150,14 +159,19 @@ fn greatest(text: &[u8], from: usize, to: usize) -> u8
     most
 }
 
-// Whether the bytes from `from` to before `to` are UTF-8. Most texts are UTF8-1 alone, which the greatest byte tells.
-pub fn is_utf8_within(text: &[u8], from: usize, to: usize) -> bool
+// Whether the bytes from `from` to before `to` are UTF8-1 alone, which the greatest of them tells.
+pub fn is_plain(text: &[u8], from: usize, to: usize) -> bool
+    requires { ⌜ (from ≤ to) × (to ≤ length (now text)) ⌝ }
+    ensures { λ r. ⌜ (r ≡ true → Upto (now (text .entry)) from to 0x7F) ⌝ }
+{
+    greatest(text, from, to) <= 0x7F
+}
+
+// Whether the bytes from `from` to before `to` are UTF-8, one UTF8-char after the other.
+fn walk_end(text: &[u8], from: usize, to: usize) -> bool
     requires { ⌜ (from ≤ to) × (to ≤ length (now text)) ⌝ }
     ensures { λ r. ⌜ r ≡ isUtf8 (slice from to (now (text .entry))) ⌝ }
 {
-    if greatest(text, from, to) <= 0x7F {
-        return true;
-    }
     let mut at = from;
     while at < to {
         let n = char_len(text, at, to);
@@ -167,6 +181,67 @@ pub fn is_utf8_within(text: &[u8], from: usize, to: usize) -> bool
         at += n;
     }
     true
+}
+
+// The same of four bytes and more: as long as four are left, each UTF8-char is known by its first byte.
+fn walk(text: &[u8], from: usize, to: usize) -> bool
+    requires { ⌜ (from + 4 ≤ to) × (to ≤ length (now text)) ⌝ }
+    ensures { λ r. ⌜ r ≡ isUtf8 (slice from to (now (text .entry))) ⌝ }
+{
+    let last = to - 4;
+    let mut at = from;
+    loop {
+        let a = text[at];
+        if a < 0x80 {
+            at += 1;
+            if last < at {
+                return walk_end(text, at, to);
+            }
+        } else if a < 0xE0 {
+            if a < 0xC2 {
+                return false;
+            }
+            if !is_tail(text[at + 1]) {
+                return false;
+            }
+            at += 2;
+            if last < at {
+                return walk_end(text, at, to);
+            }
+        } else if a < 0xF0 {
+            if !is_3(text, at, a) {
+                return false;
+            }
+            at += 3;
+            if last < at {
+                return walk_end(text, at, to);
+            }
+        } else {
+            if !is_4(a, text[at + 1], text[at + 2], text[at + 3]) {
+                return false;
+            }
+            at += 4;
+            if last < at {
+                return walk_end(text, at, to);
+            }
+        }
+    }
+}
+
+// Whether the bytes from `from` to before `to` are UTF-8. Most texts are UTF8-1 alone, and begin so.
+pub fn is_utf8_within(text: &[u8], from: usize, to: usize) -> bool
+    requires { ⌜ (from ≤ to) × (to ≤ length (now text)) ⌝ }
+    ensures { λ r. ⌜ r ≡ isUtf8 (slice from to (now (text .entry))) ⌝ }
+{
+    if to - from < 4 {
+        return walk_end(text, from, to);
+    }
+    if text[from] < 0x80 {
+        if is_plain(text, from, to) {
+            return true;
+        }
+    }
+    walk(text, from, to)
 }
 
 // Whether the text is UTF-8.

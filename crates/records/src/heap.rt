@@ -3,7 +3,7 @@
 ghost use mathlib.Core.Path.{_≡_};
 ghost use Prim.Native.Nat.{_+_, _*_, _<_, _≤_};
 ghost use lib.ListN.{length, getD};
-ghost use Rattle.records_rules.specs.Sift.{Lesser, Pick, Sifted, Heaped};
+ghost use Rattle.records_rules.specs.Sift.{Stands, Lesser, Sooner, Settled, Sifted, Heaped};
 
 // A stream's number as an index: the arrays have 256 places, so every byte is one.
 pub fn slot(stream: u8) -> usize
@@ -12,69 +12,104 @@ pub fn slot(stream: u8) -> usize
     stream as usize
 }
 
-// The time of a stream.
-fn time_of(times: &[u64], stream: u8) -> u64
-    requires { ⌜ 256 ≤ length (now times) ⌝ }
-    ensures { λ r. ⌜ r ≡ getD (now (times .entry)) stream 0 ⌝ }
-{
-    let p = slot(stream);
-    times[p]
+// A stream of the heap: the place where it stands, its number, its time.
+struct Entry {
+    place: usize,
+    stream: usize,
+    time: u64,
 }
 
-// Of two places of the heap, the one whose stream comes first.
-fn lesser(times: &[u64], heap: &[u8], a: usize, b: usize) -> usize
-    requires { ⌜ (a < length (now heap)) × (b < length (now heap)) × (256 ≤ length (now times)) ⌝ }
-    ensures { λ r. ⌜ Lesser (now (times .entry)) (now (heap .entry)) a b r ⌝ }
+// What stands at a place of the heap.
+fn entry_at(times: &[u64], heap: &[u8], place: usize) -> Entry
+    requires { ⌜ (place < length (now heap)) × (256 ≤ length (now times)) ⌝ }
+    ensures { λ r. ⌜ Stands (now (times .entry)) (now (heap .entry)) place (r .place) (r .stream) (r .time) ⌝ }
 {
-    let p = heap[a];
-    let q = heap[b];
-    let t = time_of(times, p);
-    let u = time_of(times, q);
-    if t < u {
-        return a;
+    let stream = slot(heap[place]);
+    let time = times[stream];
+    Entry {
+        place,
+        stream,
+        time,
     }
-    if u < t {
-        return b;
-    }
-    if p <= q {
-        return a;
-    }
-    b
 }
 
-// Of a place and its children among the first `held`, the one whose stream comes first.
-fn pick(times: &[u64], heap: &[u8], held: usize, i: usize) -> usize
-    requires { ⌜ (held ≤ length (now heap)) × (held ≤ 256) × (256 ≤ length (now times)) × (2 * i + 1 < held) ⌝ }
-    ensures { λ r. ⌜ Pick (now (times .entry)) (now (heap .entry)) held i r ⌝ }
+// Of two places that lie side by side, the one whose stream comes first.
+fn lesser(times: &[u64], heap: &[u8], a: usize) -> Entry
+    requires { ⌜ (a < 256) × (a + 1 < length (now heap)) × (256 ≤ length (now times)) ⌝ }
+    ensures { λ r. ⌜ Lesser (now (times .entry)) (now (heap .entry)) a (r .place) (r .stream) (r .time) ⌝ }
 {
-    let l = 2 * i + 1;
-    let m = lesser(times, heap, i, l);
-    if held <= l + 1 {
-        return m;
+    let left = entry_at(times, heap, a);
+    let right = entry_at(times, heap, a + 1);
+    if right.time == left.time {
+        if right.stream < left.stream {
+            return right;
+        }
+    } else if right.time < left.time {
+        return right;
     }
-    lesser(times, heap, m, l + 1)
+    left
 }
 
-// What stands at `from` moves down to where it belongs. In order or not, the heap holds the same streams afterwards.
+// Whether a stream of this time comes before another, or is it.
+fn comes_first(time: u64, stream: usize, other: Entry) -> bool
+    ensures { λ r. ⌜ Sooner time stream (other .time) (other .stream) r ⌝ }
+{
+    if time <= other.time {
+        if time < other.time {
+            return true;
+        }
+        return stream < other.stream;
+    }
+    false
+}
+
+// The hole's last turn, where it has one child at most: a child that comes before the moving stream fills it. Answers where the hole is.
+fn lone_child(
+    times: &[u64],
+    heap: &mut [u8],
+    held: usize,
+    i: usize,
+    time: u64,
+    moving: usize,
+) -> usize
+    requires { ⌜ (i < held) × (held ≤ 2 * i + 2) × (held ≤ length (now heap)) × (held ≤ 256) × (256 ≤ length (now times)) ⌝ }
+    ensures { λ r. ⌜ Settled (now (times .entry)) held time moving i (now (heap .entry)) r (now (heap .exit)) ⌝ }
+{
+    let last = 2 * i + 1;
+    if held <= last {
+        return i;
+    }
+    let child = entry_at(times, heap, last);
+    if comes_first(time, moving, child) {
+        return i;
+    }
+    heap[i] = child.stream as u8;
+    last
+}
+
+// What stands at `from` moves down to where it belongs: its place is a hole that the lesser child fills, until no child comes before
+// it. In order or not, the heap holds the same streams afterwards.
 pub fn sift_down(times: &[u64], heap: &mut [u8], held: usize, from: usize)
     requires { ⌜ (held ≤ length (now heap)) × (held ≤ 256) × (from ≤ held) × (256 ≤ length (now times)) ⌝ }
     ensures { λ _. ⌜ Sifted (now (times .entry)) held from (now (heap .entry)) (now (heap .exit)) ⌝ }
 {
-    let mut i = from;
-    loop {
-        if held <= 2 * i + 1 {
-            return;
-        }
-        let m = pick(times, heap, held, i);
-        if m == i {
-            return;
-        }
-        let p = heap[i];
-        let q = heap[m];
-        heap[i] = q;
-        heap[m] = p;
-        i = m;
+    if held <= from {
+        return;
     }
+    let moving = slot(heap[from]);
+    let time = times[moving];
+    let mut i = from;
+    while 2 * i + 2 < held {
+        let child = lesser(times, heap, 2 * i + 1);
+        if comes_first(time, moving, child) {
+            heap[i] = moving as u8;
+            return;
+        }
+        heap[i] = child.stream as u8;
+        i = child.place;
+    }
+    let end = lone_child(times, heap, held, i, time, moving);
+    heap[end] = moving as u8;
 }
 
 // Puts the heap's first `held` places in order.

@@ -11,15 +11,15 @@ use crate::state::GONE;
 use crate::state::STANDING;
 use crate::state::WAITING;
 use crate::state::arrays_fit;
-use crate::state::entry_or_zero;
 use leaves::frame::Head;
 use leaves::frame::read_within;
 use leaves::refusal::Refusal;
 ghost use mathlib.Core.Path.{_≡_};
 ghost use mathlib.Core.Bool.{true, false, _&&_};
 ghost use Prim.Native.Nat.{ℕ, _+_, _-_, _<_, _≤_, _^_};
-ghost use lib.ListN.{length, replicate};
-ghost use mathlib.Core.List.{[]};
+ghost use lib.ListN.{length, getD, replicate};
+ghost use lib.Seq.{slice};
+ghost use mathlib.Core.List.{List, []};
 ghost use Rattle.theory.specs.Answer.{answer};
 ghost use Rattle.records_rules.specs.Machine.{says, record-at, damage-at};
 ghost use Rattle.records_rules.specs.Bytes.{streamsOf};
@@ -70,6 +70,12 @@ pub struct Got {
     pub head: u64,
 }
 
+// A part of the buffer, from its first byte to before its end.
+struct Part {
+    from: u64,
+    to: u64,
+}
+
 // Room for marks, and for the heap: empty places.
 pub fn empty_bytes() -> [u8; 256]
     ensures { λ r. ⌜ (r ≡ replicate 256 0) × (256 ≡ length r) ⌝ }
@@ -101,14 +107,27 @@ fn pack(head: Head) -> u64
     (head.length as u64) + TWO_BYTES * (head.kind as u64) + FOUR_BYTES * (head.instrument as u64)
 }
 
+// The part of a buffer that a stream is, from its cut to the next one; nothing where there is no next one.
+fn part_of(cuts: &[u64], stream: usize) -> Part
+    requires { ⌜ stream < 256 ⌝ }
+    ensures { λ r. ⌜ ((s : List ℕ) → slice (r .from) (r .to) s ≡ slice (getD (now (cuts .entry)) stream 0) (getD (now (cuts .entry)) (stream + 1) 0) s) ⌝ }
+{
+    if cuts.len() <= stream + 1 {
+        return Part { from: 0, to: 0 };
+    }
+    Part {
+        from: cuts[stream],
+        to: cuts[stream + 1],
+    }
+}
+
 // What stands at a place of a stream.
 pub fn read_stream(buffer: &[u8], cuts: &[u64], stream: usize, place: u64) -> Got
     requires { ⌜ stream < 256 ⌝ }
     ensures { λ r. ⌜ gotOf (r .found) (r .time) (r .head) ≡ streamsOf (now (buffer .entry)) (now (cuts .entry)) stream .read place ⌝ }
 {
-    let from = entry_or_zero(cuts, stream);
-    let to = entry_or_zero(cuts, stream + 1);
-    let head = read_within(buffer, from, to, place);
+    let part = part_of(cuts, stream);
+    let head = read_within(buffer, part.from, part.to, place);
     Got {
         found: head.found,
         time: head.time,

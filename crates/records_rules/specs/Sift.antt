@@ -1,12 +1,16 @@
 -- The heap: what its contracts cite, and the laws that its loops' proofs cite. Assumes nothing.
-use mathlib.Core.Path.{_≡_, refl, sym, ap, _∙_}
+use mathlib.Core.Path.{_≡_, refl, sym, ap, subst, _∙_}
 use mathlib.Core.Logic.{_≢_, _⊎_, inl, inr, ⊎-elim}
+use mathlib.Core.Bool.{Bool, true, false, not, true≢false}
 use Prim.Native.Nat.{ℕ, _+_, _-_, _*_, _/_, _≤_, _<_, zero-le}
 use native.Mathlib.Decide.{ℕ-discrete}
 use native.Mathlib.Omega.{arith}
 use mathlib.Core.List.{List}
+use mir.Facts.{ltb-yes, ltb-no}
+use lib.Dec.{T, ltb}
 use lib.ListN.{length, getD, set, length-set}
-use Rattle.records_rules.specs.Least.{upto-refl, upto-trans}
+use lib.Seq.{getD-set-same, getD-set-other, set-getD, set-set}
+use Rattle.records_rules.specs.Least.{Upto, upto-refl, upto-trans}
 use Rattle.records_rules.specs.Heap.{at, over, swap, swap-left, swap-right, swap-other, swap-there, Le, HeapFrom, HeapBut, but-start, but-done, but-step}
 
 abbrev pub keys : List ℕ → ℕ → ℕ
@@ -83,94 +87,183 @@ pub record Sifted (ts : List ℕ) (n i : ℕ) (hp hq : List ℕ) : Type 0 where
   pub moved : Moved n hp hq
   pub heap : HeapFrom (keys ts) hp n (i + 1) → HeapFrom (keys ts) hq n i
 
--- ---- the lesser of two
+-- ---- what stands at a place: its stream and its time; of two places side by side, the one whose stream comes first
 
-pub record Lesser (ts hp : List ℕ) (a b r : ℕ) : Type 0 where
-  pub one : (r ≡ a) ⊎ (r ≡ b)
-  pub left : Le (keys ts) (at hp r) (at hp a)
-  pub right : Le (keys ts) (at hp r) (at hp b)
+pub record Stands (ts hp : List ℕ) (a r q t : ℕ) : Type 0 where
+  pub place : r ≡ a
+  pub stream : q ≡ at hp a
+  pub small : q < 256
+  pub time : t ≡ keys ts q
 
--- ---- of a place and its children, the least
+-- whether (t, p) is not after (u, q); where both are the same, either answer will do
+pub record Sooner (t p u q : ℕ) (r : Bool) : Type 0 where
+  pub yes : r ≡ true → Upto t p u q
+  pub no : r ≡ false → Upto u q t p
 
-pub record Pick (ts hp : List ℕ) (n i m : ℕ) : Type 0 where
-  pub who : (m ≡ i) ⊎ ((0 < m) × (m < n) × (over m ≡ i))
-  pub own : Le (keys ts) (at hp m) (at hp i)
-  pub best : (j : ℕ) → 0 < j → j < n → over j ≡ i → Le (keys ts) (at hp m) (at hp j)
+pub sooner-yes : {t p u q : ℕ} → t < u → Sooner t p u q true
+sooner-yes h = record { yes = λ e. record { times = omega arith; numbers = λ k. absurd (omega arith) }; no = λ e. absurd (true≢false e) }
 
-pub lesser-bound : {ts hp : List ℕ} {a b r : ℕ} (n : ℕ) → Lesser ts hp a b r → a < n → b < n → r < n
-lesser-bound n x ha hb = ⊎-elim (λ e. omega arith) (λ e. omega arith) (x .one)
-
-pub pick-one : (ts hp : List ℕ) (n i m : ℕ) → 2 * i + 1 < n → n ≤ 2 * i + 1 + 1 → Lesser ts hp i (2 * i + 1) m → Pick ts hp n i m
-pick-one ts hp n i m h k x =
+pub sooner-tie : {t p u q : ℕ} → t ≤ u → u ≤ t → Sooner t p u q (ltb p q)
+sooner-tie {t} {p} {u} {q} h k =
     record {
-      who = ⊎-elim (λ e. inl e) (λ e. inr (omega arith, omega arith, omega arith)) (x .one);
-      own = x .left;
-      best = λ j a b d. let e : 2 * i + 1 ≡ j = omega arith in rw e at (x .right);
+      yes = λ e. record { times = h; numbers = λ i. omega (arith, ltb-yes {a = p} {b = q} (subst T (sym e) tt)) };
+      no = λ e. record { times = k; numbers = λ i. omega (arith, ltb-no {a = p} {b = q} (subst (λ (b : Bool). T (not b)) (sym e) tt)) };
     }
 
-pub pick-two : (ts hp : List ℕ) (n i m m' : ℕ) → 2 * i + 1 + 1 < n → Lesser ts hp i (2 * i + 1) m → Lesser ts hp m (2 * i + 1 + 1) m' → Pick ts hp n i m'
-pick-two ts hp n i m m' h x y =
+pub sooner-no : {t p u q : ℕ} → u < t → Sooner t p u q false
+sooner-no h = record { yes = λ e. absurd (true≢false (sym e)); no = λ e. record { times = omega arith; numbers = λ k. absurd (omega arith) } }
+
+pub record Lesser (ts hp : List ℕ) (a r q t : ℕ) : Type 0 where
+  pub one : (r ≡ a) ⊎ (r ≡ a + 1)
+  pub stands : Stands ts hp r r q t
+  pub left : Le (keys ts) q (at hp a)
+  pub right : Le (keys ts) q (at hp (a + 1))
+
+module _ {ts hp : List ℕ} {a r q t s p u : ℕ} (x : Stands ts hp a r q t) (y : Stands ts hp (a + 1) s p u) where
+  own : {b m l k : ℕ} → Stands ts hp b m l k → Stands ts hp m m l k
+  own z = record { place = refl; stream = z .stream ∙ ap (at hp) (sym (z .place)); small = z .small; time = z .time }
+
+  pub lesser-left : Upto t q u p → Lesser ts hp a r q t
+  lesser-left h =
+      record {
+        one = inl (x .place);
+        stands = own x;
+        left = rw (← x .stream) (upto-refl _ _);
+        right = rw (← y .stream, ← x .time, ← y .time) h;
+      }
+
+  pub lesser-right : Upto u p t q → Lesser ts hp a s p u
+  lesser-right h =
+      record {
+        one = inr (y .place);
+        stands = own y;
+        left = rw (← x .stream, ← x .time, ← y .time) h;
+        right = rw (← y .stream) (upto-refl _ _);
+      }
+
+-- ---- the least child of i
+
+pub record Child (ts hp : List ℕ) (n i m q t : ℕ) : Type 0 where
+  pub below : (0 < m) × (m < n) × (over m ≡ i)
+  pub stream : q ≡ at hp m
+  pub time : t ≡ keys ts q
+  pub best : (j : ℕ) → 0 < j → j < n → over j ≡ i → Le (keys ts) q (at hp j)
+
+pub child-lone : {ts hp : List ℕ} {n i m q t : ℕ} → 2 * i + 1 < n → n ≤ 2 * i + 2 → Stands ts hp (2 * i + 1) m q t → Child ts hp n i (2 * i + 1) q t
+child-lone {ts} {hp} {n} {i} h k x =
     record {
-      who = ⊎-elim (λ e. ⊎-elim (λ f. inl (e ∙ f)) (λ f. inr (omega arith, omega arith, omega arith)) (x .one)) (λ e. inr (omega arith, omega arith, omega arith)) (y .one);
-      own = upto-trans (y .left) (x .left);
+      below = (omega arith, h, omega arith);
+      stream = x .stream;
+      time = x .time;
+      best = λ j a b d. let e : 2 * i + 1 ≡ j = omega arith in rw (← e, ← x .stream) (upto-refl _ _);
+    }
+
+pub child-lesser : {ts hp : List ℕ} {n i m q t : ℕ} → 2 * i + 2 < n → Lesser ts hp (2 * i + 1) m q t → Child ts hp n i m q t
+child-lesser {ts} {hp} {n} {i} {m} {q} {t} h x =
+    record {
+      below = ⊎-elim (λ e. (omega arith, omega arith, omega arith)) (λ e. (omega arith, omega arith, omega arith)) (x .one);
+      stream = x .stands .stream;
+      time = x .stands .time;
       best = best';
     }
   where
-    best' : (j : ℕ) → 0 < j → j < n → over j ≡ i → Le (keys ts) (at hp m') (at hp j)
+    best' : (j : ℕ) → 0 < j → j < n → over j ≡ i → Le (keys ts) q (at hp j)
     best' j a b d = go (ℕ-discrete (2 * i + 1) j)
       where
-        go : Dec (2 * i + 1 ≡ j) → Le (keys ts) (at hp m') (at hp j)
-        go (yes e) = rw e at (upto-trans (y .left) (x .right))
-        go (no e) = let f : 2 * i + 1 + 1 ≡ j = omega arith in rw f at (y .right)
+        go : Dec (2 * i + 1 ≡ j) → Le (keys ts) q (at hp j)
+        go (yes e) = rw e at (x .left)
+        go (no e) = let f : 2 * i + 1 + 1 ≡ j = omega arith in rw f at (x .right)
 
 -- ---- a turn of the sift, that started from o: nothing here asks that there was an order
 
 pub record Sifting (ts : List ℕ) (n o i : ℕ) (hp hq : List ℕ) : Type 0 where
-  pub long : length hq ≡ length hp
-  pub from : i ≤ n
   pub moved : Moved n hp hq
   pub but : HeapFrom (keys ts) hp n (o + 1) → HeapBut (keys ts) hq n o i
 
-pub sift-start : (ts hp : List ℕ) (n o : ℕ) → o ≤ n → Sifting ts n o o hp hp
-sift-start ts hp n o h = record { long = refl; from = h; moved = moved-refl n hp; but = but-start (keys ts) hp n o }
+-- the heap with the stream x, which is in hand, at the hole i
+pub record Holding (ts : List ℕ) (n o x i : ℕ) (hp hq : List ℕ) : Type 0 where
+  pub inside : i < n
+  pub room : n ≤ length hq
+  pub long : length hq ≡ length hp
+  pub filled : Sifting ts n o i hp (set hq i x)
 
-module _ {ts hp hq : List ℕ} {n o i : ℕ} (hn : n ≤ length hp) (s : Sifting ts n o i hp hq) where
-  -- no child
-  pub sift-leaf : n ≤ 2 * i + 1 → Sifted ts n o hp hq
-  sift-leaf h = record { moved = s .moved; heap = λ f. but-done (keys ts) hq n o i (s .but f) (λ j a b d. absurd (omega arith)) }
+-- nothing stands at o
+pub sift-none : (ts hp : List ℕ) (n o : ℕ) → n ≤ o → Sifted ts n o hp hp
+sift-none ts hp n o h = record { moved = moved-refl n hp; heap = λ f j a b c. absurd (omega arith) }
 
-  pub sift-done : (m : ℕ) → m ≡ i → Pick ts hq n i m → Sifted ts n o hp hq
-  sift-done m e p = record { moved = s .moved; heap = λ f. but-done (keys ts) hq n o i (s .but f) (λ j a b d. rw e at (p .best j a b d)) }
+pub sift-start : {ts hp : List ℕ} {n o x : ℕ} → o < n → n ≤ length hp → x ≡ at hp o → Holding ts n o x o hp hp
+sift-start {ts} {hp} {n} {o} {x} h k e =
+    let same : hp ≡ set hp o x = sym (ap (set hp o) e ∙ set-getD hp o 0) in
+    let start : Sifting ts n o o hp hp = record { moved = moved-refl n hp; but = but-start (keys ts) hp n o } in
+    record { inside = h; room = k; long = refl; filled = subst (Sifting ts n o o hp) same start }
 
-  below : (m : ℕ) → m ≢ i → Pick ts hq n i m → (0 < m) × (m < n) × (over m ≡ i)
-  below m d p = ⊎-elim (λ e. absurd (d e)) (λ x. x) (p .who)
+module _ {ts hp hq : List ℕ} {n o x i : ℕ} (s : Holding ts n o x i hp hq) where
+  -- a place other than the hole
+  aside : (j : ℕ) → j ≢ i → at (set hq i x) j ≡ at hq j
+  aside j d = getD-set-other hq i j x 0 d
 
-  pub sift-below : (m : ℕ) → m ≢ i → Pick ts hq n i m → (i < m) × (m < n)
-  sift-below m d p = let x = below m d p in (omega arith, x .1)
+  hole : at (set hq i x) i ≡ x
+  hole = getD-set-same hq i x 0 (omega (arith, s .inside, s .room))
 
-  pub sift-turn : (m : ℕ) → m ≢ i → Pick ts hq n i m → Sifting ts n o m hp (swap hq i m)
-  unfolding swap
-  sift-turn m d p =
-      let x = below m d p in
-      let hn' : n ≤ length hq = omega (arith, s .long) in
-      record {
-        long = length-set (set hq i (at hq m)) m (at hq i) ∙ length-set hq i (at hq m) ∙ s .long;
-        from = omega arith;
-        moved = moved-trans (s .moved) (moved-swap hq n i m hn' (omega arith) (x .1) (λ e. d (sym e)));
-        but = λ f. but-step (keys ts) hq n o i m hn' (s .but f) (x .0) (x .1) (x .2) (p .own) (p .best);
-      }
+  -- no child: what is in hand goes into the hole
+  pub sift-leaf : n ≤ 2 * i + 1 → Sifted ts n o hp (set hq i x)
+  sift-leaf h =
+      let f = s .filled in
+      record { moved = f .moved; heap = λ k. but-done (keys ts) (set hq i x) n o i (f .but k) (λ j a b d. absurd (omega arith)) }
 
-pub lesser-left : (ts hp : List ℕ) (a b : ℕ) → keys ts (at hp a) < keys ts (at hp b) → Lesser ts hp a b a
-lesser-left ts hp a b h = record { one = inl refl; left = upto-refl _ _; right = record { times = omega arith; numbers = λ k. absurd (omega arith) } }
+  module _ {m q t u : ℕ} (c : Child ts hq n i m q t) (e : u ≡ keys ts x) where
+    -- no child before it: likewise
+    pub sift-stay : Upto u x t q → Sifted ts n o hp (set hq i x)
+    sift-stay l = record { moved = s .filled .moved; heap = λ k. but-done (keys ts) (set hq i x) n o i (s .filled .but k) best' }
+      where
+        best' : (j : ℕ) → 0 < j → j < n → over j ≡ i → Le (keys ts) (at (set hq i x) i) (at (set hq i x) j)
+        best' j a b d =
+            let v : at (set hq i x) j ≡ at hq j = aside j (λ z. omega arith) in
+            rw (hole, v) (upto-trans (rw (← e, ← c .time) l) (c .best j a b d))
 
-pub lesser-right : (ts hp : List ℕ) (a b : ℕ) → keys ts (at hp b) < keys ts (at hp a) → Lesser ts hp a b b
-lesser-right ts hp a b h = record { one = inr refl; left = record { times = omega arith; numbers = λ k. absurd (omega arith) }; right = upto-refl _ _ }
+    -- the least child goes into the hole, and leaves one behind it
+    pub sift-turn : Upto t q u x → Holding ts n o x m hp (set hq i q)
+    unfolding swap
+    sift-turn l =
+        let b = c .below in
+        let f = s .filled in
+        let ne : m ≢ i = λ z. omega arith in
+        let fits : n ≤ length (set hq i x) = omega (arith, length-set hq i x, s .room) in
+        let um : at (set hq i x) m ≡ q = aside m ne ∙ sym (c .stream) in
+        let own' : Le (keys ts) (at (set hq i x) m) (at (set hq i x) i) = rw (um, hole, ← e, ← c .time) l in
+        let best' : (j : ℕ) → 0 < j → j < n → over j ≡ i → Le (keys ts) (at (set hq i x) m) (at (set hq i x) j) =
+        λ j p r d. let v : at (set hq i x) j ≡ at hq j = aside j (λ z. omega arith) in rw (um, v) (c .best j p r d) in
+        let same : swap (set hq i x) i m ≡ set (set hq i q) m x =
+        ap (λ (y : ℕ). set (set (set hq i x) i y) m (at (set hq i x) i)) um
+        ∙ ap (λ (y : ℕ). set (set (set hq i x) i q) m y) hole
+        ∙ ap (λ (l : List ℕ). set l m x) (set-set hq i x q) in
+        let turned : Sifting ts n o m hp (swap (set hq i x) i m) =
+        record {
+          moved = moved-trans (f .moved) (moved-swap (set hq i x) n i m fits (s .inside) (b .1) (λ z. ne (sym z)));
+          but = λ k. but-step (keys ts) (set hq i x) n o i m fits (f .but k) (b .0) (b .1) (b .2) own' best';
+        } in
+        record {
+          inside = b .1;
+          room = omega (arith, length-set hq i q, s .room);
+          long = length-set hq i q ∙ s .long;
+          filled = subst (Sifting ts n o m hp) same turned;
+        }
 
-pub tie-left : (ts hp : List ℕ) (a b : ℕ) → keys ts (at hp b) ≤ keys ts (at hp a) → keys ts (at hp a) ≤ keys ts (at hp b) → at hp a ≤ at hp b → Lesser ts hp a b a
-tie-left ts hp a b h k l = record { one = inl refl; left = upto-refl _ _; right = record { times = k; numbers = λ i. l } }
+-- the hole at i, which has one child at most, is at r in the end: what is in hand, of the time u, goes there
+pub record Settled (ts : List ℕ) (n u x i : ℕ) (hq : List ℕ) (r : ℕ) (hr : List ℕ) : Type 0 where
+  pub inside : r < n
+  pub done : {hp : List ℕ} {o : ℕ} → u ≡ keys ts x → Holding ts n o x i hp hq → Sifted ts n o hp (set hr r x)
 
-pub tie-right : (ts hp : List ℕ) (a b : ℕ) → keys ts (at hp b) ≤ keys ts (at hp a) → keys ts (at hp a) ≤ keys ts (at hp b) → at hp b < at hp a → Lesser ts hp a b b
-tie-right ts hp a b h k l = record { one = inr refl; left = record { times = h; numbers = λ i. omega arith }; right = upto-refl _ _ }
+pub settle-leaf : {ts hq : List ℕ} {n u x i : ℕ} → i < n → n ≤ 2 * i + 1 → Settled ts n u x i hq i hq
+settle-leaf h k = record { inside = h; done = λ e s. sift-leaf s k }
+
+pub settle-stay : {ts hq : List ℕ} {n u x i m q t : ℕ} → i < n → Child ts hq n i m q t → Upto u x t q → Settled ts n u x i hq i hq
+settle-stay h c l = record { inside = h; done = λ e s. sift-stay s c e l }
+
+pub settle-turn : {ts hq : List ℕ} {n u x i m q t : ℕ} → n ≤ 2 * i + 2 → Child ts hq n i m q t → Upto t q u x → Settled ts n u x i hq m (set hq i q)
+settle-turn k c l =
+    let b = c .below in
+    record { inside = b .1; done = λ e s. sift-leaf (sift-turn s c e l) (omega arith) }
 
 pub moved-bound : {n : ℕ} {hp hq : List ℕ} (k : ℕ) → Moved n hp hq → ((x : ℕ) → x < n → at hp x < k) → (y : ℕ) → y < n → at hq y < k
 moved-bound {n} {hp} {hq} k m f y h =

@@ -9,10 +9,13 @@ use Rattle.leaves_names.proofs.names.is_list.Statement.{statement}
 use Rattle.leaves_names.proofs.names.is_list.Tie as tie
 
 abbrev Inv-loop : tie.InvT-loop
-Inv-loop bytes ends names name-bytes start₀ n₀ start n = Walked bytes ends names name-bytes start n
+Inv-loop bytes ends names name-bytes plain start₀ n₀ start n = Walked bytes ends names name-bytes start n
 
 abbrev μ-loop : tie.MeasureT-loop
-μ-loop bytes ends names name-bytes start₀ n₀ start n = names - n
+μ-loop bytes ends names name-bytes plain start₀ n₀ start n = names - n
+
+is-plain-requires : tie.Need-is-plain-requires Inv-loop μ-loop
+is-plain-requires c κs = search needs
 
 loop-holds : tie.Need-loop-holds Inv-loop μ-loop
 loop-holds c = walk-none _ _ _ _
@@ -27,7 +30,7 @@ place-requires : tie.Need-place-requires Inv-loop μ-loop
 place-requires c κs = search needs
 
 stands-requires : tie.Need-stands-requires Inv-loop μ-loop
-stands-requires c κs = search needs
+stands-requires c κs = (search needs, c .before .before .before .before .is-plain .ensures)
 
 add-n : tie.Need-add-n Inv-loop μ-loop
 add-n c = omega arith
@@ -50,6 +53,7 @@ is-list-spec =
     (tie.spec
     Inv-loop
     μ-loop
+    is-plain-requires
     loop-holds
     mul-place
     shared-slice-read-place

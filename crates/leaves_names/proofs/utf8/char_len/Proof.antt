@@ -35,12 +35,6 @@ returns-3 c = search (needs, step-2)
 returns-4 : tie.Need-returns-4
 returns-4 c = search (needs, none-2)
 
-add-c : tie.Need-add-c
-add-c c = search needs
-
-shared-slice-read-c : tie.Need-shared-slice-read-c
-shared-slice-read-c c = search needs
-
 is-3-requires : tie.Need-is-3-requires
 is-3-requires c κs = search needs
 
@@ -49,6 +43,12 @@ returns-5 c = search (needs, step-3)
 
 returns-6 : tie.Need-returns-6
 returns-6 c = search (needs, none-3)
+
+add-c : tie.Need-add-c
+add-c c = search needs
+
+shared-slice-read-c : tie.Need-shared-slice-read-c
+shared-slice-read-c c = search needs
 
 add-d : tie.Need-add-d
 add-d c = search needs
@@ -79,11 +79,11 @@ char-len-spec =
     is-2-requires
     returns-3
     returns-4
-    add-c
-    shared-slice-read-c
     is-3-requires
     returns-5
     returns-6
+    add-c
+    shared-slice-read-c
     add-d
     shared-slice-read-d
     is-4-requires

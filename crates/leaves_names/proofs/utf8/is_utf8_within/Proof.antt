@@ -1,65 +1,47 @@
--- `utf8::is_utf8_within` meets its contract. The loop's invariant: what is asked of all the bytes is what is asked of those from `at` on.
--- The measure is what is left of them. Assumes nothing.
-use mathlib.Core.Path.{_≡_, refl, sym, _∙_}
-use Prim.Native.Nat.{_≤_, _-_}
+-- Few bytes; UTF8-1 alone; else the walk by first bytes. Assumes nothing.
+use mathlib.Core.Path.{sym}
 use native.Mathlib.Omega.{arith}
 use borrow.Author.Needs.{needs}
-use lib.Seq.{slice}
-use Rattle.leaves_names.specs.Utf8.{isUtf8}
-use Rattle.leaves_names.specs.Utf8Laws.{none-left-is, upto-is}
+use Rattle.leaves_names.specs.Utf8Laws.{plain-is}
 use Rattle.leaves_names.proofs.utf8.is_utf8_within.Statement.{statement}
 use Rattle.leaves_names.proofs.utf8.is_utf8_within.Tie as tie
 
-abbrev Inv-loop : tie.InvT-loop
-Inv-loop text from to at₀ at = (at ≤ to) × (isUtf8 (slice from to text) ≡ isUtf8 (slice at to text))
+sub-if1 : tie.Need-sub-if1
+sub-if1 c = search needs
 
-abbrev μ-loop : tie.MeasureT-loop
-μ-loop text from to at₀ at = to - at
+walk-end-requires : tie.Need-walk-end-requires
+walk-end-requires c κs = search needs
 
-greatest-requires : tie.Need-greatest-requires Inv-loop μ-loop
-greatest-requires c κs = search needs
+returns : tie.Need-returns
+returns c = search needs
 
-returns : tie.Need-returns Inv-loop μ-loop
-returns c =
-    let a = c .before .before .before .args in
-    sym (upto-is (a .text .now) (a .to - a .from) (a .from) (a .to) _ (omega arith) (omega arith) (omega arith) (c .before .greatest .ensures))
+shared-slice-read-if2 : tie.Need-shared-slice-read-if2
+shared-slice-read-if2 c = search needs
 
-loop-holds : tie.Need-loop-holds Inv-loop μ-loop
-loop-holds c = (search needs, refl)
+is-plain-requires : tie.Need-is-plain-requires
+is-plain-requires c κs = search needs
 
-char-len-requires : tie.Need-char-len-requires Inv-loop μ-loop
-char-len-requires c κs = search needs
+returns-2 : tie.Need-returns-2
+returns-2 c =
+    let a = c .before .before .before .before .before .before .args in
+    let plain = c .before .is-plain .ensures (c .if3 .taken) in
+    sym (plain-is (a .text .now) (a .from) (a .to) (a .from) (a .to) plain (omega arith) (omega arith) (omega arith) (omega arith))
 
-returns-2 : tie.Need-returns-2 Inv-loop μ-loop
-returns-2 c = sym (c .before .before .before .loop .inv .1 ∙ c .before .char-len .ensures .stuck (c .if2 .taken))
+walk-requires : tie.Need-walk-requires
+walk-requires c κs = search needs
 
-add-at : tie.Need-add-at Inv-loop μ-loop
-add-at c = omega arith
-
-loop-less : tie.Need-loop-less Inv-loop μ-loop
-loop-less c = omega arith
-
-loop-again : tie.Need-loop-again Inv-loop μ-loop
-loop-again c =
-    (omega arith, c .before .before .before .loop .inv .1 ∙ c .before .char-len .ensures .onward (c .if2 .left))
-
-returns-3 : tie.Need-returns-3 Inv-loop μ-loop
-returns-3 c =
-    let a = c .before .before .before .before .before .args in
-    sym (c .before .loop .inv .1 ∙ none-left-is (a .text .now) (c .before .loop .at) (a .to) (omega arith))
+returns-3 : tie.Need-returns-3
+returns-3 c = search needs
 
 pub is-utf8-within-spec : {M : Type 1} → statement M
 is-utf8-within-spec =
     tie.close
     (tie.spec
-    Inv-loop
-    μ-loop
-    greatest-requires
+    sub-if1
+    walk-end-requires
     returns
-    loop-holds
-    char-len-requires
+    shared-slice-read-if2
+    is-plain-requires
     returns-2
-    add-at
-    loop-less
-    loop-again
+    walk-requires
     returns-3)

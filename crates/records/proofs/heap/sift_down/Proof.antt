@@ -1,81 +1,123 @@
--- The loop keeps the order of the heap but for the children of i, and each turn swaps i with its least child; the measure is held - i. Assumes nothing.
+-- The heap with the moving stream written into the hole keeps its order but for the hole's children; each turn moves the hole to the
+-- least child. The measure is held - i. Assumes nothing.
+use mathlib.Core.Path.{refl, _∙_}
 use Prim.Native.Nat.{_-_}
 use native.Mathlib.Omega.{arith}
-use lib.ListN.{getD, length-set}
-use Rattle.records_rules.specs.Heap.{swap}
-use Rattle.records_rules.specs.Sift.{Sifting, sift-start, sift-leaf, sift-done, sift-below, sift-turn}
+use lib.ListN.{length-set}
+use borrow.Author.Needs.{needs}
+use Rattle.records_rules.specs.Sift.{Holding, sift-none, sift-start, sift-stay, sift-turn, child-lesser}
 use Rattle.records.proofs.heap.sift_down.Statement.{statement}
 use Rattle.records.proofs.heap.sift_down.Tie as tie
 
 abbrev Inv-loop : tie.InvT-loop
-Inv-loop times heap₀ n from i₀ heap i = Sifting times n from i heap₀ heap
+Inv-loop times heap₀ n from moving time i₀ heap i = Holding times n from moving i heap₀ heap
 
 abbrev μ-loop : tie.MeasureT-loop
-μ-loop times heap₀ n from i₀ heap i = n - i
-
-loop-holds : tie.Need-loop-holds Inv-loop μ-loop
-loop-holds c = let s = c .before .before in sift-start _ _ _ _ (s .pre .2)
-
-mul-if1 : tie.Need-mul-if1 Inv-loop μ-loop
-mul-if1 c = omega arith
-
-add-if1 : tie.Need-add-if1 Inv-loop μ-loop
-add-if1 c = omega arith
-
-same-length : tie.Need-same-length Inv-loop μ-loop
-same-length c = c .before .loop .inv .long
+μ-loop times heap₀ n from moving time i₀ heap i = n - i
 
 returns : tie.Need-returns Inv-loop μ-loop
-returns c = sift-leaf (c .before .before .before .before .pre .0) (c .before .loop .inv) (c .if1 .taken)
+returns c = sift-none _ _ _ _ (c .if1 .taken)
 
-pick-requires : tie.Need-pick-requires Inv-loop μ-loop
-pick-requires c κs = omega arith
+slice-read-slot : tie.Need-slice-read-slot Inv-loop μ-loop
+slice-read-slot c = search needs
 
-same-length-2 : tie.Need-same-length-2 Inv-loop μ-loop
-same-length-2 c = c .before .before .before .before .loop .inv .long
+slot-requires : tie.Need-slot-requires Inv-loop μ-loop
+slot-requires c κs = search needs
+
+mul-time : tie.Need-mul-time Inv-loop μ-loop
+mul-time c = search needs
+
+shared-slice-read-time : tie.Need-shared-slice-read-time Inv-loop μ-loop
+shared-slice-read-time c = search needs
+
+loop-holds : tie.Need-loop-holds Inv-loop μ-loop
+loop-holds c = let pre = c .before .before .before .before .before .before .pre in sift-start (c .before .before .before .if1 .left) (pre .0) (c .before .slot .ensures .0)
+
+mul-loop : tie.Need-mul-loop Inv-loop μ-loop
+mul-loop c =
+    let inv = c .loop .inv in
+    omega (arith, inv .inside, inv .room)
+
+add-loop : tie.Need-add-loop Inv-loop μ-loop
+add-loop c =
+    let inv = c .loop .inv in
+    omega (arith, inv .inside, inv .room)
+
+mul-lesser : tie.Need-mul-lesser Inv-loop μ-loop
+mul-lesser c =
+    let inv = c .before .before .loop .inv in
+    omega (arith, inv .inside, inv .room)
+
+add-lesser : tie.Need-add-lesser Inv-loop μ-loop
+add-lesser c =
+    let inv = c .before .before .loop .inv in
+    omega (arith, inv .inside, inv .room)
+
+lesser-requires : tie.Need-lesser-requires Inv-loop μ-loop
+lesser-requires c κs =
+    let inv = c .before .before .loop .inv in
+    omega (arith, inv .inside, inv .room)
+
+comes-first-requires : tie.Need-comes-first-requires Inv-loop μ-loop
+comes-first-requires c κs = search needs
+
+cast-heap : tie.Need-cast-heap Inv-loop μ-loop
+cast-heap c = search needs
+
+slice-write-heap : tie.Need-slice-write-heap Inv-loop μ-loop
+slice-write-heap c =
+    let inv = c .before .before .before .before .before .loop .inv in
+    omega (arith, inv .inside, inv .room)
+
+same-length : tie.Need-same-length Inv-loop μ-loop
+same-length c = rw (length-set) (c .before .before .before .before .before .loop .inv .long)
 
 returns-2 : tie.Need-returns-2 Inv-loop μ-loop
 returns-2 c =
-    let at = c .before .before .before .before in
-    sift-done (at .before .before .before .pre .0) (at .loop .inv) (c .before .pick .result) (c .if2 .taken) (c .before .pick .ensures)
+    let s = c .before .before in
+    let child = child-lesser (s .before .before .loop-test .taken) (s .lesser .ensures) in
+    sift-stay (s .before .before .before .loop .inv) child refl (c .before .comes-first .ensures .yes (c .if2 .taken))
 
-slice-read-p : tie.Need-slice-read-p Inv-loop μ-loop
-slice-read-p c = omega arith
-
-slice-read-q : tie.Need-slice-read-q Inv-loop μ-loop
-slice-read-q c =
-    let at = c .before .before .before .before .before .before in
-    let s = at .before .before .before in
-    let picked = c .before .before .before .pick in
-    let below = sift-below (s .pre .0) (at .loop .inv) (picked .result) (c .before .before .if2 .left) (picked .ensures) in
-    omega (arith, below)
-
-slice-write-heap : tie.Need-slice-write-heap Inv-loop μ-loop
-slice-write-heap c = omega arith
+cast-heap-2 : tie.Need-cast-heap-2 Inv-loop μ-loop
+cast-heap-2 c = search needs
 
 slice-write-heap-2 : tie.Need-slice-write-heap-2 Inv-loop μ-loop
 slice-write-heap-2 c =
-    let at = c .before .before .before .before .before .before in
-    let s = at .before .before .before in
-    let picked = c .before .before .before .pick in
-    let below = sift-below (s .pre .0) (at .loop .inv) (picked .result) (c .before .before .if2 .left) (picked .ensures) in
-    omega (arith, below, length-set (at .loop .heap) (at .loop .i) (getD (at .loop .heap) (picked .result) 0))
+    let inv = c .before .before .before .before .before .before .loop .inv in
+    omega (arith, inv .inside, inv .room)
 
 loop-less : tie.Need-loop-less Inv-loop μ-loop
 loop-less c =
-    let at = c .before .before .before .before .before .before in
-    let s = at .before .before .before in
-    let picked = c .before .before .before .pick in
-    let below = sift-below (s .pre .0) (at .loop .inv) (picked .result) (c .before .before .if2 .left) (picked .ensures) in
-    omega (arith, below)
+    let s = c .before .before .before in
+    let child = child-lesser (s .before .before .loop-test .taken) (s .lesser .ensures) in
+    omega (arith, child .below)
 
 loop-again : tie.Need-loop-again Inv-loop μ-loop
-unfolding swap
 loop-again c =
-    let at = c .before .before .before .before .before .before in
-    let s = at .before .before .before in
-    let picked = c .before .before .before .pick in
-    sift-turn (s .pre .0) (at .loop .inv) (picked .result) (c .before .before .if2 .left) (picked .ensures)
+    let s = c .before .before .before in
+    let child = child-lesser (s .before .before .loop-test .taken) (s .lesser .ensures) in
+    sift-turn (s .before .before .before .loop .inv) child refl (c .before .before .comes-first .ensures .no (c .before .if2 .left))
+
+lone-child-requires : tie.Need-lone-child-requires Inv-loop μ-loop
+lone-child-requires c κs =
+    let inv = c .before .before .loop .inv in
+    omega (arith, inv .inside, inv .room)
+
+cast-heap-3 : tie.Need-cast-heap-3 Inv-loop μ-loop
+cast-heap-3 c = search needs
+
+slice-write-heap-3 : tie.Need-slice-write-heap-3 Inv-loop μ-loop
+slice-write-heap-3 c =
+    let inv = c .before .before .before .before .before .loop .inv in
+    let end = c .before .before .lone-child in
+    omega (arith, inv .room, end .ensures .inside, end .kept .1 .0)
+
+same-length-2 : tie.Need-same-length-2 Inv-loop μ-loop
+same-length-2 c =
+    rw (length-set) (c .before .before .lone-child .kept .1 .0 ∙ c .before .before .before .before .before .loop .inv .long)
+
+returns-3 : tie.Need-returns-3 Inv-loop μ-loop
+returns-3 c = c .before .before .lone-child .ensures .done refl (c .before .before .before .before .before .loop .inv)
 
 pub sift-down-spec : {M : Type 1} → statement M
 sift-down-spec =
@@ -83,17 +125,28 @@ sift-down-spec =
     (tie.spec
     Inv-loop
     μ-loop
-    loop-holds
-    mul-if1
-    add-if1
-    same-length
     returns
-    pick-requires
-    same-length-2
-    returns-2
-    slice-read-p
-    slice-read-q
+    slice-read-slot
+    slot-requires
+    mul-time
+    shared-slice-read-time
+    loop-holds
+    mul-loop
+    add-loop
+    mul-lesser
+    add-lesser
+    lesser-requires
+    comes-first-requires
+    cast-heap
     slice-write-heap
+    same-length
+    returns-2
+    cast-heap-2
     slice-write-heap-2
     loop-less
-    loop-again)
+    loop-again
+    lone-child-requires
+    cast-heap-3
+    slice-write-heap-3
+    same-length-2
+    returns-3)
