@@ -2,6 +2,7 @@
 // with start <= moment. No step is linear in the table.
 use leaves::refusal::Refusal;
 use map_time::interval::WIDTH;
+use map_time::table::ROOM_LIMIT;
 ghost use mathlib.Core.Path.{_≡_};
 ghost use mathlib.Core.Bool.{true, not, _||_};
 ghost use mathlib.Core.List.{[], _∷_};
@@ -17,7 +18,7 @@ ghost use Rattle.map_rules.specs.Looks.{numberIn, coversAt, Begun, last, Tells,
 ghost use Rattle.map_look.specs.Lookup.{lookedOf};
 
 // No interval has this number or a higher one: a table's room.
-const HINT_LIMIT: u64 = 65536;
+const HINT_LIMIT: u64 = ROOM_LIMIT as u64;
 
 // What a lookup finds: the symbol, or nothing; or it is refused.
 pub enum Found {
@@ -34,7 +35,7 @@ pub struct Looked {
 
 // Whether the interval in the bytes from `at` on is one of those in use, of the instrument, with start <= moment < end.
 fn covers(table: &[u8], used: usize, at: usize, instrument: u32, moment: u64) -> bool
-    requires { ⌜ (used * width ≤ length (now table)) × (used ≤ 65536) × (at ≤ 3145728) ⌝ }
+    requires { ⌜ (used * width ≤ length (now table)) × (used ≤ 65536) × (at ≤ (used + 65536) * width) ⌝ }
     ensures within { λ r. ⌜ (r ≡ true → at + width ≤ used * width) ⌝ }
     ensures right { λ r. ⌜ Probe (coversAt (now (table .entry)) used instrument moment) at r ⌝ }
 {
