@@ -114,6 +114,36 @@ static void middles(uint64_t steps, uint64_t most, uint64_t instruments, uint64_
     digest = used;
 }
 
+/* A step is an interval that is checked, in tables of so many. */
+static void checks(uint64_t steps, uint64_t instruments, uint64_t intervals) {
+    lay_table(instruments, intervals, 0);
+    for (uint64_t i = 0; i < steps; i += used) digest += desk_check(table, table_len, used, NAMES) == DESK_DONE;
+}
+
+/* Symbol mapping records on so many instruments of one interval each, whose names are known: a step puts an interval in its own place. */
+static void mappings(uint64_t steps, uint64_t instruments) {
+    lay_table(instruments, 1, 0);
+    uint8_t *bytes = room(DESK_NAME_LIST_BYTES);
+    uint32_t *ends = room(instruments * sizeof *ends);
+    size_t names = instruments, size = 0;
+    for (uint64_t i = 0; i < instruments; i++) ends[i] = (uint32_t)(size += (size_t)sprintf((char *)bytes + size, "%u", instrument(i)));
+    for (uint64_t i = 0; i < steps; i++) {
+        uint64_t which = draw(instruments), reason, from = which ? ends[which - 1] : 0, bytes_of_name = ends[which] - from;
+        uint8_t record[DESK_RECORD_HEADER + 16 + 16];
+        put(record, DESK_RECORD_HEADER + 16 + bytes_of_name, 2);
+        put(record + 2, 2, 2);
+        put(record + 4, instrument(which), 4);
+        put(record + 8, i, 8);
+        put(record + 16, 0, 8);
+        put(record + 24, COVERED, 8);
+        memcpy(record + 32, bytes + from, bytes_of_name);
+        if (desk_on_record(table, table_len, &used, bytes, DESK_NAME_LIST_BYTES, ends, instruments, &names, &size, record,
+                           32 + bytes_of_name, &reason) != DESK_DONE)
+            stop("a mapping was refused");
+        digest += used + names;
+    }
+}
+
 /* ---- Two tables side by side: `table` on the left, `other` on the right, as long and with as many in use. */
 
 static uint8_t *other, *stretches;
@@ -545,6 +575,14 @@ int main(int words, char **word) {
     else if (!strcmp(row, "random")) lookups(steps, 1000000, 4096, 16, 0);
     else if (!strcmp(row, "ahead-one")) lookups(steps, 1000000, 1, 50000, 1);
     else if (!strcmp(row, "random-one")) lookups(steps, 1000000, 1, 50000, 0);
+    else if (!strcmp(row, "ahead-1024")) lookups(steps, 1000000, 64, 16, 1);
+    else if (!strcmp(row, "random-1024")) lookups(steps, 1000000, 64, 16, 0);
+    else if (!strcmp(row, "ahead-16384")) lookups(steps, 1000000, 1024, 16, 1);
+    else if (!strcmp(row, "random-16384")) lookups(steps, 1000000, 1024, 16, 0);
+    else if (!strcmp(row, "check")) checks(steps, 3125, 16);
+    else if (!strcmp(row, "check-16384")) checks(steps, 1024, 16);
+    else if (!strcmp(row, "check-1024")) checks(steps, 64, 16);
+    else if (!strcmp(row, "mapping")) mappings(steps, 1000);
     else if (!strcmp(row, "append")) appends(steps, 4096, 16);
     else if (!strcmp(row, "append-one")) appends(steps, 4096, 4096);
     else if (!strcmp(row, "middle")) middles(steps, 1024, 256, 16);

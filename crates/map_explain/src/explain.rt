@@ -10,9 +10,6 @@ ghost use Rattle.map_rules.specs.Memory.{width};
 ghost use Rattle.map_time.specs.Interval.{rowOf};
 ghost use Rattle.map_explain.specs.Explain.{numbersOf, namedOf, ownAt, InOrder, Placed, rowsAnswer, explainAnswer, explainedOf};
 
-// No interval has this number, so that a search with it as its hint looks at none beforehand.
-const NO_HINT: u64 = 18446744073709551615;
-
 // An interval that a reason names: its number within the instrument, from 0, and what is stored.
 pub struct Named {
     pub index: u64,
@@ -103,7 +100,7 @@ pub fn explain_checked(table: &[u8], used: usize, instrument: u32, moment: u64) 
     ensures { λ r. ⌜ explainedOf r ≡ rowsAnswer (now (table .entry)) used instrument moment ⌝ }
 {
     let begin = map_look::begin::beginning(table, used, instrument);
-    let end = map_look::reach::reached(table, used, begin, instrument, moment, NO_HINT);
+    let end = map_look::reach::reached(table, used, begin, instrument, moment);
     if begin < end {
         started(table, used, begin, end, instrument, moment)
     } else {

@@ -3,3 +3,4 @@ pub mod begin;
 pub mod cursor;
 pub mod lookup;
 pub mod reach;
+mod starts;

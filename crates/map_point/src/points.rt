@@ -19,7 +19,7 @@ ghost use Rattle.map_rules.specs.Looks.{numberIn};
 ghost use Rattle.map_time.specs.Table.{checkedOf};
 ghost use Rattle.map_point.specs.Entries.{entries};
 ghost use Rattle.map_point.specs.Points.{rising, wellFormed, pointsFit, setEntry, pointsChecked, pointFound, pointFoundOf, storedAnswer, storedBytes, usedThen, entriesThen, storedOf};
-ghost use Rattle.map_point.specs.PointsSteps.{standsAt, holdsAt, EntryPlaced};
+ghost use Rattle.map_point.specs.PointsReads.{standsAt, holdsAt, EntryPlaced};
 
 // What a call that stores answers: how many entries are in use then.
 pub enum Stored {

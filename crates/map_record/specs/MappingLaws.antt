@@ -25,7 +25,8 @@ use Rattle.leaves_names.specs.NamesLaws.{holds, fails, Memory, memory, Ordered 
 use Rattle.map_point.specs.Entries.{entries}
 use Rattle.map_point.specs.declared.entries.Entry.{Entry}
 use Rattle.map_point.specs.Points.{rising, allKnown, wellFormed, setEntry, pointsFit, hasRoom, storedAnswer, storedBytes}
-use Rattle.map_point.specs.PointsSteps.{fit-bytes, Stores}
+use Rattle.map_point.specs.PointsReads.{fit-bytes}
+use Rattle.map_point.specs.PointsSteps.{Stores}
 use Rattle.map_record.specs.Mapping.{Wanted, nothing, refuses, stores, numberingIn, numbered, pointWanted, pointJudged, pointOutcome, pointJoins, pointTable, pointUsed, pointEntries, pointAnswer, namesThen, nameBytesThen, bytesThen, endsThen, planOf}
 use Rattle.map_rules.specs.Table.{Ordered}
 use Rattle.map_rules.specs.Memory.{width, rows, roomOf}

@@ -7,9 +7,10 @@ use mathlib.Core.Bool.{Bool, true, false, not, _&&_}
 use mathlib.Core.List.{List, [], _∷_}
 use lib.Dec.{T, leb, ltb, eqb, eqb-refl, lt→ltb, le→leb, not-T}
 use lib.Arith.{le→nltb, lt→nleb}
+use borrow.Author.Tests.{not-true, not-false}
 use mir.Facts.{eqb-yes}
 use Rattle.theory.specs.Runs.{meets, apart}
-use Rattle.theory.specs.RunsTools.{T-and, T-nor-l}
+use Rattle.theory.specs.RunsTools.{T-and, T-nor-l, Order, less, equal, more, order}
 use Rattle.map_rules.specs.Table.{Row, allKnown, apartRow, ordered, wellFormed}
 use Rattle.map_rules.specs.Tests.{apart-lower, apart-higher, apart-own}
 use Rattle.map_rules.specs.Memory.{sameValue, knownValue, rowAt, rowsFrom, rows}
@@ -21,18 +22,25 @@ use Rattle.map_rules.specs.Pieces.{symbols}
 unfoldable pub valid : ℕ → Row ℕ → Bool
 valid names x = ltb (x .start) (x .end) && knownValue names (x .value)
 
--- and before these
-unfoldable pub sound : ℕ → Row ℕ → List (Row ℕ) → Bool
+-- and right behind x
+unfoldable pub follows : ℕ → Row ℕ → Row ℕ → Bool
 unfolding valid
-sound names x xs = valid names x && apartRow sameValue x xs
-
--- the row at place k, before those of the `used` rows that follow it
-unfoldable pub soundAt : List ℕ → ℕ → ℕ → ℕ → Bool
-soundAt t used names k = sound names (rowAt t k) (rowsFrom t (k + 1) (used - (k + 1)))
+follows names x y = valid names y && apartRow sameValue x (y ∷ [])
 
 -- those of the `used` rows from place k on are well-formed
 unfoldable pub formedFrom : List ℕ → ℕ → ℕ → ℕ → Bool
 formedFrom t used names k = wellFormed sameValue knownValue names (rowsFrom t k (used - k))
+
+-- and may stand behind the row before place k
+unfoldable pub formedBehind : List ℕ → ℕ → ℕ → ℕ → Bool
+formedBehind t used names k = apartRow sameValue (rowAt t (k - 1)) (rowsFrom t k (used - k)) && formedFrom t used names k
+
+-- the rows before place k are as they should be, the last of them is x, and what is left to check from place k on decides
+pub record Sofar (t : List ℕ) (used names k : ℕ) (x : Row ℕ) : Type 0 where
+  pub from : 0 < k
+  pub upto : k ≤ used
+  pub last : x ≡ rowAt t (k - 1)
+  pub rest : wellFormed sameValue knownValue names (rows t used) ≡ formedBehind t used names k
 
 -- ---- truth values
 
@@ -44,15 +52,9 @@ is-false : (b : Bool) → T (not b) → false ≡ b
 is-false true t = absurd t
 is-false false t = refl
 
-true-is : (b : Bool) → b ≡ true → T b
-true-is b e = rw e tt
-
-false-is : (b : Bool) → b ≡ false → T (not b)
-false-is b e = rw e tt
-
-and-false : (b : Bool) → b && false ≡ false
-and-false true = refl
-and-false false = refl
+and-true : (b : Bool) → b && true ≡ b
+and-true true = refl
+and-true false = refl
 
 -- ---- one row
 
@@ -71,34 +73,34 @@ module _ (names : ℕ) (x : Row ℕ) where
 -- ---- two neighbours
 
 module _ (x y : Row ℕ) where
-  pub follow-lower : x .instrument < y .instrument → true ≡ apartRow sameValue x (y ∷ [])
-  follow-lower h = sym (apart-lower sameValue symbols x y [] h)
+  pub follow-other : {b : Bool} → x .instrument ≢ y .instrument → b ≡ ltb (x .instrument) (y .instrument) → b ≡ apartRow sameValue x (y ∷ [])
+  follow-other d e = e ∙ go (order (x .instrument) (y .instrument))
+    where
+      go : Order (x .instrument) (y .instrument) → ltb (x .instrument) (y .instrument) ≡ apartRow sameValue x (y ∷ [])
+      go (less h) = sym (is-true _ (lt→ltb (x .instrument) (y .instrument) h)) ∙ sym (apart-lower sameValue symbols x y [] h)
+      go (equal h) = absurd (d h)
+      go (more h) = sym (is-false _ (le→nltb (x .instrument) (y .instrument) (omega arith))) ∙ sym (apart-higher sameValue symbols x y [] h)
 
-  pub follow-higher : y .instrument < x .instrument → false ≡ apartRow sameValue x (y ∷ [])
-  follow-higher h = sym (apart-higher sameValue symbols x y [] h)
+  module _ (h : x .instrument ≡ y .instrument) where
+    one : apartRow sameValue x (y ∷ []) ≡ leb (x .end) (y .start) && not (eqb (x .end) (y .start) && sameValue (x .value) (y .value))
+    unfolding apart meets
+    one = apart-own sameValue symbols x y [] h
 
-  one : y .instrument ≤ x .instrument → x .instrument ≤ y .instrument
-      → apartRow sameValue x (y ∷ []) ≡ leb (x .end) (y .start) && not (eqb (x .end) (y .start) && sameValue (x .value) (y .value))
-  unfolding apart meets
-  one h k = apart-own sameValue symbols x y [] (omega arith)
+    pub follow-gap : x .end < y .start → true ≡ apartRow sameValue x (y ∷ [])
+    follow-gap l =
+        let a : Bool = leb (x .end) (y .start) in
+        let e : Bool = eqb (x .end) (y .start) in
+        let d : x .end ≢ y .start = omega arith in
+        is-true _ (T-and a (not (e && sameValue (x .value) (y .value))) (le→leb (x .end) (y .start) (omega arith))
+        (T-nor-l e (sameValue (x .value) (y .value)) (not-T e (λ t. d (eqb-yes t))))) ∙ sym one
 
-  pub follow-gap : y .instrument ≤ x .instrument → x .instrument ≤ y .instrument → x .end < y .start → true ≡ apartRow sameValue x (y ∷ [])
-  follow-gap h k l =
-      let a : Bool = leb (x .end) (y .start) in
-      let e : Bool = eqb (x .end) (y .start) in
-      let d : x .end ≢ y .start = omega arith in
-      is-true _ (T-and a (not (e && sameValue (x .value) (y .value))) (le→leb (x .end) (y .start) (omega arith))
-      (T-nor-l e (sameValue (x .value) (y .value)) (not-T e (λ t. d (eqb-yes t))))) ∙ sym (one h k)
+    pub follow-overlap : y .start < x .end → false ≡ apartRow sameValue x (y ∷ [])
+    follow-overlap l =
+        let a : Bool = leb (x .end) (y .start) in
+        is-false _ (T-nor-l a (not (eqb (x .end) (y .start) && sameValue (x .value) (y .value))) (lt→nleb (x .end) (y .start) l)) ∙ sym one
 
-  pub follow-overlap : y .instrument ≤ x .instrument → x .instrument ≤ y .instrument → y .start < x .end → false ≡ apartRow sameValue x (y ∷ [])
-  follow-overlap h k l =
-      let a : Bool = leb (x .end) (y .start) in
-      is-false _ (T-nor-l a (not (eqb (x .end) (y .start) && sameValue (x .value) (y .value))) (lt→nleb (x .end) (y .start) l)) ∙ sym (one h k)
-
-  module _ {p : Bool} (h : y .instrument ≤ x .instrument) (k : x .instrument ≤ y .instrument) (l : y .start ≤ x .end) (m : x .end ≤ y .start)
-      (e : p ≡ sameValue (x .value) (y .value)) where
-    touching : apartRow sameValue x (y ∷ []) ≡ not (sameValue (x .value) (y .value))
-    touching = one h k ∙ (λ i. yes-left i && not (yes-eq i && sameValue (x .value) (y .value)))
+    pub follow-touch : {p : Bool} → y .start ≤ x .end → x .end ≤ y .start → p ≡ sameValue (x .value) (y .value) → not p ≡ apartRow sameValue x (y ∷ [])
+    follow-touch l m e = ap not e ∙ sym (one ∙ (λ i. yes-left i && not (yes-eq i && sameValue (x .value) (y .value))))
       where
         yes-left : leb (x .end) (y .start) ≡ true
         yes-left = sym (is-true (leb (x .end) (y .start)) (le→leb (x .end) (y .start) m))
@@ -109,34 +111,18 @@ module _ (x y : Row ℕ) where
         yes-eq : eqb (x .end) (y .start) ≡ true
         yes-eq = sym (is-true (eqb (x .end) (y .start)) (rw same (eqb-refl (y .start))))
 
-    pub follow-touch : not p ≡ apartRow sameValue x (y ∷ [])
-    follow-touch = ap not e ∙ sym touching
+  module _ (names : ℕ) {v : Bool} (e : v ≡ valid names y) where
+    pub follows-not : v ≡ false → false ≡ follows names x y
+    unfolding follows
+    follows-not f = sym (ap (λ (b : Bool). b && apartRow sameValue x (y ∷ [])) (sym e ∙ f))
 
--- ---- a row in its place
+    pub follows-rest : {a : Bool} → v ≡ true → a ≡ apartRow sameValue x (y ∷ []) → a ≡ follows names x y
+    unfolding follows
+    follows-rest f g = g ∙ sym (ap (λ (b : Bool). b && apartRow sameValue x (y ∷ [])) (sym e ∙ f))
 
-module _ (t : List ℕ) (used names k : ℕ) where
-  pub sound-not : {x : Row ℕ} {v : Bool} → x ≡ rowAt t k → v ≡ valid names x → v ≡ false → false ≡ soundAt t used names k
-  unfolding soundAt sound
-  sound-not {x} e f g =
-      sym (ap (λ (b : Bool). b && apartRow sameValue (rowAt t k) (rowsFrom t (k + 1) (used - (k + 1)))) (sym (f ∙ ap (valid names) e) ∙ g))
+-- ---- the loop
 
-  pub sound-last : {x : Row ℕ} {v : Bool} → x ≡ rowAt t k → v ≡ valid names x → v ≡ true → used ≤ k + 1 → true ≡ soundAt t used names k
-  unfolding soundAt sound apartRow rowsFrom
-  sound-last {x} e f g h =
-      let z : used - (k + 1) ≡ 0 = omega arith in
-      sym (λ i. (sym (f ∙ ap (valid names) e) ∙ g) i && apartRow sameValue (rowAt t k) (rowsFrom t (k + 1) (z i)))
-
-  pub sound-next : {x y : Row ℕ} {v w : Bool} → x ≡ rowAt t k → v ≡ valid names x → v ≡ true → k + 1 < used → y ≡ rowAt t (k + 1)
-      → w ≡ apartRow sameValue x (y ∷ []) → w ≡ soundAt t used names k
-  unfolding soundAt sound apartRow rowsFrom
-  sound-next {x} {y} e f g h d a =
-      let z : used - (k + 1) ≡ suc (used - (k + 1) - 1) = omega arith in
-      a ∙ (λ i. apartRow sameValue (e i) (d i ∷ []))
-      ∙ sym (λ i. (sym (f ∙ ap (valid names) e) ∙ g) i && apartRow sameValue (rowAt t k) (rowsFrom t (k + 1) (z i)))
-
--- ---- the loop: what is left to check from place k on decides
-
-swap : (a b o k q : Bool) → ((a && b) && o) && (k && q) ≡ ((a && k) && b) && (o && q)
+swap : (a b o k q : Bool) → ((a && b) && o) && (k && q) ≡ (a && k) && (b && (o && q))
 swap false b o k q = refl
 swap true false o true q = refl
 swap true false o false q = refl
@@ -144,32 +130,104 @@ swap true true o true q = refl
 swap true true true false q = refl
 swap true true false false q = refl
 
-formed-cons : (names : ℕ) (x : Row ℕ) (xs : List (Row ℕ)) → wellFormed sameValue knownValue names (x ∷ xs) ≡ sound names x xs && wellFormed sameValue knownValue names xs
-unfolding wellFormed ordered allKnown sound valid
+formed-cons : (names : ℕ) (x : Row ℕ) (xs : List (Row ℕ))
+    → wellFormed sameValue knownValue names (x ∷ xs) ≡ valid names x && (apartRow sameValue x xs && wellFormed sameValue knownValue names xs)
+unfolding wellFormed ordered allKnown valid
 formed-cons names x xs =
     swap (ltb (x .start) (x .end)) (apartRow sameValue x xs) (ordered sameValue xs) (ltb (x .value) names) (allKnown (knownValue names) xs)
 
+turn : (a v r : Bool) → a && (v && r) ≡ (v && a) && r
+turn true true r = refl
+turn true false r = refl
+turn false true r = refl
+turn false false r = refl
+
 module _ (t : List ℕ) (used names : ℕ) where
-  step : (k : ℕ) → k < used → formedFrom t used names k ≡ soundAt t used names k && formedFrom t used names (k + 1)
-  unfolding formedFrom soundAt rowsFrom
-  step k h =
+  -- the first row, then each behind the one before it
+  cut : (k : ℕ) → k < used → formedFrom t used names k ≡ valid names (rowAt t k) && formedBehind t used names (k + 1)
+  unfolding formedFrom formedBehind rowsFrom
+  cut k h =
       let z : used - k ≡ suc (used - (k + 1)) = omega arith in
       let d : suc k ≡ k + 1 = omega arith in
+      let q : k ≡ k + 1 - 1 = omega arith in
       ap (λ (n : ℕ). wellFormed sameValue knownValue names (rowsFrom t k n)) z
       ∙ formed-cons names (rowAt t k) (rowsFrom t (suc k) (used - (k + 1)))
-      ∙ (λ i. sound names (rowAt t k) (rowsFrom t (d i) (used - (k + 1))) && wellFormed sameValue knownValue names (rowsFrom t (d i) (used - (k + 1))))
+      ∙ (λ i. valid names (rowAt t k)
+      && (apartRow sameValue (rowAt t (q i)) (rowsFrom t (d i) (used - (k + 1))) && wellFormed sameValue knownValue names (rowsFrom t (d i) (used - (k + 1)))))
 
-  pub check-all : wellFormed sameValue knownValue names (rows t used) ≡ formedFrom t used names 0
+  next : (k : ℕ) → k < used → formedBehind t used names k ≡ follows names (rowAt t (k - 1)) (rowAt t k) && formedBehind t used names (k + 1)
+  unfolding formedBehind follows apartRow rowsFrom
+  next k h =
+      let z : used - k ≡ suc (used - k - 1) = omega arith in
+      let x : Row ℕ = rowAt t (k - 1) in
+      (λ i. apartRow sameValue x (rowsFrom t k (z i)) && cut k h i)
+      ∙ turn (apartRow sameValue x (rowAt t k ∷ [])) (valid names (rowAt t k)) (formedBehind t used names (k + 1))
+
+  all : wellFormed sameValue knownValue names (rows t used) ≡ formedFrom t used names 0
   unfolding formedFrom
-  check-all = let z : used ≡ used - 0 = omega arith in ap (λ (n : ℕ). wellFormed sameValue knownValue names (rows t n)) z
+  all = let z : used ≡ used - 0 = omega arith in ap (λ (n : ℕ). wellFormed sameValue knownValue names (rows t n)) z
 
-  module _ {w : Bool} {k : ℕ} (i : w ≡ formedFrom t used names k) where
-    pub check-next : {b : Bool} → k < used → b ≡ soundAt t used names k → b ≡ true → w ≡ formedFrom t used names (k + 1)
-    check-next h e d = i ∙ step k h ∙ ap (λ (b : Bool). b && formedFrom t used names (k + 1)) (sym e ∙ d)
+  ended : (k : ℕ) → used ≤ k → formedBehind t used names k ≡ true
+  unfolding formedBehind formedFrom wellFormed ordered allKnown apartRow rowsFrom
+  ended k h =
+      let z : used - k ≡ 0 = omega arith in
+      ap (λ (n : ℕ). apartRow sameValue (rowAt t (k - 1)) (rowsFrom t k n) && wellFormed sameValue knownValue names (rowsFrom t k n)) z
 
-    pub check-fails : {b : Bool} → k < used → b ≡ soundAt t used names k → b ≡ false → false ≡ w
-    check-fails h e d = sym (i ∙ step k h ∙ ap (λ (b : Bool). b && formedFrom t used names (k + 1)) (sym e ∙ d))
+  pub check-none : used ≡ 0 → true ≡ wellFormed sameValue knownValue names (rows t used)
+  unfolding wellFormed ordered allKnown rowsFrom
+  check-none e = rw e refl
 
-    pub check-end : used ≤ k → true ≡ w
-    unfolding formedFrom wellFormed ordered allKnown rowsFrom
-    check-end h = let z : used - k ≡ 0 = omega arith in sym (i ∙ ap (λ (n : ℕ). wellFormed sameValue knownValue names (rowsFrom t k n)) z)
+  module _ {x : Row ℕ} {v : Bool} (h : used ≡ 0 → ⊥) (e : x ≡ rowAt t 0) (f : v ≡ valid names x) where
+    first : wellFormed sameValue knownValue names (rows t used) ≡ v && formedBehind t used names 1
+    first = all ∙ cut 0 (omega arith) ∙ ap (λ (b : Bool). b && formedBehind t used names 1) (sym (f ∙ ap (valid names) e))
+
+    pub check-first : not v ≡ false → Sofar t used names 1 x
+    check-first g = record {
+      from = omega arith;
+      upto = omega arith;
+      last = e;
+      rest = first ∙ ap (λ (b : Bool). b && formedBehind t used names 1) (not-false v g);
+    }
+
+    pub check-not : not v ≡ true → false ≡ wellFormed sameValue knownValue names (rows t used)
+    check-not g = sym (first ∙ ap (λ (b : Bool). b && formedBehind t used names 1) (not-true v g))
+
+module _ {t : List ℕ} {used names k : ℕ} {x : Row ℕ} (s : Sofar t used names k x) where
+  pub check-end : used ≤ k → true ≡ wellFormed sameValue knownValue names (rows t used)
+  check-end h = sym (s .rest ∙ ended t used names k h)
+
+  module _ {y : Row ℕ} {b : Bool} (h : k < used) (e : y ≡ rowAt t k) (f : b ≡ follows names x y) where
+    step : wellFormed sameValue knownValue names (rows t used) ≡ b && formedBehind t used names (k + 1)
+    step =
+        s .rest ∙ next t used names k h
+        ∙ ap (λ (q : Bool). q && formedBehind t used names (k + 1)) (sym (f ∙ (λ i. follows names (s .last i) (e i))))
+
+    pub check-next : not b ≡ false → Sofar t used names (k + 1) y
+    check-next g = record {
+      from = omega arith;
+      upto = omega arith;
+      last = e ∙ ap (rowAt t) (omega arith);
+      rest = step ∙ ap (λ (q : Bool). q && formedBehind t used names (k + 1)) (not-false b g);
+    }
+
+    pub check-fails : not b ≡ true → false ≡ wellFormed sameValue knownValue names (rows t used)
+    check-fails g = sym (step ∙ ap (λ (q : Bool). q && formedBehind t used names (k + 1)) (not-true b g))
+
+    pub check-last : used ≤ k + 1 → b ≡ wellFormed sameValue knownValue names (rows t used)
+    check-last g = sym (step ∙ ap (λ (q : Bool). b && q) (ended t used names (k + 1) g) ∙ and-true b)
+
+-- two rows in a turn
+module _ {t : List ℕ} {used names k : ℕ} {x y : Row ℕ} {b : Bool} (s : Sofar t used names k x) (h : k + 1 < used) (e : y ≡ rowAt t k)
+    (f : b ≡ follows names x y) where
+  pub check-one : not b ≡ true → false ≡ wellFormed sameValue knownValue names (rows t used)
+  check-one g = check-fails s (omega arith) e f g
+
+  module _ {z : Row ℕ} {d : Bool} (g : not b ≡ false) (e′ : z ≡ rowAt t (k + 1)) (f′ : d ≡ follows names y z) where
+    between : Sofar t used names (k + 1) y
+    between = check-next s (omega arith) e f g
+
+    pub check-other : not d ≡ true → false ≡ wellFormed sameValue knownValue names (rows t used)
+    check-other g′ = check-fails between h e′ f′ g′
+
+    pub check-two : not d ≡ false → Sofar t used names (k + 2) z
+    check-two g′ = let q : k + 2 ≡ k + 1 + 1 = omega arith in rw q (check-next between h e′ f′ g′)

@@ -16,6 +16,8 @@ pub mod Search
 pub mod Pieces
 pub mod Checks
 pub mod Outcomes
+pub mod Halves
 pub mod Looks
+pub mod Arrivals
 pub mod Calls
 pub mod Trace

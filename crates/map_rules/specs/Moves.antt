@@ -179,6 +179,9 @@ moved-down {t} {t′} {f = f} {n = n} {g = g} h h′ s = record {
   kept = λ j out. s .kept j (λ l u. out (omega arith) (omega arith));
 }
 
+pub moved-none : {f g : ℕ} (t : List ℕ) (n : ℕ) → f ≤ g → g ≤ f → Moved t f n g t
+moved-none {f} {g} t n h k = let e : g ≡ f = omega arith in record { moved = λ j l. ap (λ (x : ℕ). rowAt t (x + j)) e; kept = λ j out. refl }
+
 -- ---- clearing
 
 pub clear-none : (t : List ℕ) (f : ℕ) → Cleared t f f t

@@ -2,20 +2,21 @@
 use mathlib.Core.Path.{_≡_, refl, sym, ap, _∙_}
 use mathlib.Core.Logic.{_≢_}
 use Prim.Native.Nat.{ℕ, _*_, _/_, _%_, _≤_, _<_}
+use native.Mathlib.Decide.{decLe}
 use native.Mathlib.Omega.{arith}
 use mathlib.Core.Bool.{Bool, true, false, not, _&&_, cond, false≢true}
 use mathlib.Core.List.{List, [], _∷_}
 use lib.ListN.{length}
 use lib.Dec.{T, leb, eqb, eqb-refl, not-T}
-use borrow.Author.Tests.{le-leb, eq-eqb, ne-eqb, eqb-true, not-true, not-false}
+use lib.Arith.{lt→nleb}
+use borrow.Author.Tests.{le-leb, eq-eqb, eqb-true, not-true, not-false}
 use mir.Facts.{eqb-yes}
 use Rattle.theory.specs.Answer.{Answer, answer}
 use Rattle.theory.specs.Fields.{Bytes}
-use Rattle.theory.specs.RunsTools.{ltb-case, cond-lt, cond-ge, cond-yes, cond-no, T-and}
+use Rattle.theory.specs.RunsTools.{cond-lt, cond-ge, cond-yes, cond-no, T-and}
 use Rattle.map_rules.specs.Table.{Row, Ordered, Outcome, refusedBy, stored, nowStored, ifRoom, roomFits, namesFit, wellFormed, insertRows, entered, inserted}
-use Rattle.map_rules.specs.Tests.{Good, room-good, good-room, room-over, formed-parts}
-use Rattle.map_rules.specs.Rules.{rows-ok}
-use Rattle.map_rules.specs.Memory.{width, sameValue, knownValue, rows, tableFits, insertOutcome, checkAnswer, rowsWritten, memoryAfter, outcomeAnswer, usedAfter, Gives}
+use Rattle.map_rules.specs.Tests.{Good, room-good, good-room, formed-parts}
+use Rattle.map_rules.specs.Memory.{width, sameValue, knownValue, rows, tableFits, insertOutcome, checkAnswer, memoryAfter, outcomeAnswer, usedAfter, Gives}
 use Rattle.map_rules.specs.MemoryLaws.{length-rows, written-same}
 use Rattle.map_rules.specs.Pieces.{symbols}
 
@@ -38,32 +39,16 @@ T-false : (b : Bool) → T (not b) → false ≡ b
 T-false true t = absurd t
 T-false false t = refl
 
+T-true : (b : Bool) → T b → b ≡ true
+T-true true t = refl
+T-true false t = absurd t
+
 and-false : (a b : Bool) → a ≡ false → false ≡ a && b
 and-false a b e = rw e refl
-
-and-right : (a b : Bool) → false ≡ b → false ≡ a && b
-and-right true b e = e
-and-right false b e = refl
 
 and-true : (a b : Bool) → a && b ≡ true → (a ≡ true) × (b ≡ true)
 and-true true b e = (refl, e)
 and-true false b e = absurd (false≢true e)
-
-module _ (long used : ℕ) where
-  pub table-odd : long % width ≢ 0 → false ≡ tableFits long used
-  unfolding tableFits
-  table-odd h = and-false (eqb (long % width) 0) (roomFits (long / width) used) (ne-eqb (long % width) 0 h)
-
-  pub table-big : 65536 < long / width → false ≡ tableFits long used
-  unfolding tableFits
-  table-big h = and-right (eqb (long % width) 0) (roomFits (long / width) used) (T-false (roomFits (long / width) used) (room-over (long / width) used h))
-
-  pub table-rest : long % width ≡ 0 → long / width ≤ 65536 → leb used (long / width) ≡ tableFits long used
-  unfolding tableFits roomFits
-  table-rest h k =
-      let e : eqb (long % width) 0 ≡ true = eq-eqb (long % width) 0 h in
-      let d : leb (long / width) 65536 ≡ true = le-leb (long / width) 65536 k in
-      sym (λ i. e i && (d i && leb used (long / width)))
 
 -- what a table's memory is where it fits, as numbers
 pub record Lent (long used : ℕ) : Type 0 where
@@ -79,6 +64,34 @@ table-lent long used e =
     let z : long % width ≡ 0 = eqb-true (long % width) 0 (p .0) in
     let g : Good (long / width) used = room-good (long / width) used (true-T (roomFits (long / width) used) (p .1)) in
     record { whole = omega arith; even = z; limit = g .limit; in-use = g .in-use }
+
+-- the tests of the code: nothing is divided but the length, for its remainder
+module _ (long used : ℕ) where
+  unfit : (Lent long used → ⊥) → false ≡ tableFits long used
+  unfit f = go (tableFits long used) (table-lent long used)
+    where
+      go : (b : Bool) → (b ≡ true → Lent long used) → false ≡ b
+      go true g = absurd (f (g refl))
+      go false g = refl
+
+  pub table-many : 65536 < used → false ≡ tableFits long used
+  table-many h = unfit (λ l. omega (arith, l .limit, l .in-use))
+
+  pub table-long : 1572864 < long → false ≡ tableFits long used
+  table-long h = unfit (λ l. omega (arith, l .whole, l .limit))
+
+  pub table-odd : long % width ≢ 0 → false ≡ tableFits long used
+  table-odd h = unfit (λ l. h (l .even))
+
+  pub table-rest : long ≤ 1572864 → long % width ≡ 0 → leb (used * width) long ≡ tableFits long used
+  unfolding tableFits
+  table-rest h k = go (decLe (used * width) long)
+    where
+      go : Dec (used * width ≤ long) → leb (used * width) long ≡ tableFits long used
+      go (yes l) =
+          let g : T (roomFits (long / width) used) = good-room (long / width) used (record { limit = omega arith; in-use = omega arith }) in
+          le-leb (used * width) long l ∙ sym (λ i. eq-eqb (long % width) 0 k i && T-true (roomFits (long / width) used) g i)
+      go (no l) = sym (T-false (leb (used * width) long) (lt→nleb (used * width) long (omega arith))) ∙ unfit (λ l′. omega (arith, l′ .whole, l′ .in-use))
 
 -- with the names
 module _ (long used names : ℕ) where
@@ -210,35 +223,3 @@ module _ (t : List ℕ) (used names : ℕ) (n : Row ℕ) where
       → Gives (entered sameValue knownValue names (length t / width) n (rows t used)) t used a t′
       → Gives (insertOutcome t used names n) t used a t′
   inserted-enters e f g h k = rw (fit e f ∙ cond-yes (wellFormed sameValue knownValue names (rows t used)) _ _ (rw (sym g ∙ h) tt)) k
-
--- ---- what a caller of an insert in place learns
-
--- done with m rows: they are the outcome, it fits, and the whole memory is known
-pub record RowsPlaced (room m used : ℕ) (ys : List (Row ℕ)) (t t′ : List ℕ) : Type 0 where
-  pub long : m ≡ length ys
-  pub room-fits : m ≤ room
-  pub holds : rows t′ m ≡ ys
-  pub memory : t′ ≡ rowsWritten t used ys
-
-pub placed-done : (room m used : ℕ) (ys : List (Row ℕ)) (t t′ : List ℕ) → Gives (ifRoom room ys) t used (answer 0 (m ∷ [])) t′ → RowsPlaced room m used ys t t′
-unfolding ifRoom outcomeAnswer memoryAfter usedAfter nowStored
-placed-done room m used ys t t′ =
-    ltb-case (λ (o : Outcome (Row ℕ)). Gives o t used (answer 0 (m ∷ [])) t′ → RowsPlaced room m used ys t t′) room (length ys) (refusedBy 2) (stored ys)
-    (λ h g. let d : answer 0 (m ∷ []) ≡ answer 2 [] = g .answers in absurd (let z : _≡_ {A = ℕ} 0 2 = cc in omega arith))
-    (λ h g.
-    let d : answer 0 (m ∷ []) ≡ answer 0 (length ys ∷ []) = g .answers in
-    let e : m ≡ length ys = cc in
-    record { long = e; room-fits = omega arith; holds = ap (λ (k : ℕ). rows t′ k) e ∙ g .holds; memory = g .memory })
-
--- refused: it does not fit, and nothing changed
-pub placed-refused : (room used : ℕ) (ys : List (Row ℕ)) (t t′ : List ℕ) → Gives (ifRoom room ys) t used (answer 2 []) t′ → (room < length ys) × (t′ ≡ t)
-unfolding ifRoom outcomeAnswer memoryAfter usedAfter nowStored
-placed-refused room used ys t t′ =
-    ltb-case (λ (o : Outcome (Row ℕ)). Gives o t used (answer 2 []) t′ → (room < length ys) × (t′ ≡ t)) room (length ys) (refusedBy 2) (stored ys)
-    (λ h g. (h, g .memory))
-    (λ h g. let d : answer 2 [] ≡ answer 0 (length ys ∷ []) = g .answers in absurd (let z : _≡_ {A = ℕ} 0 2 = cc in omega arith))
-
--- and the table is in order again
-pub placed-ordered : (n : Row ℕ) (used m : ℕ) (t t′ : List ℕ) → n .start < n .end → Ordered (rows t used)
-    → rows t′ m ≡ insertRows sameValue n (rows t used) → Ordered (rows t′ m)
-placed-ordered n used m t t′ h w e = rw e (rows-ok sameValue symbols n (rows t used) h w)

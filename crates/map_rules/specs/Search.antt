@@ -119,6 +119,29 @@ found-last t used n c x d e q h = record {
   above = λ m. absurd (omega arith);
 }
 
+-- ---- the walk from the first that does not lie before n to the first that lies after it
+
+pub record Walked (t : List ℕ) (used : ℕ) (n : Row ℕ) (hi : ℕ) : Type 0 where
+  pub upto : hi ≤ used
+  pub below : (k : ℕ) → k + 1 ≡ hi → sideOf n (rowAt t k) < 2
+
+module _ {t : List ℕ} {used : ℕ} {n : Row ℕ} {hi : ℕ} where
+  pub walked-none : Found t used n 1 hi → Walked t used n hi
+  walked-none f = record { upto = f .within; below = λ k e. omega (arith, f .below k e) }
+
+  module _ (w : Walked t used n hi) where
+    pub walked-on : {s : ℕ} {x : Row ℕ} → hi < used → x ≡ rowAt t hi → s ≡ sideOf n x → s < 2 → Walked t used n (hi + 1)
+    walked-on l e q h = record {
+      upto = omega arith;
+      below = λ k m. let m′ : k ≡ hi = omega arith in rw (m′, ← e, ← q) h;
+    }
+
+    pub walked-met : {s : ℕ} {x : Row ℕ} → x ≡ rowAt t hi → s ≡ sideOf n x → 2 ≤ s → Found t used n 2 hi
+    walked-met e q h = record { within = w .upto; below = w .below; above = λ l. rw (← e, ← q) h }
+
+    pub walked-all : used ≤ hi → Found t used n 2 hi
+    walked-all l = record { within = w .upto; below = w .below; above = λ m. absurd (omega arith) }
+
 -- ---- the edges, and the cut
 
 pub at-row : (t : List ℕ) (n k : ℕ) → k < n → getD (rows t n) k blank ≡ rowAt t k

@@ -4,13 +4,12 @@ use mathlib.Core.Path.{_≡_, refl, _∙_}
 use mathlib.Core.Logic.{_↔_, inl, inr}
 use Prim.Native.Nat.{ℕ, _≤_, _<_}
 use native.Mathlib.Omega.{arith}
-use mathlib.Core.Bool.{Bool, true, false, not, _&&_}
+use mathlib.Core.Bool.{Bool, true, false, _&&_}
 use mathlib.Core.List.{List, [], _∷_}
 use lib.Dec.{T, leb, ltb, lt→ltb, le→leb}
-use lib.Arith.{lt→nleb}
 use mir.Facts.{leb-yes, ltb-yes}
 use Rattle.theory.specs.Runs.{Mem, Same, apart}
-use Rattle.theory.specs.RunsTools.{cond-lt, cond-ge, T-and, T-fst, T-snd, T-nor-l, Order, less, equal, more, order}
+use Rattle.theory.specs.RunsTools.{cond-lt, cond-ge, T-and, T-fst, T-snd, Order, less, equal, more, order}
 use Rattle.theory.specs.RunsOverwrite.{apart-iff}
 use Rattle.map_rules.specs.Table.{Row, intervalOf, AheadRow, Ordered, allKnown, apartRow, ordered, wellFormed, roomFits, namesFit}
 
@@ -113,10 +112,6 @@ room-good room used t =
 pub good-room : (room used : ℕ) → Good room used → T (roomFits room used)
 unfolding roomFits
 good-room room used g = T-and (leb room 65536) (leb used room) (le→leb room 65536 (g .limit)) (le→leb used room (g .in-use))
-
-pub room-over : (room used : ℕ) → 65536 < room → T (not (roomFits room used))
-unfolding roomFits
-room-over room used h = T-nor-l (leb room 65536) (leb used room) (lt→nleb room 65536 h)
 
 -- and the names too
 pub memory-good : (room used names : ℕ) → T (roomFits room used && namesFit names) → Good room used × names ≤ 4096

@@ -107,8 +107,8 @@ pub fn place(table: &mut [u8], used: usize, n: Interval) -> Inserted
     ensures { λ r. ⌜ Gives (ifRoom (roomOf (now (table .entry))) (insertRows sameValue (rowOf n) (rows (now (table .entry)) used))) (now (table .entry)) used (insertedOf r) (now (table .exit)) ⌝ }
 {
     let room = table.len() / WIDTH;
-    let lo = crate::search::find(table, used, n, crate::search::TOUCHING);
-    let hi = crate::search::find(table, used, n, crate::search::AFTER);
+    let lo = crate::search::find(table, used, n);
+    let hi = crate::search::pass(table, used, lo, n);
     let x = first_of(table, lo, hi, n);
     let z = last_of(table, lo, hi, n);
     let left = left_count(n, x);

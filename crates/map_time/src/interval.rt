@@ -4,6 +4,7 @@ ghost use mathlib.Core.Path.{_≡_};
 ghost use Prim.Native.Nat.{_+_, _*_, _≤_};
 ghost use lib.ListN.{length};
 ghost use Rattle.map_rules.specs.Memory.{rowAt, sameValue, width};
+ghost use Rattle.map_rules.specs.Halves.{RowFrom};
 ghost use Rattle.map_rules.specs.Moves.{RowSet};
 ghost use Rattle.map_time.specs.Interval.{rowOf};
 
@@ -25,18 +26,25 @@ pub fn same_value(x: Interval, y: Interval) -> bool
     x.symbol == y.symbol
 }
 
-// The interval at place i of the table.
-pub fn interval_at(table: &[u8], i: usize) -> Interval
-    requires { ⌜ i * width + width ≤ length (now table) ⌝ }
-    ensures { λ r. ⌜ rowOf r ≡ rowAt (now (table .entry)) i ⌝ }
+// The interval in the bytes from o on, where a place begins.
+pub fn interval_from(table: &[u8], o: usize) -> Interval
+    requires { ⌜ o + width ≤ length (now table) ⌝ }
+    ensures { λ r. ⌜ RowFrom (now (table .entry)) o (rowOf r) ⌝ }
 {
-    let o = i * WIDTH;
     Interval {
         instrument: leaves_fields::fields::u32_at(table, o),
         symbol: leaves_fields::fields::u32_at(table, o + 4),
         start: leaves_fields::fields::u64_at(table, o + 8),
         end: leaves_fields::fields::u64_at(table, o + 16),
     }
+}
+
+// The interval at place i of the table.
+pub fn interval_at(table: &[u8], i: usize) -> Interval
+    requires { ⌜ i * width + width ≤ length (now table) ⌝ }
+    ensures { λ r. ⌜ rowOf r ≡ rowAt (now (table .entry)) i ⌝ }
+{
+    interval_from(table, i * WIDTH)
 }
 
 // Puts the interval x at place i of the table.

@@ -33,14 +33,14 @@ fn lower(table: &mut [u8], from: usize, used: usize, by: usize)
     }
 }
 
-// Moves the intervals from `from` up to `used` to the place `to` on.
+// Moves the intervals from `from` up to `used` to the place `to` on; where they stand there, nothing is copied.
 fn move_tail(table: &mut [u8], from: usize, used: usize, to: usize)
     requires { ⌜ (from ≤ used) × (used * width ≤ length (now table)) × ((to + (used - from)) * width ≤ length (now table)) ⌝ }
     ensures { λ _. ⌜ Moved (now (table .entry)) from used to (now (table .exit)) ⌝ }
 {
     if from < to {
         raise(table, from, used, to - from);
-    } else {
+    } else if to < from {
         lower(table, from, used, from - to);
     }
 }

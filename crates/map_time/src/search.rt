@@ -1,4 +1,4 @@
-// Binary search in the table over time, by the side of an interval on which another lies.
+// Searches in the table over time, by the side of an interval on which another lies.
 use crate::interval::Interval;
 ghost use mathlib.Core.Path.{_≡_};
 ghost use Prim.Native.Nat.{_*_, _≤_};
@@ -31,17 +31,17 @@ pub fn side(n: Interval, x: Interval) -> u8
     }
 }
 
-// The first of the `used` places whose interval lies at or past the given side of n, where the table is in order.
-fn search(table: &[u8], used: usize, n: Interval, given: u8) -> usize
+// The first of the `used` places whose interval does not lie before n, where the table is in order.
+fn search(table: &[u8], used: usize, n: Interval) -> usize
     requires { ⌜ used * width ≤ length (now table) ⌝ }
-    ensures { λ r. ⌜ Found (now (table .entry)) used (rowOf n) given r ⌝ }
+    ensures { λ r. ⌜ Found (now (table .entry)) used (rowOf n) 1 r ⌝ }
 {
     let mut lo: usize = 0;
     let mut hi = used;
     while lo < hi {
         let mid = lo + (hi - lo) / 2;
         let x = crate::interval::interval_at(table, mid);
-        if side(n, x) < given {
+        if side(n, x) < TOUCHING {
             lo = mid + 1;
         } else {
             hi = mid;
@@ -51,16 +51,34 @@ fn search(table: &[u8], used: usize, n: Interval, given: u8) -> usize
 }
 
 // The same; the last interval is looked at first, as a table that is built in order grows at its end.
-pub fn find(table: &[u8], used: usize, n: Interval, given: u8) -> usize
+pub fn find(table: &[u8], used: usize, n: Interval) -> usize
     requires { ⌜ used * width ≤ length (now table) ⌝ }
-    ensures { λ r. ⌜ Found (now (table .entry)) used (rowOf n) given r ⌝ }
+    ensures { λ r. ⌜ Found (now (table .entry)) used (rowOf n) 1 r ⌝ }
 {
     if used == 0 {
         return 0;
     }
     let last = crate::interval::interval_at(table, used - 1);
-    if side(n, last) < given {
+    if side(n, last) < TOUCHING {
         return used;
     }
-    search(table, used, n, given)
+    search(table, used, n)
+}
+
+// The first of the `used` places from lo on whose interval lies after n, where lo is the first that does not lie before it. The
+// places between them are those that an insert of n frees.
+pub fn pass(table: &[u8], used: usize, lo: usize, n: Interval) -> usize
+    requires { ⌜ (used * width ≤ length (now table)) × Found (now table) used (rowOf n) 1 lo ⌝ }
+    ensures { λ r. ⌜ Found (now (table .entry)) used (rowOf n) 2 r ⌝ }
+{
+    let mut hi = lo;
+    while hi < used {
+        let x = crate::interval::interval_at(table, hi);
+        if side(n, x) < AFTER {
+            hi += 1;
+        } else {
+            return hi;
+        }
+    }
+    hi
 }

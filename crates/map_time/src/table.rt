@@ -9,7 +9,7 @@ ghost use Prim.Native.Nat.{_*_, _≤_, _<_};
 ghost use lib.ListN.{length};
 ghost use Rattle.map_rules.specs.Table.{namesFit, apartRow, wellFormed};
 ghost use Rattle.map_rules.specs.Memory.{sameValue, knownValue, width, rows, tableFits, checkAnswer};
-ghost use Rattle.map_rules.specs.Checks.{valid, soundAt};
+ghost use Rattle.map_rules.specs.Checks.{valid, follows};
 ghost use Rattle.map_time.specs.Interval.{rowOf};
 ghost use Rattle.map_time.specs.Table.{checkedOf};
 
@@ -17,6 +17,8 @@ ghost use Rattle.map_time.specs.Table.{checkedOf};
 pub const ROOM_LIMIT: usize = 65536;
 // At most so many names.
 pub const NAME_LIMIT: usize = 4096;
+// A table's bytes are at most so many.
+const BYTE_LIMIT: usize = ROOM_LIMIT * WIDTH;
 
 // The check's answer: the table is well-formed, or 14 or 15.
 pub enum Checked {
@@ -28,9 +30,13 @@ pub enum Checked {
 pub fn table_fits(length: usize, used: usize) -> bool
     ensures { λ r. ⌜ r ≡ tableFits length used ⌝ }
 {
-    if length % WIDTH == 0 {
-        if length / WIDTH <= ROOM_LIMIT {
-            used <= length / WIDTH
+    if used <= ROOM_LIMIT {
+        if length <= BYTE_LIMIT {
+            if length % WIDTH == 0 {
+                used * WIDTH <= length
+            } else {
+                false
+            }
         } else {
             false
         }
@@ -65,51 +71,60 @@ fn is_valid(x: Interval, names: usize) -> bool
 fn may_follow(x: Interval, y: Interval) -> bool
     ensures { λ r. ⌜ r ≡ apartRow sameValue (rowOf x) (rowOf y ∷ []) ⌝ }
 {
-    if x.instrument < y.instrument {
-        true
-    } else if y.instrument < x.instrument {
-        false
-    } else if x.end < y.start {
-        true
-    } else if y.start < x.end {
-        false
-    } else {
-        !crate::interval::same_value(x, y)
-    }
-}
-
-// Whether the interval at place k is as it should be, by itself and before the next.
-fn is_sound(table: &[u8], used: usize, names: usize, k: usize) -> bool
-    requires { ⌜ (used * width ≤ length (now table)) × (k < used) ⌝ }
-    ensures { λ r. ⌜ r ≡ soundAt (now (table .entry)) used names k ⌝ }
-{
-    let x = crate::interval::interval_at(table, k);
-    if is_valid(x, names) {
-        if k + 1 < used {
-            let y = crate::interval::interval_at(table, k + 1);
-            may_follow(x, y)
-        } else {
+    if x.instrument == y.instrument {
+        if x.end < y.start {
             true
+        } else if y.start < x.end {
+            false
+        } else {
+            !crate::interval::same_value(x, y)
         }
     } else {
+        x.instrument < y.instrument
+    }
+}
+
+// Whether y is as it should be, by itself and right after x.
+fn is_next(x: Interval, y: Interval, names: usize) -> bool
+    ensures { λ r. ⌜ r ≡ follows names (rowOf x) (rowOf y) ⌝ }
+{
+    if is_valid(y, names) {
+        may_follow(x, y)
+    } else {
         false
     }
 }
 
-// Whether the table is well-formed.
+// Whether the table is well-formed: each interval is read once, two in a turn.
 pub fn well_formed(table: &[u8], used: usize, names: usize) -> bool
     requires { ⌜ used * width ≤ length (now table) ⌝ }
     ensures { λ r. ⌜ r ≡ wellFormed sameValue knownValue names (rows (now (table .entry)) used) ⌝ }
 {
-    let mut k: usize = 0;
-    while k < used {
-        if is_sound(table, used, names, k) {
-            k += 1;
-        } else {
+    if used == 0 {
+        return true;
+    }
+    let mut x = crate::interval::interval_at(table, 0);
+    if !is_valid(x, names) {
+        return false;
+    }
+    let mut k: usize = 1;
+    while k + 1 < used {
+        let y = crate::interval::interval_at(table, k);
+        if !is_next(x, y, names) {
             return false;
         }
+        x = crate::interval::interval_at(table, k + 1);
+        if !is_next(y, x, names) {
+            return false;
+        }
+        k += 2;
     }
-    true
+    if k < used {
+        let last = crate::interval::interval_at(table, k);
+        is_next(x, last, names)
+    } else {
+        true
+    }
 }
 
 // The check: yes exactly for well-formed tables, else 14; 15 where the memory is no table.

@@ -1,20 +1,20 @@
 -- The row before the place decides. Assumes nothing.
 use borrow.Author.Needs.{needs}
-use Rattle.map_rules.specs.Looks.{onward-yes, onward-no}
+use Rattle.map_rules.specs.Halves.{onward-yes, onward-no}
 use Rattle.map_look.proofs.begin.onward.Statement.{statement}
 use Rattle.map_look.proofs.begin.onward.Tie as tie
 
-add-interval-at : tie.Need-add-interval-at
-add-interval-at c = search needs
+mul-next : tie.Need-mul-next
+mul-next c = search needs
 
-sub-interval-at : tie.Need-sub-interval-at
-sub-interval-at c = search needs
+add-next : tie.Need-add-next
+add-next c = search needs
 
-interval-at-requires : tie.Need-interval-at-requires
-interval-at-requires c κs = search needs
+sub-is-lower : tie.Need-sub-is-lower
+sub-is-lower c = search needs
 
-add-result : tie.Need-add-result
-add-result c = search needs
+is-lower-requires : tie.Need-is-lower-requires
+is-lower-requires c κs = search needs
 
 returns : tie.Need-returns
 returns c = search (needs, onward-yes)
@@ -24,5 +24,4 @@ returns-2 c = search (needs, onward-no)
 
 pub onward-spec : {M : Type 1} → statement M
 onward-spec =
-    tie.close
-    (tie.spec add-interval-at sub-interval-at interval-at-requires add-result returns returns-2)
+    tie.close (tie.spec mul-next add-next sub-is-lower is-lower-requires returns returns-2)

@@ -1,32 +1,50 @@
 -- What the two places tell, in an ordered table, is the last that has started. Assumes nothing.
-use mathlib.Core.Path.{refl, ap}
-use Rattle.map_rules.specs.Looks.{numberIn, arrive-covers, arrive-gap, arrive-none}
 use borrow.Author.Needs.{needs}
+use mathlib.Core.Path.{refl}
+use Rattle.map_rules.specs.Arrivals.{arrive-in, arrive-past, arrive-none}
 use Rattle.map_look.proofs.lookup.last_started.Statement.{statement}
 use Rattle.map_look.proofs.lookup.last_started.Tie as tie
 
-sub-at : tie.Need-sub-at
-sub-at c = search needs
+beyond-requires : tie.Need-beyond-requires
+beyond-requires c κs = search needs
+
+add-if1 : tie.Need-add-if1
+add-if1 c = search needs
+
+sub-interval-from : tie.Need-sub-interval-from
+sub-interval-from c = search needs
+
+interval-from-requires : tie.Need-interval-from-requires
+interval-from-requires c κs = search needs
 
 sub-arrived : tie.Need-sub-arrived
 sub-arrived c = search needs
 
-covers-at-requires : tie.Need-covers-at-requires
-covers-at-requires c κs = search needs
-
-seen-at-requires : tie.Need-seen-at-requires
-seen-at-requires c κs = search needs
+sub-arrived-2 : tie.Need-sub-arrived-2
+sub-arrived-2 c = search needs
 
 returns : tie.Need-returns
-returns c = (λ w a b. arrive-covers w a b _ (search needs) (c .before .before .covers-at .ensures) (search needs) (c .seen-at .ensures .0) (c .seen-at .ensures .1), ap numberIn (c .seen-at .ensures .0))
+returns c =
+    let row = c .before .before in
+    let far = row .before in
+    (λ g q w a. arrive-in _ _ _ _ w a q (far .before .beyond .ensures .1) _ (far .if1 .taken) (row .interval-from .ensures) (c .if2 .taken), refl)
 
 returns-2 : tie.Need-returns-2
-returns-2 c = (λ w a b. search (needs, arrive-gap), refl)
+returns-2 c = (λ g q w a. search (needs, arrive-past), refl)
 
 returns-3 : tie.Need-returns-3
-returns-3 c = (λ w a b. search (needs, arrive-none), refl)
+returns-3 c = (λ g q w a. search (needs, arrive-none), refl)
 
 pub last-started-spec : {M : Type 1} → statement M
 last-started-spec =
     tie.close
-    (tie.spec sub-at sub-arrived covers-at-requires seen-at-requires returns returns-2 returns-3)
+    (tie.spec
+    beyond-requires
+    add-if1
+    sub-interval-from
+    interval-from-requires
+    sub-arrived
+    sub-arrived-2
+    returns
+    returns-2
+    returns-3)

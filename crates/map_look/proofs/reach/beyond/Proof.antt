@@ -1,38 +1,62 @@
--- The rest of the table is the instrument's own, or is searched up to a bound. Assumes nothing.
+-- Few rows, or the rest of the table, or any: each by its own law. Assumes nothing.
 use borrow.Author.Needs.{needs}
-use Rattle.map_rules.specs.Looks.{own-upto}
+use Rattle.map_rules.specs.Arrivals.{reached-few, reached-own, reached-any}
 use Rattle.map_look.proofs.reach.beyond.Statement.{statement}
 use Rattle.map_look.proofs.reach.beyond.Tie as tie
 
-sub-interval-at : tie.Need-sub-interval-at
-sub-interval-at c = search needs
+mul-end : tie.Need-mul-end
+mul-end c = search needs
 
-interval-at-requires : tie.Need-interval-at-requires
-interval-at-requires c κs = search needs
+add-if1 : tie.Need-add-if1
+add-if1 c = search needs
 
-by-start-requires : tie.Need-by-start-requires
-by-start-requires c κs = search needs
+add-if1-2 : tie.Need-add-if1-2
+add-if1-2 c = search needs
+
+add-u32-at : tie.Need-add-u32-at
+add-u32-at c = search needs
+
+u32-at-requires : tie.Need-u32-at-requires
+u32-at-requires c κs = search needs
+
+narrow-requires : tie.Need-narrow-requires
+narrow-requires c κs = search needs
 
 returns : tie.Need-returns
-returns c = (search needs, λ b w g h r. c .by-start .ensures .1 _ _ w (search needs) (own-upto w g (c .before .before .before .interval-at .ensures) (search needs) (search needs) _ _ h (search needs)) r)
+returns c = search (needs, reached-few)
 
-bound-requires : tie.Need-bound-requires
-bound-requires c κs = search needs
+sub-count : tie.Need-sub-count
+sub-count c = search needs
 
-between-requires : tie.Need-between-requires
-between-requires c κs = search needs
+u32-at-requires-2 : tie.Need-u32-at-requires-2
+u32-at-requires-2 c κs = search needs
+
+turn-requires : tie.Need-turn-requires
+turn-requires c κs = search needs
 
 returns-2 : tie.Need-returns-2
-returns-2 c = (search needs, λ b w g h r. c .between .ensures .1 w (c .before .bound .ensures .1 _ w r))
+returns-2 c = search (needs, reached-own)
+
+narrow-requires-2 : tie.Need-narrow-requires-2
+narrow-requires-2 c κs = search needs
+
+returns-3 : tie.Need-returns-3
+returns-3 c = search (needs, reached-any)
 
 pub beyond-spec : {M : Type 1} → statement M
 beyond-spec =
     tie.close
     (tie.spec
-    sub-interval-at
-    interval-at-requires
-    by-start-requires
+    mul-end
+    add-if1
+    add-if1-2
+    add-u32-at
+    u32-at-requires
+    narrow-requires
     returns
-    bound-requires
-    between-requires
-    returns-2)
+    sub-count
+    u32-at-requires-2
+    turn-requires
+    returns-2
+    narrow-requires-2
+    returns-3)

@@ -1,5 +1,5 @@
 -- The memory is tested, then the names, then the table. Assumes nothing.
-use Rattle.map_point.specs.PointsSteps.{fit-in, check-memory, check-names, check-no, check-yes}
+use Rattle.map_point.specs.PointsReads.{fit-in, check-memory, check-names, check-no, check-yes}
 use borrow.Author.Needs.{needs}
 use Rattle.map_point.proofs.points.check_points.Statement.{statement}
 use Rattle.map_point.proofs.points.check_points.Tie as tie

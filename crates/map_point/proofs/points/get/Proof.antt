@@ -1,6 +1,6 @@
 -- In a sorted table the search gives the instrument's place, and the entry there is its only one. Assumes nothing.
 use mathlib.Core.Path.{refl}
-use Rattle.map_point.specs.PointsSteps.{fit-in, get-memory, get-unfit, get-within, get-nothing, get-symbol}
+use Rattle.map_point.specs.PointsReads.{fit-in, get-memory, get-unfit, get-within, get-nothing, get-symbol}
 use borrow.Author.Needs.{needs}
 use Rattle.map_point.proofs.points.get.Statement.{statement}
 use Rattle.map_point.proofs.points.get.Tie as tie

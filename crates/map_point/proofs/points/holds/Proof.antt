@@ -1,5 +1,5 @@
 -- The place is tested, then the entry's instrument. Assumes nothing.
-use Rattle.map_point.specs.PointsSteps.{holds-past, holds-own}
+use Rattle.map_point.specs.PointsReads.{holds-past, holds-own}
 use borrow.Author.Needs.{needs}
 use Rattle.map_point.proofs.points.holds.Statement.{statement}
 use Rattle.map_point.proofs.points.holds.Tie as tie

@@ -1,6 +1,6 @@
 -- The invariant: the entry before the lower end is below the instrument, the one at the upper end is not. Assumes nothing.
 use Prim.Native.Nat.{_-_}
-use Rattle.map_point.specs.PointsSteps.{Between, between-all, between-up, between-down, between-met}
+use Rattle.map_point.specs.PointsReads.{Between, between-all, between-up, between-down, between-met}
 use borrow.Author.Needs.{needs}
 use Rattle.map_point.proofs.points.place_of.Statement.{statement}
 use Rattle.map_point.proofs.points.place_of.Tie as tie

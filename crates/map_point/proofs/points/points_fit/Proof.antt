@@ -1,6 +1,6 @@
 -- The three tests one after the other. Assumes nothing.
 use mathlib.Core.Path.{sym}
-use Rattle.map_point.specs.PointsSteps.{fit-odd, fit-large, fit-used}
+use Rattle.map_point.specs.PointsReads.{fit-odd, fit-large, fit-used}
 use borrow.Author.Needs.{needs}
 use Rattle.map_point.proofs.points.points_fit.Statement.{statement}
 use Rattle.map_point.proofs.points.points_fit.Tie as tie

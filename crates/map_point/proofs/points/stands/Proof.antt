@@ -1,5 +1,5 @@
 -- The symbol is tested, then the next entry, if there is one. Assumes nothing.
-use Rattle.map_point.specs.PointsSteps.{stands-unknown, stands-last, stands-next}
+use Rattle.map_point.specs.PointsReads.{stands-unknown, stands-last, stands-next}
 use borrow.Author.Needs.{needs}
 use Rattle.map_point.proofs.points.stands.Statement.{statement}
 use Rattle.map_point.proofs.points.stands.Tie as tie

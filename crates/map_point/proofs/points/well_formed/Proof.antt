@@ -1,6 +1,6 @@
 -- The invariant: the check from the place on is the whole check. Assumes nothing.
 use Prim.Native.Nat.{_-_}
-use Rattle.map_point.specs.PointsSteps.{Left, left-start, left-on, left-fault, left-end}
+use Rattle.map_point.specs.PointsReads.{Left, left-start, left-on, left-fault, left-end}
 use borrow.Author.Needs.{needs}
 use Rattle.map_point.proofs.points.well_formed.Statement.{statement}
 use Rattle.map_point.proofs.points.well_formed.Tie as tie

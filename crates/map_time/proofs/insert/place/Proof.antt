@@ -1,4 +1,4 @@
--- The two searches cut the table; the outcome is made of the rows before the cut, at most three new ones and the rows after it.
+-- The search and the walk cut the table; the outcome is made of the rows before the cut, at most three new ones and the rows after it.
 -- Assumes nothing.
 use mathlib.Core.Path.{_∙_}
 use native.Mathlib.Omega.{arith}
@@ -11,8 +11,8 @@ use Rattle.map_time.proofs.insert.place.Tie as tie
 find-requires : tie.Need-find-requires
 find-requires c κs = search needs
 
-find-requires-2 : tie.Need-find-requires-2
-find-requires-2 c κs = search needs
+pass-requires : tie.Need-pass-requires
+pass-requires c κs = search needs
 
 first-of-requires : tie.Need-first-of-requires
 first-of-requires c κs = search needs
@@ -81,7 +81,7 @@ returns-2 c =
     let low = high .before .before in
     let known = low .before .before in
     let entry = known .before in
-    placed (entry .pre .2) (entry .pre .3) (low .find .ensures) (high .find2 .ensures)
+    placed (entry .pre .2) (entry .pre .3) (low .find .ensures) (high .pass .ensures)
     (firsting .first-of .ensures .0) (firsting .first-of .ensures .1) (lasting .last-of .ensures .0) (lasting .last-of .ensures .1)
     (lefting .left-count .ensures .0) (righting .right-count .ensures .0) (starting .joined-start .ensures) (ending .joined-end .ensures)
     (λ x. omega (arith, known .slice-known .given x)) (λ x. omega (arith, c .slice-known3 .given x))
@@ -93,7 +93,7 @@ place-spec =
     tie.close
     (tie.spec
     find-requires
-    find-requires-2
+    pass-requires
     first-of-requires
     last-of-requires
     left-count-requires

@@ -1,47 +1,17 @@
--- The four fields are those of the row. Assumes nothing.
+-- The place begins at its number times the width. Assumes nothing.
+use mathlib.Core.Path.{refl}
 use borrow.Author.Needs.{needs}
-use Rattle.map_rules.specs.Memory.{rowAt}
 use Rattle.map_time.proofs.interval.interval_at.Statement.{statement}
 use Rattle.map_time.proofs.interval.interval_at.Tie as tie
 
-mul-o : tie.Need-mul-o
-mul-o c = search needs
+mul-interval-from : tie.Need-mul-interval-from
+mul-interval-from c = search needs
 
-u32-at-requires : tie.Need-u32-at-requires
-u32-at-requires c κs = search needs
-
-add-u32-at : tie.Need-add-u32-at
-add-u32-at c = search needs
-
-u32-at-requires-2 : tie.Need-u32-at-requires-2
-u32-at-requires-2 c κs = search needs
-
-add-u64-at : tie.Need-add-u64-at
-add-u64-at c = search needs
-
-u64-at-requires : tie.Need-u64-at-requires
-u64-at-requires c κs = search needs
-
-add-u64-at-2 : tie.Need-add-u64-at-2
-add-u64-at-2 c = search needs
-
-u64-at-requires-2 : tie.Need-u64-at-requires-2
-u64-at-requires-2 c κs = search needs
+interval-from-requires : tie.Need-interval-from-requires
+interval-from-requires c κs = search needs
 
 returns : tie.Need-returns
-unfolding rowAt
-returns c = cc
+returns c = c .interval-from .ensures .row _ refl
 
 pub interval-at-spec : {M : Type 1} → statement M
-interval-at-spec =
-    tie.close
-    (tie.spec
-    mul-o
-    u32-at-requires
-    add-u32-at
-    u32-at-requires-2
-    add-u64-at
-    u64-at-requires
-    add-u64-at-2
-    u64-at-requires-2
-    returns)
+interval-at-spec = tie.close (tie.spec mul-interval-from interval-from-requires returns)

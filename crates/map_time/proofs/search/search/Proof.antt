@@ -8,10 +8,10 @@ use Rattle.map_time.proofs.search.search.Statement.{statement}
 use Rattle.map_time.proofs.search.search.Tie as tie
 
 abbrev Inv-loop : tie.InvT-loop
-Inv-loop table used n given lo₀ hi₀ lo hi = Bracket table used (rowOf n) given lo hi
+Inv-loop table used n lo₀ hi₀ lo hi = Bracket table used (rowOf n) 1 lo hi
 
 abbrev μ-loop : tie.MeasureT-loop
-μ-loop table used n given lo₀ hi₀ lo hi = hi - lo
+μ-loop table used n lo₀ hi₀ lo hi = hi - lo
 
 loop-holds : tie.Need-loop-holds Inv-loop μ-loop
 loop-holds c = search (needs, bracket-all)
