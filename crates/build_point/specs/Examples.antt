@@ -6,7 +6,7 @@ use mathlib.Core.List.{List, [], _∷_}
 use Rattle.theory.specs.Answer.{answer}
 use Rattle.theory.specs.Fields.{putField}
 use Rattle.leaves_names.specs.Names.{wellFormed, listFits, namesOf, nameOf, standFrom, nameStart, isName, namesFrom}
-use Rattle.leaves_names.specs.Utf8.{isUtf8, within}
+use Rattle.leaves_utf8.specs.Utf8.{isUtf8, within}
 use Rattle.leaves_text.specs.NumberText.{numberText, someDigits, digits, isDigit}
 use Rattle.leaves_days.specs.Days.{dayOf}
 use Rattle.leaves_days.specs.Calendar.{isDate, dayNumber, isLeap, monthDays, daysOfYears, daysBefore}

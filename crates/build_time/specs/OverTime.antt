@@ -7,7 +7,7 @@ use lib.ListN.{length, replicate}
 use Rattle.theory.specs.Answer.{Answer, answer}
 use Rattle.leaves.specs.Refusal.{numberOf, refused}
 use Rattle.leaves_names.specs.Names.{namesOf, listFits, wellFormed}
-use Rattle.map_time.specs.Interval.{rowOf}
+use Rattle.map_table.specs.Interval.{rowOf}
 use Rattle.metadata_rules.specs.declared.Interval.{Interval}
 use Rattle.map_rules.specs.Table.{Row}
 use Rattle.map_rules.specs.Memory.{roomOf, tableFits, rowsWritten}

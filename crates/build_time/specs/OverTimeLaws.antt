@@ -10,9 +10,9 @@ use lib.Dec.{T}
 use Rattle.theory.specs.Answer.{answer}
 use Rattle.leaves.specs.Refusal.{numberOf, refused}
 use Rattle.leaves.specs.declared.refusal.Refusal.{Refusal}
-use Rattle.map_time.specs.Interval.{rowOf}
+use Rattle.map_table.specs.Interval.{rowOf}
 use Rattle.map_time.specs.Insert.{insertedOf}
-use Rattle.map_time.specs.declared.interval.Interval.{Interval}
+use Rattle.map_table.specs.declared.interval.Interval.{Interval}
 use Rattle.map_time.specs.declared.insert.Inserted.{Inserted}
 use Rattle.map_time.specs.declared.insert.Inserted.the-variants as inserted
 use Rattle.map_rules.specs.Table.{Row, Ordered, Outcome, refusedBy, stored, nowStored, wellFormed, entered}

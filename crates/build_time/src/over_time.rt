@@ -13,9 +13,9 @@ use leaves::refusal::Refusal;
 use leaves_days::days::Moment;
 use leaves_names::names::is_list;
 use leaves_names::names::list_fits;
+use map_table::table::table_fits;
 use map_time::insert::Inserted;
 use map_time::insert::enter;
-use map_time::table::table_fits;
 use metadata_form::header::Header;
 use metadata_form::header::Lengths;
 use metadata_form::header::metadata_fits;
@@ -53,7 +53,7 @@ pub enum Way {
 pub enum Asked {
     Refuse(Refusal),
     Nothing,
-    Insert(map_time::interval::Interval),
+    Insert(map_table::interval::Interval),
 }
 
 // Whether a build goes on.
@@ -88,7 +88,7 @@ fn dated_insert(instrument: u32, symbol: u32, x: metadata_rules::Interval) -> As
             match last {
                 Moment::Refused(why) => Asked::Refuse(why),
                 Moment::Nanoseconds(end) => {
-                    let n = map_time::interval::Interval {
+                    let n = map_table::interval::Interval {
                         instrument: instrument,
                         symbol: symbol,
                         start: start,

@@ -8,7 +8,7 @@ use lines::parts::PART_HEAD;
 use map_compare::compare::both_formed;
 use map_compare::compare::compare_fits;
 use map_compare_walk::walk::Position;
-use map_time::interval::WIDTH;
+use map_table::interval::WIDTH;
 use standard::Input;
 ghost use mathlib.Core.Path.{_≡_};
 ghost use Prim.Native.Nat.{_≤_};

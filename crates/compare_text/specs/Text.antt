@@ -10,7 +10,7 @@ use mathlib.Core.Option.{Option, none, some}
 use mathlib.Core.List.{List, [], _∷_, _++_, append-nil}
 use Rattle.lines.specs.Lines.{decimal, blank, newline, laid, Lays}
 use Rattle.lines.specs.LinesLaws.{lays-then}
-use Rattle.map_time.specs.Interval.{rowOf}
+use Rattle.map_table.specs.Interval.{rowOf}
 use Rattle.map_compare_rules.specs.Memory.{Value}
 use Rattle.map_compare_walk.specs.declared.walk.Stretch.{Stretch}
 use Rattle.map_compare_walk.specs.Walk.{saying}

@@ -4,9 +4,9 @@ use door_answers::damage::reason_in;
 use leaves::refusal::number;
 use map_look::lookup::Found;
 use map_record::mapping::Recorded;
+use map_table::interval::Interval;
+use map_table::table::Checked;
 use map_time::insert::Inserted;
-use map_time::interval::Interval;
-use map_time::table::Checked;
 ghost use mathlib.Core.Path.{_≡_};
 ghost use mathlib.Core.Bool.{true, not, _||_};
 ghost use lib.ListN.{length};
@@ -23,7 +23,7 @@ ghost use Rattle.door_answers.specs.Answers.{numberIn, valueIn, givenIn, damage
 pub extern "C" fn desk_check(table: &[u8], used: usize, names: usize) -> u32
     ensures { λ r. ⌜ r ≡ numberIn (checkAnswer (now (table .entry)) used names) ⌝ }
 {
-    let checked = map_time::table::check(table, used, names);
+    let checked = map_table::table::check(table, used, names);
     match checked {
         Checked::WellFormed => DONE,
         Checked::Refused(refusal) => number(refusal),

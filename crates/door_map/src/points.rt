@@ -4,7 +4,7 @@ use door_answers::damage::reason_in;
 use leaves::refusal::number;
 use map_look::lookup::Found;
 use map_record::mapping::Recorded;
-use map_time::table::Checked;
+use map_table::table::Checked;
 ghost use mathlib.Core.Path.{_≡_};
 ghost use mathlib.Core.Bool.{true, not, _||_};
 ghost use lib.ListN.{length};

@@ -3,7 +3,7 @@ use door_answers::DONE;
 use leaves_text::number_text::Reading;
 ghost use mathlib.Core.Path.{_≡_};
 ghost use Rattle.leaves_text.specs.NumberText.{numberText};
-ghost use Rattle.leaves_names.specs.Utf8.{isUtf8};
+ghost use Rattle.leaves_utf8.specs.Utf8.{isUtf8};
 ghost use Rattle.door_answers.specs.Answers.{numberIn, valueIn, utf8Answer};
 
 // The refusals 8, "text is not a `u32`", and 4, "not UTF-8".
@@ -32,7 +32,7 @@ pub extern "C" fn desk_number_text(text: &[u8], value: &mut u32) -> u32
 pub extern "C" fn desk_utf8(text: &[u8]) -> u32
     ensures { λ r. ⌜ r ≡ numberIn (utf8Answer (isUtf8 (now (text .entry)))) ⌝ }
 {
-    if leaves_names::utf8::is_utf8(text) {
+    if leaves_utf8::utf8::is_utf8(text) {
         return DONE;
     }
     NOT_UTF8

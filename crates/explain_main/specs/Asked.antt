@@ -8,8 +8,8 @@ use lib.Dec.{leb, eqb}
 use Rattle.theory.specs.Fields.{field}
 use Rattle.theory.specs.Answer.{Answer, answer}
 use Rattle.map_rules.specs.Memory.{width, checkAnswer}
-use Rattle.map_time.specs.declared.table.Checked.{Checked}
-use Rattle.map_time.specs.declared.table.Checked.the-variants.{WellFormed, Refused}
+use Rattle.map_table.specs.declared.table.Checked.{Checked}
+use Rattle.map_table.specs.declared.table.Checked.the-variants.{WellFormed, Refused}
 use Rattle.lines.specs.Asked.{tableEnd, between}
 
 -- so many bytes are whole questions, and not too many

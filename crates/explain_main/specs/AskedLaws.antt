@@ -12,9 +12,9 @@ use Rattle.theory.specs.Answer.{Answer}
 use Rattle.leaves.specs.Refusal.{numberOf}
 use Rattle.leaves.specs.RefusalLaws.{refused-not-done}
 use Rattle.map_rules.specs.Memory.{width, checkAnswer}
-use Rattle.map_time.specs.declared.table.Checked.{Checked}
-use Rattle.map_time.specs.declared.table.Checked.the-variants.{WellFormed, Refused}
-use Rattle.map_time.specs.Table.{checkedOf}
+use Rattle.map_table.specs.declared.table.Checked.{Checked}
+use Rattle.map_table.specs.declared.table.Checked.the-variants.{WellFormed, Refused}
+use Rattle.map_table.specs.Table.{checkedOf}
 use Rattle.lines.specs.Asked.{tableEnd, between, Ends}
 use Rattle.explain_main.specs.Asked.{areQuestions, checkStatus, answerStatus, askedStatus, statusOf}
 

@@ -7,7 +7,7 @@ use mathlib.Core.List.{List, _++_, append-assoc}
 use lib.ListN.{length, take}
 use Rattle.lines.specs.LinesLaws.{laid-taken, laid-length}
 use Rattle.lines.specs.Lines.{Lays}
-use Rattle.map_time.specs.declared.table.Checked.{Checked}
+use Rattle.map_table.specs.declared.table.Checked.{Checked}
 use Rattle.explain_main.specs.Text.{questionText, linesFrom}
 
 -- a portion from question `from` of so many: its text and the lines from the next question on are the lines from where it began, and it

@@ -10,8 +10,8 @@ use Rattle.theory.specs.Answer.{Answer, answer}
 use Rattle.theory.specs.Fields.{field}
 use Rattle.leaves.specs.Refusal.{refused}
 use Rattle.lines.specs.Lines.{decimal, blank, newline}
-use Rattle.map_time.specs.declared.table.Checked.{Checked}
-use Rattle.map_time.specs.declared.table.Checked.the-variants.{WellFormed, Refused}
+use Rattle.map_table.specs.declared.table.Checked.{Checked}
+use Rattle.map_table.specs.declared.table.Checked.the-variants.{WellFormed, Refused}
 use Rattle.map_explain.specs.Explain.{InOrder, rowsAnswer}
 
 -- " in", " unknown", " before", " after", " between", " refused "

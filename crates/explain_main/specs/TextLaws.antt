@@ -14,9 +14,9 @@ use Rattle.leaves.specs.declared.refusal.Refusal.{Refusal}
 use Rattle.lines.specs.Lines.{decimal, blank}
 use Rattle.map_rules.specs.Table.{namesFit, wellFormed}
 use Rattle.map_rules.specs.Memory.{sameValue, knownValue, rows, tableFits, checkAnswer}
-use Rattle.map_time.specs.declared.table.Checked.{Checked}
-use Rattle.map_time.specs.declared.table.Checked.the-variants.{WellFormed, Refused}
-use Rattle.map_time.specs.Table.{checkedOf}
+use Rattle.map_table.specs.declared.table.Checked.{Checked}
+use Rattle.map_table.specs.declared.table.Checked.the-variants.{WellFormed, Refused}
+use Rattle.map_table.specs.Table.{checkedOf}
 use Rattle.map_rules.specs.Looks.{numberIn}
 use Rattle.map_explain.specs.Explain.{InOrder, rowsAnswer, explainAnswer}
 use Rattle.map_explain.specs.ExplainLaws.{checked-order}

@@ -5,8 +5,8 @@ use crate::telling::lay_portion;
 use lines::asked::NAMES_BYTES;
 use lines::asked::table_end;
 use lines::parts::PART_HEAD;
-use map_time::interval::WIDTH;
-use map_time::table::Checked;
+use map_table::interval::WIDTH;
+use map_table::table::Checked;
 use standard::Input;
 ghost use mathlib.Core.Path.{_≡_};
 ghost use Prim.Native.Nat.{_*_, _≤_};
@@ -123,7 +123,7 @@ fn answer_all(table: &[u8], names: usize, questions: &[u8], text: &mut [u8]) -> 
         return say(b"bad bundle\n", BAD);
     }
     let used = table.len() / WIDTH;
-    let checked = map_time::table::check(table, used, names);
+    let checked = map_table::table::check(table, used, names);
     tell_all(
         table,
         used,

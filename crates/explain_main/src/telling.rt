@@ -5,7 +5,7 @@ use lines::lines::word;
 use map_explain::explain::Explained;
 use map_explain::explain::Named;
 use map_explain::explain::explain_checked;
-use map_time::table::Checked;
+use map_table::table::Checked;
 ghost use mathlib.Core.Path.{_≡_};
 ghost use mathlib.Core.List.{[], _∷_};
 ghost use Prim.Native.Nat.{_+_, _*_, _≤_};

@@ -1,10 +1,10 @@
 // The opening of streams that arrive in portions (RULES, Requests, No. 5): each waits at its hint, and nothing of it has come.
 use feed_window::spans::PLACES;
 use leaves::refusal::Refusal;
-use records::heap::heapify;
-use records::opening::lay_streams;
-use records::state::EMPTY;
-use records::state::arrays_fit;
+use records_state::heap::heapify;
+use records_state::opening::lay_streams;
+use records_state::state::EMPTY;
+use records_state::state::arrays_fit;
 ghost use mathlib.Core.Path.{_≡_};
 ghost use mathlib.Core.Bool.{true, false, _&&_};
 ghost use Prim.Native.Nat.{ℕ, _<_, _≤_};

@@ -1,7 +1,3 @@
-pub mod Utf8
-pub mod Utf8Bytes
-pub mod Utf8Laws
-pub mod Utf8Grammar
 pub mod Names
 pub mod NamesLaws
 pub mod NamesList

@@ -8,7 +8,7 @@ use lib.ListN.{length, getD, set}
 use lib.Seq.{slice, paste}
 use Rattle.theory.specs.Answer.{Answer, answer}
 use Rattle.leaves.specs.Refusal.{refused}
-use Rattle.leaves_names.specs.Utf8.{isUtf8}
+use Rattle.leaves_utf8.specs.Utf8.{isUtf8}
 use Rattle.leaves.specs.declared.refusal.Refusal.the-variants.{UnknownSymbol, BadName, NoNameRoom, IllFormed, BadMemory}
 use Rattle.leaves_names.specs.declared.names.Checked.{Checked}
 use Rattle.leaves_names.specs.declared.names.Checked.the-variants.{Done, Refused as Checked-refused}

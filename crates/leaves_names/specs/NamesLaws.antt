@@ -11,8 +11,8 @@ use lib.Dec.{leb, ltb, eqb}
 use lib.ListN.{length, getD, set, take, drop}
 use lib.Seq.{slice, length-slice, paste, paste-suc, length-paste, getD-drop, getD-take}
 use native.Mathlib.Nat.{add-zero, zero-add}
-use Rattle.leaves_names.specs.Utf8.{isUtf8}
-use Rattle.leaves_names.specs.Utf8Laws.{Upto, plain-is}
+use Rattle.leaves_utf8.specs.Utf8.{isUtf8}
+use Rattle.leaves_utf8.specs.Utf8Laws.{Upto, plain-is}
 use Rattle.theory.specs.Slices.{cut, none-left, whole}
 use Rattle.leaves_names.specs.Names.{nameStart, nameEnd, nameOf, namesFrom, namesOf, isName, standFrom, wellFormed, listFits, same, least, hasRoom, numbering, naming, namingAnswer, nameWritten, bytesAfter, endsAfter}
 use Rattle.theory.specs.Answer.{answer}

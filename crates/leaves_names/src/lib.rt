@@ -1,3 +1,2 @@
-// UTF-8 (RFC 3629), names and lists of names.
+// Names and lists of names.
 pub mod names;
-pub mod utf8;

@@ -7,10 +7,10 @@ ghost use lib.ListN.{length, set};
 ghost use lib.Seq.{slice};
 ghost use Rattle.leaves_names.specs.Names.{nameStart, nameEnd, namesOf, isName, wellFormed, listFits, same, least, hasRoom, nameWritten, checkedOf, checkNames, naming, namedOf, namingAnswer, bytesAfter, endsAfter, placedOf, placeOfName};
 ghost use Rattle.leaves_names.specs.NamesLaws.{standing, Ordered};
-ghost use Rattle.leaves_names.specs.Utf8Laws.{Upto};
-use crate::utf8::is_plain;
-use crate::utf8::is_utf8_within;
+ghost use Rattle.leaves_utf8.specs.Utf8Laws.{Upto};
 use leaves::refusal::Refusal;
+use leaves_utf8::utf8::is_plain;
+use leaves_utf8::utf8::is_utf8_within;
 
 // The most names.
 pub const NAMES: usize = 4096;

@@ -100,8 +100,8 @@ pub fn compare_fits(
 ) -> bool
     ensures { λ r. ⌜ r ≡ compareFits left n right m names list ⌝ }
 {
-    if map_time::table::memory_fits(left, n, names) {
-        if map_time::table::memory_fits(right, m, names) {
+    if map_table::table::memory_fits(left, n, names) {
+        if map_table::table::memory_fits(right, m, names) {
             list % STRETCH_WIDTH == 0
         } else {
             false
@@ -116,8 +116,8 @@ pub fn both_formed(left: &[u8], n: usize, right: &[u8], m: usize, names: usize) 
     requires { ⌜ (n * width ≤ length (now left)) × (m * width ≤ length (now right)) ⌝ }
     ensures { λ r. ⌜ r ≡ bothFormed (now (left .entry)) n (now (right .entry)) m names ⌝ }
 {
-    if map_time::table::well_formed(left, n, names) {
-        map_time::table::well_formed(right, m, names)
+    if map_table::table::well_formed(left, n, names) {
+        map_table::table::well_formed(right, m, names)
     } else {
         false
     }

@@ -1,11 +1,11 @@
 // A stretch in bytes (RULES, Requests, No. 1: instrument, left symbol or nothing, right symbol or nothing, start, end): 28, little-endian. No other file
 // knows them.
 use map_compare_walk::walk::Stretch;
-use map_time::interval::Interval;
+use map_table::interval::Interval;
 ghost use mathlib.Core.Path.{_≡_};
 ghost use Prim.Native.Nat.{_+_, _*_, _≤_};
 ghost use lib.ListN.{length};
-ghost use Rattle.map_time.specs.Interval.{rowOf};
+ghost use Rattle.map_table.specs.Interval.{rowOf};
 ghost use Rattle.map_compare_rules.specs.Memory.{symbolIn, stretchWidth, putStretch};
 ghost use Rattle.map_compare_walk.specs.Walk.{saying, stretchOf};
 

@@ -9,8 +9,8 @@ use lib.Dec.{eqb}
 use Rattle.theory.specs.Answer.{bit}
 use Rattle.map_rules.specs.Table.{Row}
 use Rattle.map_rules.specs.Memory.{sameValue, width, rowAt}
-use Rattle.map_time.specs.declared.interval.Interval.{Interval}
-use Rattle.map_time.specs.Interval.{rowOf}
+use Rattle.map_table.specs.declared.interval.Interval.{Interval}
+use Rattle.map_table.specs.Interval.{rowOf}
 use Rattle.map_compare_rules.specs.Compare.{Stretches, stretch, leftOnly, rightOnly, since, against, compared}
 use Rattle.map_compare_rules.specs.Memory.{Value}
 use Rattle.map_compare_walk.specs.declared.walk.Position.{Position}

@@ -10,8 +10,8 @@ use lib.Dec.{ltb, eqb}
 use Rattle.theory.specs.Answer.{bit}
 use Rattle.map_rules.specs.Table.{Row, Ordered}
 use Rattle.map_rules.specs.Memory.{sameValue, width, rowAt, rowsFrom, rows}
-use Rattle.map_time.specs.declared.interval.Interval.{Interval}
-use Rattle.map_time.specs.Interval.{rowOf}
+use Rattle.map_table.specs.declared.interval.Interval.{Interval}
+use Rattle.map_table.specs.Interval.{rowOf}
 use Rattle.map_compare_rules.specs.Compare.{Difference, Stretches, stretch, over, since, compared}
 use Rattle.map_compare_rules.specs.Memory.{Value, putStretch}
 use Rattle.map_compare_walk.specs.declared.walk.Position.{Position}

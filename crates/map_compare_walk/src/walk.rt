@@ -1,12 +1,12 @@
 // The walk over two tables side by side: at each turn their two heads give a stretch of time that one or both of them speak of,
 // and go on or are cut to what is left of them.
-use map_time::interval::Interval;
+use map_table::interval::Interval;
 ghost use mathlib.Core.Path.{_≡_};
 ghost use mathlib.Core.Bool.{true, false};
 ghost use Prim.Native.Nat.{_+_, _*_, _≤_, _<_, max};
 ghost use lib.ListN.{length};
 ghost use Rattle.map_rules.specs.Memory.{sameValue, width};
-ghost use Rattle.map_time.specs.Interval.{rowOf};
+ghost use Rattle.map_table.specs.Interval.{rowOf};
 ghost use Rattle.map_compare_rules.specs.Compare.{over};
 ghost use Rattle.map_compare_walk.specs.Walk.{turnBy, goesOn, cutTo, bothOf, turnOf, instrumentOf, headAt, takenOf, More, Ready, Stepped};
 
@@ -64,7 +64,7 @@ fn head(table: &[u8], p: Position) -> Interval
     requires { ⌜ p .place * width + width ≤ length (now table) ⌝ }
     ensures { λ r. ⌜ rowOf r ≡ headAt (now (table .entry)) p ⌝ }
 {
-    let x = map_time::interval::interval_at(table, p.place);
+    let x = map_table::interval::interval_at(table, p.place);
     let start = later(p.from, x.start);
     Interval { start, ..x }
 }
@@ -114,7 +114,7 @@ fn cut(from: u64) -> Onward
 fn both(x: Interval, y: Interval) -> Turn
     ensures { λ r. ⌜ r ≡ bothOf sameValue (rowOf x) (rowOf y) ⌝ }
 {
-    let differ = !map_time::interval::same_value(x, y);
+    let differ = !map_table::interval::same_value(x, y);
     if x.end < y.end {
         made(differ, differ, x.start, x.end, gone(), cut(x.end))
     } else if y.end < x.end {

@@ -1,13 +1,13 @@
 // Why an instrument has a symbol at a moment, or none (RULES, Requests, No. 4): two searches in a table that is in order, then at most
 // three intervals are looked at. Nothing but the check is linear in the table.
 use leaves::refusal::Refusal;
-use map_time::interval::Interval;
+use map_table::interval::Interval;
 ghost use mathlib.Core.Path.{_≡_};
 ghost use Prim.Native.Nat.{ℕ, _*_, _≤_, _<_};
 ghost use lib.ListN.{length};
 ghost use Rattle.map_rules.specs.Table.{intervalOf};
 ghost use Rattle.map_rules.specs.Memory.{width};
-ghost use Rattle.map_time.specs.Interval.{rowOf};
+ghost use Rattle.map_table.specs.Interval.{rowOf};
 ghost use Rattle.map_explain.specs.Explain.{numbersOf, namedOf, ownAt, InOrder, Placed, rowsAnswer, explainAnswer, explainedOf};
 
 // An interval that a reason names: its number within the instrument, from 0, and what is stored.
@@ -47,7 +47,7 @@ fn is_own(table: &[u8], used: usize, place: usize, instrument: u32) -> bool
     ensures { λ r. ⌜ r ≡ ownAt (now (table .entry)) used place instrument ⌝ }
 {
     if place < used {
-        let x = map_time::interval::interval_at(table, place);
+        let x = map_table::interval::interval_at(table, place);
         x.instrument == instrument
     } else {
         false
@@ -60,7 +60,7 @@ fn not_started(table: &[u8], used: usize, begin: usize, instrument: u32) -> Expl
     ensures { λ r. ⌜ ((m end : ℕ) → Placed (now (table .entry)) used instrument m begin end → end ≤ begin → explainedOf r ≡ rowsAnswer (now (table .entry)) used instrument m) ⌝ }
 {
     if is_own(table, used, begin, instrument) {
-        let x = map_time::interval::interval_at(table, begin);
+        let x = map_table::interval::interval_at(table, begin);
         let first = numbered(0, x);
         Explained::Before(first)
     } else {
@@ -80,13 +80,13 @@ fn started(
     requires { ⌜ Placed (now table) used instrument moment begin end × (begin < end) ⌝ }
     ensures { λ r. ⌜ explainedOf r ≡ rowsAnswer (now (table .entry)) used instrument moment ⌝ }
 {
-    let x = map_time::interval::interval_at(table, end - 1);
+    let x = map_table::interval::interval_at(table, end - 1);
     let index = (end - 1 - begin) as u64;
     let last = numbered(index, x);
     if moment < x.end {
         Explained::In(last)
     } else if is_own(table, used, end, instrument) {
-        let y = map_time::interval::interval_at(table, end);
+        let y = map_table::interval::interval_at(table, end);
         let next = numbered(index + 1, y);
         Explained::Between(last, next)
     } else {
@@ -99,8 +99,8 @@ pub fn explain_checked(table: &[u8], used: usize, instrument: u32, moment: u64) 
     requires { ⌜ InOrder (now table) used ⌝ }
     ensures { λ r. ⌜ explainedOf r ≡ rowsAnswer (now (table .entry)) used instrument moment ⌝ }
 {
-    let begin = map_look::begin::beginning(table, used, instrument);
-    let end = map_look::reach::reached(table, used, begin, instrument, moment);
+    let begin = map_search::begin::beginning(table, used, instrument);
+    let end = map_search::reach::reached(table, used, begin, instrument, moment);
     if begin < end {
         started(table, used, begin, end, instrument, moment)
     } else {
@@ -112,9 +112,9 @@ pub fn explain_checked(table: &[u8], used: usize, instrument: u32, moment: u64) 
 pub fn explain(table: &[u8], used: usize, names: usize, instrument: u32, moment: u64) -> Explained
     ensures { λ r. ⌜ explainedOf r ≡ explainAnswer (now (table .entry)) used names instrument moment ⌝ }
 {
-    if !map_time::table::memory_fits(table.len(), used, names) {
+    if !map_table::table::memory_fits(table.len(), used, names) {
         Explained::Refused(Refusal::BadMemory)
-    } else if map_time::table::well_formed(table, used, names) {
+    } else if map_table::table::well_formed(table, used, names) {
         explain_checked(table, used, instrument, moment)
     } else {
         Explained::Refused(Refusal::IllFormed)

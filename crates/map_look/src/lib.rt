@@ -1,6 +1,3 @@
 // Lookups in the map over time: an instrument's intervals found, the three looks, and the cursor.
-pub mod begin;
 pub mod cursor;
 pub mod lookup;
-pub mod reach;
-mod starts;

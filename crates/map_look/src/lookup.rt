@@ -1,8 +1,8 @@
 // Lookups in the table over time (RULES, The map over time): the hinted interval of the instrument, the following one, then the last
 // with start <= moment. No step is linear in the table.
 use leaves::refusal::Refusal;
-use map_time::interval::WIDTH;
-use map_time::table::ROOM_LIMIT;
+use map_table::interval::WIDTH;
+use map_table::table::ROOM_LIMIT;
 ghost use mathlib.Core.Path.{_≡_};
 ghost use mathlib.Core.Bool.{true, not, _||_};
 ghost use mathlib.Core.List.{[], _∷_};
@@ -40,7 +40,7 @@ fn covers(table: &[u8], used: usize, at: usize, instrument: u32, moment: u64) ->
     ensures right { λ r. ⌜ Probe (coversAt (now (table .entry)) used instrument moment) at r ⌝ }
 {
     if at + WIDTH <= used * WIDTH {
-        let x = map_time::interval::interval_from(table, at);
+        let x = map_table::interval::interval_from(table, at);
         if x.instrument == instrument {
             if x.start <= moment {
                 moment < x.end
@@ -61,7 +61,7 @@ fn seen_at(table: &[u8], at: usize, hint: u64) -> Looked
     ensures right { λ r. ⌜ ((k : ℕ) → at ≡ k * width → lookedOf r ≡ answer 0 (hint ∷ rowAt (now (table .entry)) k .value ∷ [])) × (r .hint ≡ hint) ⌝ }
     ensures accepted { λ r. ⌜ numberIn (lookedOf r) ≡ 0 ⌝ }
 {
-    let x = map_time::interval::interval_from(table, at);
+    let x = map_table::interval::interval_from(table, at);
     let found = Found::Symbol(x.symbol);
     Looked { found, hint }
 }
@@ -80,9 +80,9 @@ fn last_started(
     ensures right { λ r. ⌜ ((g : ℕ) → begin ≡ g * width → Ordered (rows (now (table .entry)) used) → Begun (now (table .entry)) used instrument g 0 → Tells (last (now (table .entry)) used instrument moment hint) (lookedOf r) (r .hint)) ⌝ }
     ensures accepted { λ r. ⌜ numberIn (lookedOf r) ≡ 0 ⌝ }
 {
-    let end = crate::reach::beyond(table, used, begin, instrument, moment);
+    let end = map_search::reach::beyond(table, used, begin, instrument, moment);
     if begin + WIDTH <= end {
-        let last = map_time::interval::interval_from(table, end - WIDTH);
+        let last = map_table::interval::interval_from(table, end - WIDTH);
         let arrived = ((end - begin) / WIDTH - 1) as u64;
         if moment < last.end {
             let found = Found::Symbol(last.symbol);
@@ -109,7 +109,7 @@ fn look_up(table: &[u8], used: usize, instrument: u32, moment: u64, hint: u64) -
     ensures right { λ r. ⌜ (Ordered (rows (now (table .entry)) used) → Tells (lookupRows (rows (now (table .entry)) used) instrument moment hint) (lookedOf r) (r .hint)) ⌝ }
     ensures accepted { λ r. ⌜ numberIn (lookedOf r) ≡ 0 ⌝ }
 {
-    let begin = crate::begin::turn(table, 0, used, instrument);
+    let begin = map_search::begin::turn(table, 0, used, instrument);
     if hint < HINT_LIMIT {
         let at = begin + hint as usize * WIDTH;
         if covers(table, used, at, instrument, moment) {
@@ -128,7 +128,7 @@ pub fn get_for_ts(table: &[u8], used: usize, instrument: u32, moment: u64, hint:
     ensures right { λ r. ⌜ (T (not (tableFits (length (now (table .entry))) used) || ordered sameValue (rows (now (table .entry)) used)) → (lookedOf r ≡ lookupAnswer (now (table .entry)) used instrument moment hint) × (r .hint ≡ lookupHint (now (table .entry)) used instrument moment hint)) ⌝ }
     ensures accepted { λ r. ⌜ (tableFits (length (now (table .entry))) used ≡ true → numberIn (lookedOf r) ≡ 0) ⌝ }
 {
-    if map_time::table::table_fits(table.len(), used) {
+    if map_table::table::table_fits(table.len(), used) {
         look_up(table, used, instrument, moment, hint)
     } else {
         let found = Found::Refused(Refusal::BadMemory);

@@ -8,7 +8,7 @@ use Rattle.theory.specs.Answer.{answer}
 use Rattle.theory.specs.Fields.{field, putField}
 use Rattle.leaves.specs.Frame.{mappedIn}
 use Rattle.leaves_names.specs.Names.{nameStart, nameOf, namesFrom, namesOf, isName, standFrom, wellFormed as wellFormedNames, listFits, same, least, hasRoom as hasNameRoom, numbering}
-use Rattle.leaves_names.specs.Utf8.{isUtf8, from-2, within, utf8-2}
+use Rattle.leaves_utf8.specs.Utf8.{isUtf8, from-2, within, utf8-2}
 use Rattle.map_rules.specs.Table.{roomFits, wellFormed as wellFormedRows, ordered, allKnown as allKnownRows}
 use Rattle.map_rules.specs.Memory.{rowsFrom, tableFits}
 use Rattle.map_point.specs.Entries.{entryAt, entriesFrom, putEntry, putEntries}

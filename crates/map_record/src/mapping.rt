@@ -14,10 +14,10 @@ use map_point::points::Stored;
 use map_point::points::points_fit;
 use map_point::points::set_entry;
 use map_point::points::well_formed;
+use map_table::interval::Interval;
+use map_table::table::table_fits;
 use map_time::insert::Inserted;
 use map_time::insert::place;
-use map_time::interval::Interval;
-use map_time::table::table_fits;
 ghost use mathlib.Core.Path.{_≡_};
 ghost use mathlib.Core.Bool.{true};
 ghost use Prim.Native.Nat.{_≤_};
@@ -234,7 +234,7 @@ fn judge_interval(
     if !list_fits(bytes.len(), ends.len(), names, name_bytes) {
         return Plan::Refuse(Refusal::BadMemory);
     }
-    if !map_time::table::well_formed(table, used, names) {
+    if !map_table::table::well_formed(table, used, names) {
         return Plan::Refuse(Refusal::IllFormed);
     }
     if !is_list(bytes, ends, names, name_bytes) {

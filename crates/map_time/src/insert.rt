@@ -1,14 +1,14 @@
 // Inserts into the table over time (RULES, The map over time).
-use crate::interval::Interval;
-use crate::interval::WIDTH;
 use leaves::refusal::Refusal;
+use map_table::interval::Interval;
+use map_table::interval::WIDTH;
 ghost use mathlib.Core.Path.{_≡_};
 ghost use Prim.Native.Nat.{_+_, _*_, _-_, _≤_, _<_};
 ghost use lib.ListN.{length};
 ghost use Rattle.map_rules.specs.Table.{Ordered, insertRows, ifRoom, entered};
 ghost use Rattle.map_rules.specs.Memory.{sameValue, knownValue, width, rowAt, rows, roomOf, insertOutcome, Gives};
 ghost use Rattle.map_rules.specs.Pieces.{leftCount, rightCount, joinedStart, joinedEnd};
-ghost use Rattle.map_time.specs.Interval.{rowOf};
+ghost use Rattle.map_table.specs.Interval.{rowOf};
 ghost use Rattle.map_time.specs.Insert.{insertedOf};
 
 // An insert's answer: done, with the new length, or refused.
@@ -22,7 +22,7 @@ fn left_count(n: Interval, x: Interval) -> usize
     ensures { λ r. ⌜ (r ≡ leftCount (rowOf n) (rowOf x)) × (r ≤ 1) ⌝ }
 {
     if x.start < n.start {
-        if crate::interval::same_value(x, n) {
+        if map_table::interval::same_value(x, n) {
             0
         } else {
             1
@@ -37,7 +37,7 @@ fn right_count(n: Interval, z: Interval) -> usize
     ensures { λ r. ⌜ (r ≡ rightCount (rowOf n) (rowOf z)) × (r ≤ 1) ⌝ }
 {
     if n.end < z.end {
-        if crate::interval::same_value(n, z) {
+        if map_table::interval::same_value(n, z) {
             0
         } else {
             1
@@ -52,7 +52,7 @@ fn joined_start(n: Interval, x: Interval) -> u64
     ensures { λ r. ⌜ r ≡ joinedStart (rowOf n) (rowOf x) ⌝ }
 {
     if x.start < n.start {
-        if crate::interval::same_value(x, n) {
+        if map_table::interval::same_value(x, n) {
             x.start
         } else {
             n.start
@@ -67,7 +67,7 @@ fn joined_end(n: Interval, z: Interval) -> u64
     ensures { λ r. ⌜ r ≡ joinedEnd (rowOf n) (rowOf z) ⌝ }
 {
     if n.end < z.end {
-        if crate::interval::same_value(n, z) {
+        if map_table::interval::same_value(n, z) {
             z.end
         } else {
             n.end
@@ -83,7 +83,7 @@ fn first_of(table: &[u8], lo: usize, hi: usize, n: Interval) -> Interval
     ensures { λ r. ⌜ (lo < hi → rowOf r ≡ rowAt (now (table .entry)) lo) × (hi ≤ lo → rowOf r ≡ rowOf n) ⌝ }
 {
     if lo < hi {
-        crate::interval::interval_at(table, lo)
+        map_table::interval::interval_at(table, lo)
     } else {
         n
     }
@@ -95,7 +95,7 @@ fn last_of(table: &[u8], lo: usize, hi: usize, n: Interval) -> Interval
     ensures { λ r. ⌜ (lo < hi → rowOf r ≡ rowAt (now (table .entry)) (hi - 1)) × (hi ≤ lo → rowOf r ≡ rowOf n) ⌝ }
 {
     if lo < hi {
-        crate::interval::interval_at(table, hi - 1)
+        map_table::interval::interval_at(table, hi - 1)
     } else {
         n
     }
@@ -107,8 +107,8 @@ pub fn place(table: &mut [u8], used: usize, n: Interval) -> Inserted
     ensures { λ r. ⌜ Gives (ifRoom (roomOf (now (table .entry))) (insertRows sameValue (rowOf n) (rows (now (table .entry)) used))) (now (table .entry)) used (insertedOf r) (now (table .exit)) ⌝ }
 {
     let room = table.len() / WIDTH;
-    let lo = crate::search::find(table, used, n);
-    let hi = crate::search::pass(table, used, lo, n);
+    let lo = map_moves::search::find(table, used, n);
+    let hi = map_moves::search::pass(table, used, lo, n);
     let x = first_of(table, lo, hi, n);
     let z = last_of(table, lo, hi, n);
     let left = left_count(n, x);
@@ -135,7 +135,7 @@ pub fn place(table: &mut [u8], used: usize, n: Interval) -> Inserted
             start: n.end,
             end: z.end,
         };
-        crate::moves::replace(
+        map_moves::moves::replace(
             table,
             used,
             lo,
@@ -146,7 +146,7 @@ pub fn place(table: &mut [u8], used: usize, n: Interval) -> Inserted
             left,
             right,
         );
-        crate::moves::clear(table, total, used);
+        map_moves::moves::clear(table, total, used);
         Inserted::Done(total)
     }
 }
@@ -173,9 +173,9 @@ pub fn enter(table: &mut [u8], used: usize, names: usize, n: Interval) -> Insert
 pub fn insert(table: &mut [u8], used: usize, names: usize, n: Interval) -> Inserted
     ensures { λ r. ⌜ Gives (insertOutcome (now (table .entry)) used names (rowOf n)) (now (table .entry)) used (insertedOf r) (now (table .exit)) ⌝ }
 {
-    if !crate::table::memory_fits(table.len(), used, names) {
+    if !map_table::table::memory_fits(table.len(), used, names) {
         Inserted::Refused(Refusal::BadMemory)
-    } else if crate::table::well_formed(table, used, names) {
+    } else if map_table::table::well_formed(table, used, names) {
         enter(table, used, names, n)
     } else {
         Inserted::Refused(Refusal::IllFormed)

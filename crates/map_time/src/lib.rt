@@ -1,6 +1,2 @@
-// The maps (RULES, The map over time): the table over time and the point-in-time table, in lent bytes.
+// Inserts into the table over time (RULES, The map over time).
 pub mod insert;
-pub mod interval;
-mod moves;
-mod search;
-pub mod table;

@@ -3,14 +3,14 @@ use mathlib.Core.Path.{_≡_, refl, sym, ap, ap₂, _∙_}
 use Prim.Native.Nat.{ℕ}
 use native.Mathlib.Omega.{arith}
 use Rattle.leaves.specs.RefusalLaws.{refused-one}
-use Rattle.map_time.specs.Table.{checkedOf}
+use Rattle.map_table.specs.Table.{checkedOf}
 use Rattle.map_time.specs.Insert.{insertedOf}
 use Rattle.map_compare.specs.Compare.{comparedOf}
 use Rattle.map_look.specs.Lookup.{foundOf, lookedOf}
 use Rattle.map_point.specs.Points as points
 use Rattle.map_record.specs.Mapping.{recordedOf}
-use Rattle.map_time.specs.declared.table.Checked.{Checked}
-use Rattle.map_time.specs.declared.table.Checked.the-variants as checked
+use Rattle.map_table.specs.declared.table.Checked.{Checked}
+use Rattle.map_table.specs.declared.table.Checked.the-variants as checked
 use Rattle.map_time.specs.declared.insert.Inserted.{Inserted}
 use Rattle.map_time.specs.declared.insert.Inserted.the-variants as inserted
 use Rattle.map_compare.specs.declared.compare.Compared.{Compared}

@@ -1,6 +1,3 @@
-// The record merge: what is lent to it, a heap of the streams, the calls `open` and `next`, and the hint that a stream's metadata gives it.
-pub mod heap;
+// The record merge: the calls `open` and `next`, and the hint that a stream's metadata gives it.
 pub mod hints;
 pub mod merge;
-pub mod opening;
-pub mod state;

@@ -1,19 +1,19 @@
 // The record merge over a heap (RULES, Merging records). All of its state stands in arrays of 256 places that the caller
 // lends: for each stream its mark, its time, its place and the head (length, kind, instrument) of the record it stands at; and the
 // heap of stream numbers, of which `held` places are in use. A call hands out the record of the least (time, stream).
-use crate::heap::heapify;
-use crate::heap::sift_down;
-use crate::heap::slot;
-use crate::opening::lay_streams;
-use crate::opening::streams_right;
-use crate::state::EMPTY;
-use crate::state::GONE;
-use crate::state::STANDING;
-use crate::state::WAITING;
-use crate::state::arrays_fit;
 use leaves::frame::Head;
 use leaves::frame::read_within;
 use leaves::refusal::Refusal;
+use records_state::heap::heapify;
+use records_state::heap::sift_down;
+use records_state::heap::slot;
+use records_state::opening::lay_streams;
+use records_state::opening::streams_right;
+use records_state::state::EMPTY;
+use records_state::state::GONE;
+use records_state::state::STANDING;
+use records_state::state::WAITING;
+use records_state::state::arrays_fit;
 ghost use mathlib.Core.Path.{_≡_};
 ghost use mathlib.Core.Bool.{true, false, _&&_};
 ghost use Prim.Native.Nat.{ℕ, _+_, _-_, _<_, _≤_, _^_};

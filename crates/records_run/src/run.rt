@@ -4,7 +4,7 @@
 use leaves::refusal::Refusal;
 use records::merge::Turn;
 use records::merge::turns;
-use records::state::arrays_fit;
+use records_state::state::arrays_fit;
 use run_list::list::limit_of;
 use run_list::list::put_row;
 use run_list::list::run_fits;

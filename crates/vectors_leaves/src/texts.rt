@@ -17,7 +17,7 @@ pub fn utf8(text: &[u8], at: usize) -> bool {
     let mut bytes = room();
     let word = vectors_text::bytes_at(text, vectors_text::past(text, sign), &mut bytes);
     let n = word.count;
-    leaves_names::utf8::is_utf8(&bytes[..n]) == expected
+    leaves_utf8::utf8::is_utf8(&bytes[..n]) == expected
 }
 
 // A line `+ VALUE BYTES` for a number, `- PLACE BYTES` for what is none from that place on.

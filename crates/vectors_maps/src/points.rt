@@ -2,7 +2,7 @@
 use crate::tables::narrow;
 use crate::tables::room;
 use map_look::lookup::Found;
-use map_time::table::Checked;
+use map_table::table::Checked;
 
 // A line `TABLE USED NAMES = NUMBER`.
 pub fn check(text: &[u8], at: usize) -> bool {

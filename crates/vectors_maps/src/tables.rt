@@ -1,9 +1,9 @@
 // Cases of the table over time: check, insert, get_for_ts.
 use map_look::lookup::Found;
 use map_look::lookup::Looked;
+use map_table::interval::Interval;
+use map_table::table::Checked;
 use map_time::insert::Inserted;
-use map_time::interval::Interval;
-use map_time::table::Checked;
 ghost use mathlib.Core.Path.{_≡_};
 ghost use lib.ListN.{length};
 
@@ -22,7 +22,7 @@ pub fn check(text: &[u8], at: usize) -> bool {
     let used = vectors_text::number_at(text, given.next);
     let names = vectors_text::number_at(text, used.next);
     let number = vectors_text::number_at(text, vectors_text::past_equals(text, names.next));
-    match map_time::table::check(&table[..n], used.value as usize, names.value as usize) {
+    match map_table::table::check(&table[..n], used.value as usize, names.value as usize) {
         Checked::WellFormed => number.value == 0,
         Checked::Refused(r) => number.value == leaves::refusal::number(r) as u64,
     }

@@ -22,7 +22,7 @@ fn portion_space() -> [u8; 2048]
 pub fn print_at(spans: &[u64], stream: u64) {
     if stream < 256 {
         let p = stream as usize;
-        let span = records::state::entry_or_zero(spans, p);
+        let span = records_state::state::entry_or_zero(spans, p);
         answers::print_word(b"at", WINDOW * stream + span % FILL);
     }
 }

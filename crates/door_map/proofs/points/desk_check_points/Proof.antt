@@ -1,5 +1,5 @@
 -- Each arm of the match is what its case says. Assumes nothing.
-use Rattle.map_time.specs.Table.{checkedOf}
+use Rattle.map_table.specs.Table.{checkedOf}
 use Rattle.door_answers.specs.AnswersLaws.{answer-same, done-number, not-number}
 use borrow.Author.Needs.{needs}
 use Rattle.door_map.proofs.points.desk_check_points.Statement.{statement}

@@ -1,0 +1,2 @@
+// UTF-8 (RULES, Names, numbers, days, 6).
+pub mod utf8;

@@ -1,0 +1,3 @@
+// What an insert searches and moves in a table over time.
+pub mod moves;
+pub mod search;

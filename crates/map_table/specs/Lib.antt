@@ -1,0 +1,2 @@
+pub mod Interval
+pub mod Table
