@@ -404,8 +404,9 @@ uint32_t desk_feed_end(uint64_t stream, const uint8_t *marks, size_t marks_len, 
  * After 0: *found is 1, and *stream, *place (from the stream's start), *length, *kind, *instrument and *time are the record's, whose
  * bytes stand in the window from *at on until the next desk_feed_next or desk_feed_bytes of this stream; at the end *found and these
  * seven are 0; where more is needed *found is DESK_NEED_MORE, *stream the stream, and the other six are 0. *held and the arrays are
- * the state after the call; a call that needs more may have read other streams, to their ends too, and goes on from there. After 13:
- * *stream is damaged at *place for *reason, and *held and the arrays are the state after the call too, with which the caller goes on;
+ * the state after the call; a call that needs more may have read other streams, to their ends too, and goes on from there; called
+ * again with no portion and no end word between, it answers the same and leaves all as before. After 13: *stream is damaged at *place
+ * for *reason, and *held and the arrays are the state after the call too, with which the caller goes on;
  * *found, *at, *length, *kind, *instrument and *time are as before. After 15: all as before. On a state that these calls did not make
  * neither the number nor what the call writes says anything. */
 uint32_t desk_feed_next(const uint8_t *window, size_t window_len, uint8_t *marks, size_t marks_len, uint64_t *times, size_t times_len,
