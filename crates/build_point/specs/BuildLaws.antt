@@ -9,7 +9,8 @@ use lib.Dec.{T}
 use Rattle.theory.specs.Answer.{answer}
 use Rattle.leaves.specs.Refusal.{numberOf, refused}
 use Rattle.leaves_names.specs.Names.{namesOf, wellFormed, listFits}
-use Rattle.leaves_names.specs.NamesLaws.{fails, holds, Memory, memory, Ordered, formed, ordered}
+use Rattle.theory.specs.Bools.{fails, holds}
+use Rattle.leaves_names.specs.NamesLaws.{Memory, memory, Ordered, formed, ordered}
 use Rattle.leaves.specs.declared.refusal.Refusal.{Refusal}
 use Rattle.leaves.specs.declared.refusal.Refusal.the-variants.{IllFormed, BadMemory}
 use Rattle.leaves.specs.RefusalLaws.{plain-refused}

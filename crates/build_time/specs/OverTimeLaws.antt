@@ -22,14 +22,14 @@ use Rattle.map_rules.specs.Tests.{formed-parts}
 use Rattle.map_rules.specs.Pieces.{symbols}
 use Rattle.map_rules.specs.History.{Accepted, entered-ok}
 use Rattle.leaves_names.specs.Names.{namesOf}
-use Rattle.leaves_names.specs.NamesLaws.{holds, memory}
+use Rattle.theory.specs.Bools.{holds}
+use Rattle.leaves_names.specs.NamesLaws.{memory}
 use Rattle.leaves_names.specs.NamesList.{names-length}
 use Rattle.leaves_days.specs.declared.days.Moment.{Moment}
 use Rattle.leaves_days.specs.declared.days.Moment.the-variants as moment
 use Rattle.leaves.specs.RefusalLaws.{refused-not-done, plain-refused}
 use Rattle.metadata_rules.specs.declared.Interval.{Interval as Span}
-use Rattle.metadata_rules.specs.Metadata.{mapping}
-use Rattle.metadata_rules.specs.Words.{before, intervalAt, stretch}
+use Rattle.metadata_rules.specs.Words.{intervalAt, stretch}
 use Rattle.build_rules.specs.declared.reading.Symbol.{Symbol}
 use Rattle.build_rules.specs.declared.reading.Symbol.the-variants.{Unknown, Empty, Filled}
 use Rattle.build_rules.specs.declared.reading.Instrument.{Instrument}
@@ -37,7 +37,6 @@ use Rattle.build_rules.specs.declared.reading.Instrument.the-variants as instru
 use Rattle.build_rules.specs.Reading.{Read, fault, andThen, textOf, numberIn, momentIn, symbolIn, instrumentRead, momentRead}
 use Rattle.build_rules.specs.OverTime.{Step, stop, skip, give, reading, dated, forwardStep, inverseStep, taken, Build, stopped, built, layIntervals, buildAnswer}
 use Rattle.build_rules.specs.OverTimeLaws.{unknown-stops, empty-skips, filled-known, filled-reads, dated-start, dated-end, dated-row, name-unknown, name-known, Plain, PlainStep, forward-plain, inverse-plain, intervals-end, intervals-turn, intervals-stop, written-again}
-use Rattle.map_rules.specs.Trace.{build}
 use Rattle.build_time.specs.declared.over_time.Built.{Built}
 use Rattle.build_time.specs.declared.over_time.Built.the-variants.{Done, Refused}
 use Rattle.build_time.specs.declared.over_time.Way.{Way}

@@ -10,6 +10,7 @@ use lib.ListN.{length, getD, drop, drop-of-length-le}
 use lib.Seq.{paste, take-all}
 use native.Mathlib.Numerals.{add-one}
 use borrow.Author.Tests.{leb-true, lt-leb, le-leb}
+use Rattle.theory.specs.Bools.{and-left, and-right}
 use Rattle.theory.specs.Answer.{answer}
 use Rattle.leaves.specs.Refusal.{numberOf, valuesOf, refused}
 use Rattle.leaves.specs.declared.refusal.Refusal.{Refusal}
@@ -52,15 +53,6 @@ within-on xs bs i h k l =
 pub within-end : (xs bs : List ℕ) (i : ℕ) → length xs ≡ length bs → length bs ≤ i → true ≡ within (drop i xs) (drop i bs)
 unfolding within
 within-end xs bs i e h = let g : length xs ≤ i = omega arith in rw (drop-of-length-le xs g, drop-of-length-le bs h) refl
-
-pub and-left : (a b : Bool) → (a && b) ≡ true → a ≡ true
-and-left true b e = refl
-and-left false b e = e
-
-pub and-right : (a b : Bool) → (a && b) ≡ true → b ≡ true
-and-right true b e = e
-and-right false true e = refl
-and-right false false e = e
 
 never : {A : Type 0} → false ≡ true → A
 never e = let z : _≡_ {A = ℕ} 1 0 = ap (λ (b : Bool). cond b 0 1) e in absurd (omega arith)

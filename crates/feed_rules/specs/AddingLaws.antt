@@ -17,7 +17,8 @@ use Rattle.feed_rules.specs.Windows.{Kept, Feed, put, isGone, closed, ta
 use Rattle.feed_rules.specs.Windows.{grow, shut, addAnswer, addLeaves, endAnswer, endLeaves}
 use Rattle.feed_rules.specs.Spans.{counts, bytesIn, keptOf, feedOf, SlotOk, FeedOk}
 use Rattle.feed_rules.specs.WindowsLaws.{put-case}
-use Rattle.feed_rules.specs.SpansLaws.{kept-one, and-true}
+use Rattle.theory.specs.Bools.{both}
+use Rattle.feed_rules.specs.SpansLaws.{kept-one}
 use Rattle.feed_rules.specs.Stores.{put-set, put-none, slots-put, statuses-out, not-there, alive}
 use Rattle.feed_rules.specs.Going.{keptAt}
 use Rattle.feed_rules.specs.Adding.{wordFits, portionFits, shutAt, roomFor, laidWindow, laidSpans, FeedAdds, FeedEnds}
@@ -321,7 +322,7 @@ module _ {n held : ℕ} {ms ts cs hs hp ps : List ℕ} (window : List ℕ) (hn :
 
 pub word-room : (ms ps : List ℕ) → wordFits (length ms) (length ps) ≡ true → (length ms ≡ 256) × (length ps ≡ 256)
 unfolding wordFits
-word-room ms ps e = let a = and-true _ _ e in (eqb-true (length ms) 256 (a .0), eqb-true (length ps) 256 (a .1))
+word-room ms ps e = let a = both _ _ e in (eqb-true (length ms) 256 (a .0), eqb-true (length ps) 256 (a .1))
 
 pub record PortionRoom (ms cs hs ps window : List ℕ) : Type 0 where
   pub marks : length ms ≡ 256
@@ -334,9 +335,9 @@ pub portion-room : (ms cs hs ps window : List ℕ) → portionFits (length ms) (
     → PortionRoom ms cs hs ps window
 unfolding portionFits
 portion-room ms cs hs ps window e =
-    let a = and-true _ _ e in
-    let b = and-true _ _ (a .1) in
-    let c = and-true _ _ (b .1) in
+    let a = both _ _ e in
+    let b = both _ _ (a .1) in
+    let c = both _ _ (b .1) in
     let d = word-room ms ps (c .1) in
     record {
       marks = d .0;

@@ -13,7 +13,8 @@ use Rattle.records_rules.specs.State.{arraysFit, Room, StreamsOpened}
 use Rattle.records_rules.specs.Opening.{arrays-room}
 use Rattle.feed_rules.specs.Windows.{opened}
 use Rattle.feed_rules.specs.Spans.{keptOf, feedOf, SlotOk}
-use Rattle.feed_rules.specs.SpansLaws.{kept-one, and-true}
+use Rattle.theory.specs.Bools.{both}
+use Rattle.feed_rules.specs.SpansLaws.{kept-one}
 use Rattle.feed_rules.specs.Stores.{put-set, not-there}
 use Rattle.feed_rules.specs.Going.{keptAt, counts-zero}
 use Rattle.feed_rules.specs.Adding.{openFits, rightCount, FeedOpened}
@@ -83,21 +84,21 @@ emptied ps i h k q l = go (ℕ-discrete q i)
 marks-256 : (held marks times places heads heap : ℕ) → arraysFit held marks times places heads heap ≡ true → marks ≡ 256
 unfolding arraysFit
 marks-256 held marks times places heads heap e =
-    let a = and-true (leb held 256) (eqb marks 256 && (eqb times 256 && (eqb places 256 && (eqb heads 256 && eqb heap 256)))) e in
-    eqb-true marks 256 (and-true (eqb marks 256) (eqb times 256 && (eqb places 256 && (eqb heads 256 && eqb heap 256))) (a .1) .0)
+    let a = both (leb held 256) (eqb marks 256 && (eqb times 256 && (eqb places 256 && (eqb heads 256 && eqb heap 256)))) e in
+    eqb-true marks 256 (both (eqb marks 256) (eqb times 256 && (eqb places 256 && (eqb heads 256 && eqb heap 256))) (a .1) .0)
 
 pub open-room : (ms ts cs hs hp ps : List ℕ) → openFits (length ms) (length ts) (length cs) (length hs) (length hp) (length ps) ≡ true
     → Room 0 ms ts cs hs hp × (length ps ≡ 256) × (length ms ≡ 256)
 unfolding openFits
 open-room ms ts cs hs hp ps e =
-    let a = and-true _ _ e in
+    let a = both _ _ e in
     (arrays-room 0 ms ts cs hs hp (a .0), eqb-true (length ps) 256 (a .1), marks-256 0 (length ms) (length ts) (length cs) (length hs) (length hp) (a .0))
 
 pub count-room : (n hints : ℕ) → rightCount n hints ≡ true → (1 ≤ n) × (n ≤ 256) × (hints ≤ n)
 unfolding rightCount
 count-room n hints e =
-    let a = and-true _ _ e in
-    let b = and-true _ _ (a .1) in
+    let a = both _ _ e in
+    let b = both _ _ (a .1) in
     (leb-true 1 n (a .0), leb-true n 256 (b .0), either (eqb hints 0) refl (b .1))
   where
     either : (x : Bool) → eqb hints 0 ≡ x → (x || eqb hints n) ≡ true → hints ≤ n

@@ -3,7 +3,7 @@ use mathlib.Core.Path.{_≡_, refl, sym, ap, _∙_}
 use mathlib.Core.Logic.{_≢_}
 use Prim.Native.Nat.{ℕ, zero, suc, _+_, _-_, _*_, _/_, _%_, _<_, _≤_}
 use native.Mathlib.Omega.{arith}
-use mathlib.Core.Bool.{Bool, true, false, not, cond, _&&_, _||_}
+use mathlib.Core.Bool.{Bool, true, false, not, cond, _||_}
 use mathlib.Core.Option.{Option, none, some}
 use mathlib.Core.List.{List, [], _∷_}
 use lib.ListN.{length, take, drop}
@@ -11,6 +11,7 @@ use lib.Seq.{slice, drop-drop}
 use lib.Dec.{T, eqb, ltb}
 use mir.Facts.{ltb-yes, eqb-yes}
 use borrow.Author.Tests.{lt-ltb, le-ltb, eq-eqb, ne-eqb, eqb-true}
+use Rattle.theory.specs.Bools.{both}
 use Rattle.theory.specs.Answer.{Answer, answer}
 use Rattle.theory.specs.Fields.{field}
 use Rattle.leaves.specs.Frame.{Read, whole, ended, damaged, judged, recordAt, frameAt}
@@ -205,18 +206,14 @@ module _ (held marks times places heads heap spans window : ℕ) where
   unfolding feedFits
   fits-window e d = rw (e, eq-eqb spans 256 d) refl
 
-pub and-true : (x y : Bool) → (x && y) ≡ true → (x ≡ true) × (y ≡ true)
-and-true true y e = (refl, e)
-and-true false y e = let z : _≡_ {A = ℕ} 0 1 = cc in absurd (omega arith)
-
 -- and then there is the room
 pub fits-room : (held : ℕ) (ms ts cs hs hp ps window : List ℕ)
     → feedFits held (length ms) (length ts) (length cs) (length hs) (length hp) (length ps) (length window) ≡ true
     → FeedRoom held ms ts cs hs hp ps × (length window ≡ 262144)
 unfolding feedFits
 fits-room held ms ts cs hs hp ps window e =
-    let a = and-true _ _ e in
-    let b = and-true _ _ (a .1) in
+    let a = both _ _ e in
+    let b = both _ _ (a .1) in
     let r = arrays-room held ms ts cs hs hp (a .0) in
     ((r .0, r .1, r .2, r .3, r .4, r .5, omega (arith, eqb-true (length ps) 256 (b .0))), eqb-true (length window) 262144 (b .1))
 

@@ -6,13 +6,14 @@ use mathlib.Core.Bool.{Bool, true, false, cond, _&&_, not, false≢true}
 use mathlib.Core.Path.{_≡_, refl, ap, _∙_, sym}
 use native.Mathlib.Omega.{arith}
 use native.Mathlib.Numerals.{add-one}
-use borrow.Author.Tests.{lt-ltb, le-ltb, le-leb, lt-leb, eq-eqb, ne-eqb, leb-true, leb-false, eqb-true, ltb-true, ltb-false, not-true, not-false}
+use borrow.Author.Tests.{lt-ltb, le-ltb, le-leb, lt-leb, eq-eqb, ne-eqb, leb-true, leb-false, eqb-true, ltb-true, ltb-false}
 use lib.Dec.{leb, ltb, eqb}
-use lib.ListN.{length, getD, set, take, drop}
+use lib.ListN.{length, getD, set, take}
 use lib.Seq.{slice, length-slice, paste, paste-suc, length-paste, getD-drop, getD-take}
 use native.Mathlib.Nat.{add-zero, zero-add}
 use Rattle.leaves_utf8.specs.Utf8.{isUtf8}
 use Rattle.leaves_utf8.specs.Utf8Laws.{Upto, plain-is}
+use Rattle.theory.specs.Bools.{and-false, and-left, and-right, fails, holds}
 use Rattle.theory.specs.Slices.{cut, none-left, whole}
 use Rattle.leaves_names.specs.Names.{nameStart, nameEnd, nameOf, namesFrom, namesOf, isName, standFrom, wellFormed, listFits, same, least, hasRoom, numbering, naming, namingAnswer, nameWritten, bytesAfter, endsAfter}
 use Rattle.theory.specs.Answer.{answer}
@@ -33,25 +34,6 @@ pub record Ordered (bytes ends : List ℕ) (names : ℕ) : Type 0 where
   pub inside : (n : ℕ) → n < names → nameEnd ends n ≤ length bytes
 
 -- ---- a Bool's both values
-
-and-false : (t : Bool) → (t && false) ≡ false
-and-false true = refl
-and-false false = refl
-
-and-left : (t u : Bool) → (t && u) ≡ true → t ≡ true
-and-left true u e = refl
-and-left false u e = e
-
-and-right : (t u : Bool) → (t && u) ≡ true → u ≡ true
-and-right true u e = e
-and-right false u e = absurd (false≢true e)
-
--- what a test's answer says, where the code goes by its contrary
-pub fails : {f t : Bool} → f ≡ t → not f ≡ true → t ≡ false
-fails {f} e h = sym e ∙ not-true f h
-
-pub holds : {f t : Bool} → f ≡ t → not f ≡ false → t ≡ true
-holds {f} e h = sym e ∙ not-false f h
 
 -- ---- the limits
 

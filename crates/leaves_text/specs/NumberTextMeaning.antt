@@ -12,6 +12,7 @@ use borrow.Author.Tests.{le-leb, leb-true, eqb-true}
 use lib.Dec.{leb, eqb}
 use lib.ListN.{length, take}
 use lib.Seq.{take-take}
+use Rattle.theory.specs.Bools.{both}
 use Rattle.theory.specs.Answer.{answer}
 use Rattle.leaves_text.specs.NumberText.{isDigit, stuck, digits, someDigits, numberText}
 
@@ -75,16 +76,12 @@ total-up : (v : ℕ) (s : List ℕ) → v ≤ total v s
 unfolding total
 total-up v s = let l : v ≤ v * 10 ^ length s = le-mul-of-pos-right v (one-le-pow (length s) 10 (omega arith)) in omega arith
 
-and-both : (t u : Bool) → (t && u) ≡ true → (t ≡ true) × (u ≡ true)
-and-both true u e = (refl, e)
-and-both false u e = absurd (false≢true e)
-
 accepts-on : (s : List ℕ) (p v n b : ℕ) (t : Bool) → more v b ≡ t → cond t (digits (p + 1) (v * 10 + (b - 48)) s) (stuck p) ≡ answer 0 (n ∷ [])
     → (digits (p + 1) (v * 10 + (b - 48)) s ≡ answer 0 (n ∷ []) → v * 10 + (b - 48) ≤ 4294967295 → (allDigits s ≡ true) × (total (v * 10 + (b - 48)) s ≡ n) × (n ≤ 4294967295))
     → (allDigits (b ∷ s) ≡ true) × (total v (b ∷ s) ≡ n) × (n ≤ 4294967295)
 unfolding more allDigits
 accepts-on s p v n b true m e on =
-    let d = and-both (isDigit b) (leb (v * 10 + (b - 48)) 4294967295) m in
+    let d = both (isDigit b) (leb (v * 10 + (b - 48)) 4294967295) m in
     let r = on e (leb-true _ _ (d .1)) in
     (rw (d .0) (r .0), sym (total-more v b s) ∙ r .1, r .2)
 accepts-on s p v n b false m e on = let z : _≡_ {A = ℕ} 8 0 = cc in absurd (omega arith)
@@ -101,7 +98,7 @@ accepted : (s : List ℕ) (p v : ℕ) → allDigits s ≡ true → total v s ≤
 unfolding more allDigits
 accepted [] p v a h = digits-none p v ∙ ap (λ (n : ℕ). answer 0 (n ∷ [])) (sym (total-none v))
 accepted (b ∷ s) p v a h =
-    let d = and-both (isDigit b) (allDigits s) a in
+    let d = both (isDigit b) (allDigits s) a in
     let k : total (v * 10 + (b - 48)) s ≤ 4294967295 = rw (total-more v b s) h in
     let l : v * 10 + (b - 48) ≤ 4294967295 = omega (arith, total-up (v * 10 + (b - 48)) s) in
     digits-cons p v b s

@@ -7,16 +7,13 @@ use native.Mathlib.Omega.{arith}
 use borrow.Author.Tests.{leb-true, leb-false, le-leb}
 use lib.Dec.{leb}
 use Rattle.leaves_utf8.specs.Utf8.{within, isTail, utf8-1, utf8-2, three, utf8-3, four, utf8-4}
+use Rattle.theory.specs.Bools.{both, and-false}
 
 -- ---- a byte within bounds, or not
 
 pub within-yes : (low high x : ℕ) → low ≤ x → x ≤ high → within low high x ≡ true
 unfolding within
 within-yes low high x h k = rw (le-leb low x h, le-leb x high k)
-
-both : (t u : Bool) → (t && u) ≡ true → (t ≡ true) × (u ≡ true)
-both true u e = (refl, e)
-both false u e = absurd (false≢true e)
 
 pub within-no : (low high x : ℕ) → (low ≤ x → x ≤ high → ⊥) → within low high x ≡ false
 unfolding within
@@ -32,10 +29,6 @@ within-no low high x f = go (within low high x) refl
 within-not : (low high x : ℕ) → within low high x ≡ false → low ≤ x → x ≤ high → ⊥
 within-not low high x e h k = false≢true (sym e ∙ within-yes low high x h k)
 
-pub and-not : (t : Bool) → (t && false) ≡ false
-and-not true = refl
-and-not false = refl
-
 -- ---- the alternatives of UTF8-3
 
 module _ (from to low high a b c : ℕ) where
@@ -49,11 +42,11 @@ module _ (from to low high a b c : ℕ) where
 
   three-2nd : (low ≤ b → b ≤ high → ⊥) → three from to low high a b c ≡ false
   unfolding three
-  three-2nd f = rw (within-no low high b f, and-not (within from to a))
+  three-2nd f = rw (within-no low high b f, and-false (within from to a))
 
   three-3rd : isTail c ≡ false → three from to low high a b c ≡ false
   unfolding three
-  three-3rd e = rw e (and-not (within from to a && within low high b))
+  three-3rd e = rw e (and-false (within from to a && within low high b))
 
 rise : {m a : ℕ} → m ≤ a → (a ≡ m → ⊥) → m + 1 ≤ a
 rise {m} {a} h d = omega arith

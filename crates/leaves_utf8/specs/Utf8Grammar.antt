@@ -10,6 +10,7 @@ use borrow.Author.Tests.{le-leb, lt-leb, leb-true}
 use lib.Dec.{leb}
 use Rattle.leaves_utf8.specs.Utf8.{within, isTail, utf8-1, utf8-2, three, utf8-3, four, utf8-4, isUtf8, from-2, from-3, from-4}
 use Rattle.leaves_utf8.specs.Utf8Laws.{is-1, is-2, is-3, is-4}
+use Rattle.theory.specs.Bools.{both, and-false}
 
 -- %xLOW-HIGH
 pub record In (low high x : ℕ) : Type 0 where
@@ -39,10 +40,6 @@ pub data Octets : List ℕ → Type 0 where
 
 -- ---- a range's test, both ways
 
-and-false : (t : Bool) → (t && false) ≡ false
-and-false true = refl
-and-false false = refl
-
 yes : {low high x : ℕ} → In low high x → within low high x ≡ true
 unfolding within
 yes i = rw (le-leb _ _ (i .least), le-leb _ _ (i .most))
@@ -50,10 +47,6 @@ yes i = rw (le-leb _ _ (i .least), le-leb _ _ (i .most))
 over : (low : ℕ) {high x : ℕ} → high < x → within low high x ≡ false
 unfolding within
 over low {high} {x} h = rw (lt-leb x high h) (and-false (leb low x))
-
-both : (t u : Bool) → (t && u) ≡ true → (t ≡ true) × (u ≡ true)
-both true u e = (refl, e)
-both false u e = absurd (false≢true e)
 
 in-range : (low high x : ℕ) → within low high x ≡ true → In low high x
 unfolding within

@@ -6,12 +6,12 @@ use mathlib.Core.Bool.{Bool, true, false}
 use mathlib.Core.Path.{_≡_, refl, ap, _∙_, sym}
 use native.Mathlib.Decide.{decLt}
 use native.Mathlib.Omega.{arith}
-use native.Mathlib.Numerals.{add-one}
 use lib.ListN.{length, getD}
 use lib.Seq.{slice}
 use Rattle.theory.specs.Slices.{cut, none-left}
-use Rattle.leaves_utf8.specs.Utf8Bytes.{within-yes, and-not, yes-1, not-1, not-2, not-3, not-4}
-use Rattle.leaves_utf8.specs.Utf8.{within, isTail, utf8-1, utf8-2, three, utf8-3, four, utf8-4, isUtf8}
+use Rattle.theory.specs.Bools.{and-false}
+use Rattle.leaves_utf8.specs.Utf8Bytes.{within-yes, yes-1, not-1, not-2, not-3, not-4}
+use Rattle.leaves_utf8.specs.Utf8.{within, isTail, utf8-1, utf8-2, utf8-3, four, utf8-4, isUtf8}
 
 -- n is the length of the UTF8-char that stands at place at, of the bytes before to; 0 where none does
 pub record Stepped (s : List ℕ) (at to n : ℕ) : Type 0 where
@@ -233,7 +233,7 @@ module _ (s : List ℕ) (at to : ℕ) (h : at + 4 ≤ to) (k : to ≤ length s) 
   pub no-2nd : 0xC2 ≤ getD s at 0 → getD s at 0 < 0xE0 → isTail (getD s (at + 1) 0) ≡ false → isUtf8 (slice at to s) ≡ false
   unfolding utf8-2
   no-2nd l m e =
-      none (omega arith) (rw e (and-not (within 0xC2 0xDF (getD s at 0))))
+      none (omega arith) (rw e (and-false (within 0xC2 0xDF (getD s at 0))))
       (sym (not-3 (getD s at 0) (getD s (at + 1) 0) (getD s (at + 2) 0) (λ p q. omega arith)))
       (not-4 (getD s at 0) (getD s (at + 1) 0) (getD s (at + 2) 0) (getD s (at + 3) 0) (λ p q. omega arith))
 

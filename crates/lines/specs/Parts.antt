@@ -8,6 +8,7 @@ use mathlib.Core.List.{List}
 use lib.ListN.{length, drop, length-drop}
 use lib.Dec.{leb, eqb}
 use borrow.Author.Tests.{leb-true, eqb-true, le-leb, eq-eqb}
+use Rattle.theory.specs.Bools.{both}
 use Rattle.theory.specs.Fields.{field, field-drop}
 use Rattle.lines.specs.Sections.{sizeOf, kindOf}
 
@@ -20,10 +21,6 @@ unfoldable pub partEnd : ℕ → List ℕ → ℕ → ℕ
 partEnd kind b at = cond (isPart kind (drop at b)) (at + sizeOf (drop at b)) 0
 
 -- ---- laws
-
-both : (a b : Bool) → (a && b) ≡ true → (a ≡ true) × (b ≡ true)
-both true b e = (refl, e)
-both false b e = let z : _≡_ {A = ℕ} 0 1 = cc in absurd (omega arith)
 
 record Part (kind : ℕ) (s : List ℕ) : Type 0 where
   head : 6 ≤ length s

@@ -13,14 +13,11 @@ use lib.ListN.{length, getD, set, take, drop, length-append, length-drop, List·
 use lib.Seq.{slice, paste, take-nil, drop-drop, drop-at, take-paste, take-append-le, length-take-le, take-take, getD-set-same, getD-set-other, getD-append-seam}
 use lib.Dec.{leb, eqb}
 use borrow.Author.Tests.{leb-true, eqb-true, le-leb, lt-leb, eq-eqb, ne-eqb}
+use Rattle.theory.specs.Bools.{both}
 use Rattle.theory.specs.Fields.{field, field-drop}
 use Rattle.lines.specs.Sections.{sizeOf, kindOf, whole, streamOf, sectionSize, ahead, sectionsF, sections, few, streamsIn, streamAt, cutOut, Cuts, Apart}
 
 -- ---- a section at the front
-
-both : (a b : Bool) → (a && b) ≡ true → (a ≡ true) × (b ≡ true)
-both true b e = (refl, e)
-both false b e = let z : _≡_ {A = ℕ} 0 1 = cc in absurd (omega arith)
 
 pub record Whole (s : List ℕ) : Type 0 where
   pub head : 6 ≤ length s

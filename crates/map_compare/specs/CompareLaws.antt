@@ -2,18 +2,17 @@
 use mathlib.Core.Path.{_≡_, refl, sym, ap, _∙_}
 use mathlib.Core.Logic.{_≢_}
 use Prim.Native.Nat.{ℕ, _+_, _-_, _*_, _/_, _%_, _≤_, _<_}
-use native.Mathlib.Nat.{add-zero}
 use native.Mathlib.Omega.{arith}
 use mathlib.Core.Bool.{Bool, true, false, not, _&&_, _||_, cond}
-use mathlib.Core.List.{List, [], _∷_, map}
+use mathlib.Core.List.{List, [], _∷_}
 use lib.ListN.{length}
 use lib.Dec.{T, ltb, eqb}
 use mir.Facts.{ltb-yes, ltb-no}
-use borrow.Author.Tests.{not-true, not-false}
+use Rattle.theory.specs.Bools.{fails, holds}
 use Rattle.theory.specs.Answer.{Answer, answer}
 use Rattle.theory.specs.RunsTools.{cond-yes, cond-no, cond-lt, cond-ge}
-use Rattle.map_rules.specs.Table.{Row, Ordered, Outcome, refusedBy, stored, ifRoom, namesFit, wellFormed}
-use Rattle.map_rules.specs.Memory.{sameValue, knownValue, width, rowAt, rows, rowsFrom, tableFits}
+use Rattle.map_rules.specs.Table.{Row, Outcome, refusedBy, stored, ifRoom, namesFit, wellFormed}
+use Rattle.map_rules.specs.Memory.{sameValue, knownValue, width, rows, rowsFrom, tableFits}
 use Rattle.map_rules.specs.MemoryLaws.{length-rows}
 use Rattle.map_rules.specs.Outcomes.{Lent, table-lent, checked-ordered}
 use Rattle.map_compare_rules.specs.Compare.{Difference, Stretches, compared}
@@ -24,7 +23,7 @@ use Rattle.map_compare.specs.Compare.{Needed}
 use Rattle.map_compare_walk.specs.declared.walk.Position.{Position}
 use Rattle.map_compare_walk.specs.declared.walk.Stretch.{Stretch}
 use Rattle.map_compare_walk.specs.declared.walk.Step.{Step}
-use Rattle.map_compare_walk.specs.Walk.{headAt, headed, from, ahead, InOrder, Sound, Ready, More, Stepped, stretchOf, told, toldOf, tellsOf, writtenOf}
+use Rattle.map_compare_walk.specs.Walk.{headed, from, ahead, InOrder, Ready, More, Stepped, stretchOf, told, toldOf, tellsOf, writtenOf}
 use Rattle.map_compare_walk.specs.WalkLaws.{from-end, headed-zero, row-not-empty}
 
 -- ---- the walk from its start to its end
@@ -185,12 +184,6 @@ false-T b e = rw e tt
 and-both : (a b : Bool) → a && b ≡ true → (a ≡ true) × (b ≡ true)
 and-both true b e = (refl, e)
 and-both false b e = absurd (let z : _≡_ {A = ℕ} 0 1 = cc in omega arith)
-
-fails : {f t : Bool} → f ≡ t → not f ≡ true → t ≡ false
-fails {f} e h = sym e ∙ not-true f h
-
-holds : {f t : Bool} → f ≡ t → not f ≡ false → t ≡ true
-holds {f} e h = sym e ∙ not-false f h
 
 module _ (left n right m names long : ℕ) where
   -- what the first table's memory gives, the second's, and the list's

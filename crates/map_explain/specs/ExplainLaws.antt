@@ -13,6 +13,7 @@ use lib.ListN.{length, getD, getElem?}
 use lib.Dec.{T, ltb, eqb, eqb-refl, lt→ltb}
 use lib.Arith.{le→nltb}
 use mir.Facts.{eqb-yes, ltb-yes}
+use borrow.Author.Tests.{not-true, not-false}
 use Rattle.theory.specs.Answer.{Answer, answer}
 use Rattle.theory.specs.Runs.{Interval}
 use Rattle.theory.specs.RunsTools.{cond-lt, cond-ge, cond-yes, cond-no, T-fst, T-snd, T-nor-l, none-some, some-same}
@@ -257,14 +258,6 @@ module _ {t : List ℕ} {used i m g u : ℕ} (p : Placed t used i m g u) where
 
 false-T : (b : Bool) → b ≡ false → T (not b)
 false-T b e = rw e tt
-
-not-true : (b : Bool) → not b ≡ true → b ≡ false
-not-true true e = sym e
-not-true false e = refl
-
-not-false : (b : Bool) → not b ≡ false → b ≡ true
-not-false true e = refl
-not-false false e = sym e
 
 module _ (t : List ℕ) (used names i m : ℕ) where
   pub explained-unfit : {b : Bool} → b ≡ tableFits (length t) used && namesFit names → not b ≡ true

@@ -10,6 +10,7 @@ use mathlib.Core.List.{List, [], _∷_}
 use lib.ListN.{length, getD}
 use lib.Dec.{T, ltb, leb, eqb}
 use borrow.Author.Tests.{lt-ltb, le-ltb, le-leb, lt-leb, leb-true, ltb-true, eq-eqb, ne-eqb, eqb-true, not-true, not-false}
+use Rattle.theory.specs.Bools.{and-left, and-right}
 use Rattle.theory.specs.Answer.{answer}
 use Rattle.leaves.specs.Refusal.{refused}
 use Rattle.leaves.specs.declared.refusal.Refusal.the-variants.{IllFormed, BadMemory}
@@ -38,20 +39,12 @@ pub fit-used : (bytes used : ℕ) → bytes % 8 ≡ 0 → bytes / 8 ≤ 65536 �
 unfolding pointsFit roomFits
 fit-used bytes used e h = rw (eq-eqb (bytes % 8) 0 e, le-leb (bytes / 8) 65536 h) refl
 
-and-fst : (a b : Bool) → (a && b) ≡ true → a ≡ true
-and-fst true b e = refl
-and-fst false b e = e
-
-and-snd : (a b : Bool) → (a && b) ≡ true → b ≡ true
-and-snd true b e = e
-and-snd false b e = let z : _≡_ {A = ℕ} 0 1 = cc in absurd (omega arith)
-
 -- a table that fits has its entries in use within its bytes
 pub fit-bytes : (bytes used : ℕ) → pointsFit bytes used ≡ true → used * 8 ≤ bytes
 unfolding pointsFit roomFits
 fit-bytes bytes used e =
-    let r : roomFits (bytes / 8) used ≡ true = and-snd (eqb (bytes % 8) 0) (roomFits (bytes / 8) used) e in
-    omega (arith, leb-true used (bytes / 8) (and-snd (leb (bytes / 8) 65536) (leb used (bytes / 8)) r))
+    let r : roomFits (bytes / 8) used ≡ true = and-right (eqb (bytes % 8) 0) (roomFits (bytes / 8) used) e in
+    omega (arith, leb-true used (bytes / 8) (and-right (leb (bytes / 8) 65536) (leb used (bytes / 8)) r))
 
 -- ---- the check
 
@@ -206,8 +199,8 @@ pub record Held (t : List ℕ) (used place instrument : ℕ) : Type 0 where
 pub held : (t : List ℕ) (used place instrument : ℕ) → holdsAt t used place instrument ≡ true → Held t used place instrument
 unfolding holdsAt
 held t used place instrument e = record {
-  within = ltb-true place used (and-fst (ltb place used) (eqb (entryAt t place .instrument) instrument) e);
-  own = eqb-true (entryAt t place .instrument) instrument (and-snd (ltb place used) (eqb (entryAt t place .instrument) instrument) e);
+  within = ltb-true place used (and-left (ltb place used) (eqb (entryAt t place .instrument) instrument) e);
+  own = eqb-true (entryAt t place .instrument) instrument (and-right (ltb place used) (eqb (entryAt t place .instrument) instrument) e);
 }
 
 pub not-held : (t : List ℕ) (used place instrument : ℕ) → holdsAt t used place instrument ≡ false → place < used → entryAt t place .instrument ≢ instrument

@@ -1,13 +1,13 @@
 -- A mapping call that stores is an insert of the trace of calls, with the name's number and the names known once it has joined;
 -- any other leaves the table as it was. Assumes nothing.
 use mathlib.Core.Path.{_≡_, refl, sym, ap, _∙_, subst}
-use mathlib.Core.Logic.{_≢_, _⊎_, inl, inr}
+use mathlib.Core.Logic.{_≢_}
 use Prim.Native.Nat.{ℕ, _+_, _%_, _≤_, _<_}
 use native.Mathlib.Omega.{arith}
 use mathlib.Core.Bool.{Bool, true, false, _&&_, cond}
 use mathlib.Core.List.{List, [], _∷_}
 use lib.ListN.{length}
-use lib.Dec.{T, ltb, leb, eqb, eqb-refl, lt→ltb}
+use lib.Dec.{T, ltb, eqb, eqb-refl, lt→ltb}
 use borrow.Author.Tests.{lt-ltb, le-ltb, le-leb, ltb-true, ltb-false, eqb-false, ne-eqb}
 use mir.Facts.{ltb-yes}
 use Rattle.theory.specs.Answer.{Answer}
@@ -19,8 +19,8 @@ use Rattle.leaves_names.specs.Names.{listFits, wellFormed as wellFormedNames, i
 use Rattle.leaves_names.specs.NamesLaws.{Memory, memory}
 use Rattle.leaves_names.specs.declared.names.Naming.{Naming}
 use Rattle.leaves_names.specs.declared.names.Naming.the-variants.{Old, New, Refused as NotNamed}
-use Rattle.map_rules.specs.Table.{Row, Ordered, Outcome, refusedBy, stored, nowStored, ifRoom, roomFits, namesFit, wellFormed, ordered, allKnown, insertRows, entered, inserted}
-use Rattle.map_rules.specs.Memory.{width, sameValue, knownValue, rows, roomOf, tableFits, insertOutcome, outcomeAnswer, usedAfter, Gives}
+use Rattle.map_rules.specs.Table.{Row, Outcome, refusedBy, stored, roomFits, namesFit, wellFormed, ordered, allKnown, entered, inserted}
+use Rattle.map_rules.specs.Memory.{width, sameValue, knownValue, rows, roomOf, tableFits, insertOutcome, outcomeAnswer, Gives}
 use Rattle.map_rules.specs.MemoryLaws.{length-rows}
 use Rattle.map_rules.specs.Outcomes.{Lent, table-lent}
 use Rattle.map_rules.specs.Trace.{usedTold, doneTold, Trace, insert}
@@ -30,7 +30,8 @@ use Rattle.map_point.specs.Points as points
 use Rattle.map_point.specs.Points.{rising, setEntry, pointsFit}
 use Rattle.map_point.specs.PointsLaws.{set-rising, set-known}
 use Rattle.map_record.specs.Mapping.{pointWanted, pointJudged, pointOutcome, Wanted, nothing, refuses, stores, numberingIn, numbered, timeWanted, timeJudged, mappingRow, timeOutcome, timeTable, timeUsed, timeRows, outcomeThen, timeAnswer, namesThen}
-use Rattle.map_record.specs.MappingLaws.{two, and-fst, and-snd, room}
+use Rattle.theory.specs.Bools.{and-left, and-right}
+use Rattle.map_record.specs.MappingLaws.{room}
 
 -- ---- what a call that stores has passed
 
@@ -130,11 +131,11 @@ passed t used bytes ends names name-bytes rec h =
     let listOk = wellFormedNames bytes ends names name-bytes in
     let p = chosen (fit && lent) (cond (rowsOk && listOk) w (refuses (refused IllFormed))) (refused BadMemory) h in
     let q = chosen (rowsOk && listOk) w (refused IllFormed) (p .1) in
-    let m : Memory (length bytes) (length ends) names name-bytes = memory _ _ _ _ (and-snd fit lent (p .0)) in
+    let m : Memory (length bytes) (length ends) names name-bytes = memory _ _ _ _ (and-right fit lent (p .0)) in
     let k = wanted-known bytes ends names name-bytes (nameIn rec) (mappedIn rec) (omega (arith, m .held, m .few)) (q .1) in
     record {
-      fits = and-fst fit lent (p .0);
-      formed = and-fst rowsOk listOk (q .0);
+      fits = and-left fit lent (p .0);
+      formed = and-left rowsOk listOk (q .0);
       forward = k .0;
       known = k .1;
       few = k .2;
@@ -151,9 +152,9 @@ time-naming t used bytes ends names name-bytes rec h =
     let listOk = wellFormedNames bytes ends names name-bytes in
     let p = chosen (fit && lent) (cond (rowsOk && listOk) w (refuses (refused IllFormed))) (refused BadMemory) h in
     let q = chosen (rowsOk && listOk) w (refused IllFormed) (p .1) in
-    let m : Memory (length bytes) (length ends) names name-bytes = memory _ _ _ _ (and-snd fit lent (p .0)) in
+    let m : Memory (length bytes) (length ends) names name-bytes = memory _ _ _ _ (and-right fit lent (p .0)) in
     let k = wanted-known bytes ends names name-bytes (nameIn rec) (mappedIn rec) (omega (arith, m .held, m .few)) (q .1) in
-    named-so bytes ends names name-bytes (nameIn rec) (and-snd fit lent (p .0)) (and-snd rowsOk listOk (q .0)) (k .3) ∙ k .4
+    named-so bytes ends names name-bytes (nameIn rec) (and-right fit lent (p .0)) (and-right rowsOk listOk (q .0)) (k .3) ∙ k .4
 
 -- ---- and is an insert
 
@@ -312,12 +313,12 @@ point-passed t used bytes ends names name-bytes rec h =
     let listOk = wellFormedNames bytes ends names name-bytes in
     let p = chosen (fit && lent) (cond (entriesOk && listOk) w (refuses (refused IllFormed))) (refused BadMemory) h in
     let q = chosen (entriesOk && listOk) w (refused IllFormed) (p .1) in
-    let m : Memory (length bytes) (length ends) names name-bytes = memory _ _ _ _ (and-snd fit lent (p .0)) in
+    let m : Memory (length bytes) (length ends) names name-bytes = memory _ _ _ _ (and-right fit lent (p .0)) in
     let k = point-known bytes ends names name-bytes (nameIn rec) (mappedIn rec) (omega (arith, m .held, m .few)) (q .1) in
     record {
-      formed = and-fst entriesOk listOk (q .0);
+      formed = and-left entriesOk listOk (q .0);
       known = k .0;
-      naming-is = named-so bytes ends names name-bytes (nameIn rec) (and-snd fit lent (p .0)) (and-snd entriesOk listOk (q .0)) (k .1) ∙ k .2;
+      naming-is = named-so bytes ends names name-bytes (nameIn rec) (and-right fit lent (p .0)) (and-right entriesOk listOk (q .0)) (k .1) ∙ k .2;
     }
 
 entries-more : (names more : ℕ) (xs : List Entry) → names ≤ more → T (points.allKnown names xs) → T (points.allKnown more xs)

@@ -1,29 +1,28 @@
 -- What the steps of the mapping call on a table over time show. Assumes nothing.
 use mathlib.Core.Path.{_≡_, refl, sym, ap, _∙_}
 use mathlib.Core.Logic.{_≢_}
-use Prim.Native.Nat.{ℕ, _+_, _*_, _≤_, _<_}
+use Prim.Native.Nat.{ℕ, _*_, _≤_, _<_}
 use native.Mathlib.Omega.{arith}
-use mathlib.Core.Bool.{Bool, true, false, not, _&&_, cond}
+use mathlib.Core.Bool.{Bool, true, false, not}
 use mathlib.Core.List.{List, [], _∷_}
 use lib.ListN.{length}
 use lib.Seq.{slice}
-use lib.Dec.{ltb, eqb}
 use borrow.Author.Tests.{lt-ltb, le-ltb, eq-eqb, ne-eqb}
 use Rattle.theory.specs.Answer.{Answer, answer}
 use Rattle.leaves.specs.Refusal.{refused, numberOf}
 use Rattle.leaves.specs.declared.refusal.Refusal.{Refusal}
 use Rattle.leaves.specs.declared.refusal.Refusal.the-variants.{Reversed, BadName, IllFormed, BadMemory}
-use Rattle.leaves.specs.Frame.{Mapped, other, symbol, notOne, mappedIn, mappedOf, mappingOf, nameIn}
+use Rattle.leaves.specs.Frame.{Mapped, symbol, mappedIn, mappedOf, mappingOf, nameIn}
 use Rattle.leaves.specs.FrameLaws.{mapped-other, mapped-refused}
 use Rattle.leaves.specs.RefusalLaws.{refused-not-done}
 use Rattle.leaves.specs.declared.frame.Mapping.{Mapping}
 use Rattle.leaves.specs.declared.frame.Mapping.the-variants.{Other, Symbol, Refused as NotRead}
 use Rattle.leaves_names.specs.Names.{listFits, wellFormed as wellFormedNames, isName}
-use Rattle.leaves_names.specs.NamesLaws.{holds, fails}
+use Rattle.theory.specs.Bools.{holds, fails}
 use Rattle.leaves_names.specs.declared.names.Naming.{Naming}
 use Rattle.leaves_names.specs.declared.names.Naming.the-variants.{Old, New, Refused as NotNamed}
 use Rattle.map_rules.specs.Table.{Row, Outcome, refusedBy, stored, Ordered, wellFormed, ifRoom, insertRows}
-use Rattle.map_rules.specs.Memory.{sameValue, knownValue, width, rows, roomOf, tableFits, memoryAfter, outcomeAnswer, Gives}
+use Rattle.map_rules.specs.Memory.{sameValue, knownValue, width, rows, roomOf, tableFits, outcomeAnswer, Gives}
 use Rattle.map_rules.specs.Outcomes.{Lent, table-lent, checked-ordered}
 use Rattle.map_record.specs.declared.mapping.Plan.{Plan}
 use Rattle.map_record.specs.declared.mapping.Plan.the-variants.{Nothing, Store, Refuse}

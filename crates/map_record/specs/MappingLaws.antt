@@ -1,18 +1,19 @@
 -- What the steps of the mapping call show. Assumes nothing.
 use mathlib.Core.Path.{_≡_, refl, sym, ap, _∙_}
 use mathlib.Core.Logic.{_⊎_, inl, inr}
-use Prim.Native.Nat.{ℕ, zero, suc, _+_, _-_, _*_, _≤_, _<_}
+use Prim.Native.Nat.{ℕ, _+_, _-_, _*_, _≤_, _<_}
 use native.Mathlib.Omega.{arith}
 use mathlib.Core.Bool.{Bool, true, false, not, _&&_, cond, false≢true}
 use mathlib.Core.List.{List, [], _∷_}
-use lib.ListN.{length, getD, take, drop, set, length-drop}
+use lib.ListN.{length, take, drop, set}
 use lib.Seq.{slice, take-length, length-slice}
 use lib.Dec.{T, leb, ltb, eqb}
 use borrow.Author.Tests.{leb-true, ltb-false}
+use Rattle.theory.specs.Bools.{and-left, and-right}
 use Rattle.theory.specs.Answer.{Answer, answer}
 use Rattle.theory.specs.Fields.{field}
 use Rattle.leaves.specs.Refusal.{refused, numberOf}
-use Rattle.leaves.specs.declared.refusal.Refusal.the-variants.{NoRoom, NoNameRoom, BadName, IllFormed, BadMemory, Damaged}
+use Rattle.leaves.specs.declared.refusal.Refusal.the-variants.{NoRoom, NoNameRoom, BadName, IllFormed, BadMemory}
 use Rattle.leaves.specs.declared.refusal.Refusal.{Refusal}
 use Rattle.leaves.specs.Frame.{Read, whole, ended, damaged, Mapped, other, symbol, notOne, mappingStart, ofKind, oneRecord, frameAt, mappedIn, mappedOf, mappingOf, nameIn}
 use Rattle.leaves.specs.FrameLaws.{mapped-other, mapped-symbol, mapped-refused}
@@ -21,13 +22,13 @@ use Rattle.leaves.specs.declared.frame.Mapping.{Mapping}
 use Rattle.leaves.specs.declared.frame.Mapping.the-variants.{Other, Symbol, Refused as NotRead}
 use Rattle.leaves_names.specs.Names.{listFits, wellFormed as wellFormedNames, namesOf, least, isName, nameWritten, hasRoom as hasNameRoom}
 use Rattle.leaves_names.specs.declared.names.Naming.the-variants.{New, Refused as NotNamed}
-use Rattle.leaves_names.specs.NamesLaws.{holds, fails, Memory, memory, Ordered as OrderedNames, formed, ordered, numbered-old, numbered-fresh}
+use Rattle.leaves_names.specs.NamesLaws.{memory, Ordered as OrderedNames, formed, ordered, numbered-old, numbered-fresh}
 use Rattle.map_point.specs.Entries.{entries}
 use Rattle.map_point.specs.declared.entries.Entry.{Entry}
-use Rattle.map_point.specs.Points.{rising, allKnown, wellFormed, setEntry, pointsFit, hasRoom, storedAnswer, storedBytes}
+use Rattle.map_point.specs.Points.{rising, allKnown, wellFormed, setEntry, pointsFit, hasRoom, storedAnswer}
 use Rattle.map_point.specs.PointsReads.{fit-bytes}
 use Rattle.map_point.specs.PointsSteps.{Stores}
-use Rattle.map_record.specs.Mapping.{Wanted, nothing, refuses, stores, numberingIn, numbered, pointWanted, pointJudged, pointOutcome, pointJoins, pointTable, pointUsed, pointEntries, pointAnswer, namesThen, nameBytesThen, bytesThen, endsThen, planOf}
+use Rattle.map_record.specs.Mapping.{Wanted, nothing, refuses, stores, numberingIn, numbered, pointWanted, pointJudged, pointJoins, pointTable, pointUsed, pointEntries, pointAnswer, namesThen, nameBytesThen, bytesThen, endsThen}
 use Rattle.map_rules.specs.Table.{Ordered}
 use Rattle.map_rules.specs.Memory.{width, rows, roomOf}
 use Rattle.map_record.specs.declared.mapping.Plan.{Plan}
@@ -71,14 +72,6 @@ ReadyInterval t used bytes ends names name-bytes rec (Store instrument start end
 
 -- ---- the number of a valid name
 
-pub and-fst : (a b : Bool) → (a && b) ≡ true → a ≡ true
-and-fst true b e = refl
-and-fst false b e = e
-
-pub and-snd : (a b : Bool) → (a && b) ≡ true → b ≡ true
-and-snd true b e = e
-and-snd false b e = let z : _≡_ {A = ℕ} 0 1 = cc in absurd (omega arith)
-
 -- what room for one name more gives
 pub record Room (bytes places names name-bytes size : ℕ) : Type 0 where
   pub few : names + 1 ≤ 4096
@@ -93,13 +86,13 @@ room bytes places names name-bytes size e =
     let b = leb (name-bytes + size) 65536 in
     let c = leb (names + 1) places in
     let d = leb (name-bytes + size) bytes in
-    let abc : (a && b && c) ≡ true = and-fst (a && b && c) d e in
-    let ab : (a && b) ≡ true = and-fst (a && b) c abc in
+    let abc : (a && b && c) ≡ true = and-left (a && b && c) d e in
+    let ab : (a && b) ≡ true = and-left (a && b) c abc in
     record {
-      few = leb-true (names + 1) 4096 (and-fst a b ab);
-      small = leb-true (name-bytes + size) 65536 (and-snd a b ab);
-      place = omega (arith, leb-true (names + 1) places (and-snd (a && b) c abc));
-      inside = leb-true (name-bytes + size) bytes (and-snd (a && b && c) d e);
+      few = leb-true (names + 1) 4096 (and-left a b ab);
+      small = leb-true (name-bytes + size) 65536 (and-right a b ab);
+      place = omega (arith, leb-true (names + 1) places (and-right (a && b) c abc));
+      inside = leb-true (name-bytes + size) bytes (and-right (a && b && c) d e);
     }
 
 -- where a name lies in a record's bytes
@@ -239,7 +232,7 @@ module _ (bytes ends rec : List ℕ) (names name-bytes : ℕ) {a : Mapping} (e :
 
 formed-rising : (names : ℕ) (t : List ℕ) (used : ℕ) → wellFormed names (entries t used) ≡ true → T (rising (entries t used))
 unfolding wellFormed
-formed-rising names t used e = rw (and-fst (rising (entries t used)) (allKnown names (entries t used)) e) tt
+formed-rising names t used e = rw (and-left (rising (entries t used)) (allKnown names (entries t used)) e) tt
 
 pub ready-point : (t : List ℕ) (used : ℕ) (bytes ends : List ℕ) (names name-bytes : ℕ) (rec : List ℕ) (p : Plan)
     → pointsFit (length t) used ≡ true → wellFormed names (entries t used) ≡ true → Ready bytes ends names name-bytes rec p → ReadyPoint t used bytes ends names name-bytes rec p

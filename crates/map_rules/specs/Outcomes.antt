@@ -9,8 +9,9 @@ use mathlib.Core.List.{List, [], _∷_}
 use lib.ListN.{length}
 use lib.Dec.{T, leb, eqb, eqb-refl, not-T}
 use lib.Arith.{lt→nleb}
-use borrow.Author.Tests.{le-leb, eq-eqb, eqb-true, not-true, not-false}
+use borrow.Author.Tests.{le-leb, eq-eqb, eqb-true}
 use mir.Facts.{eqb-yes}
+use Rattle.theory.specs.Bools.{fails, holds}
 use Rattle.theory.specs.Answer.{Answer, answer}
 use Rattle.theory.specs.Fields.{Bytes}
 use Rattle.theory.specs.RunsTools.{cond-lt, cond-ge, cond-yes, cond-no, T-and}
@@ -21,13 +22,6 @@ use Rattle.map_rules.specs.MemoryLaws.{length-rows, written-same}
 use Rattle.map_rules.specs.Pieces.{symbols}
 
 -- ---- the memory
-
--- what a test's answer says, where the code goes by its contrary
-fails : {f t : Bool} → f ≡ t → not f ≡ true → t ≡ false
-fails {f} e h = sym e ∙ not-true f h
-
-passes : {f t : Bool} → f ≡ t → not f ≡ false → t ≡ true
-passes {f} e h = sym e ∙ not-false f h
 
 true-T : (b : Bool) → b ≡ true → T b
 true-T b e = rw e tt
@@ -103,7 +97,7 @@ module _ (long used names : ℕ) where
   memory-rest e f = sym (ap (λ (c : Bool). c && leb names 4096) (sym e ∙ f))
 
   pub memory-lent : {b : Bool} → b ≡ tableFits long used && namesFit names → not b ≡ false → Lent long used
-  memory-lent e f = table-lent long used (and-true (tableFits long used) (namesFit names) (passes e f) .0)
+  memory-lent e f = table-lent long used (and-true (tableFits long used) (namesFit names) (holds e f) .0)
 
   -- what the code asks of it
   pub memory-holds : {b : Bool} → b ≡ tableFits long used && namesFit names → not b ≡ false → used * width ≤ long
@@ -125,7 +119,7 @@ module _ (t : List ℕ) (used names : ℕ) where
   checked-on : {b : Bool} → b ≡ tableFits (length t) used && namesFit names → not b ≡ false
       → checkAnswer t used names ≡ cond (wellFormed sameValue knownValue names (rows t used)) (answer 0 []) (answer 14 [])
   unfolding checkAnswer
-  checked-on e f = cond-yes (tableFits (length t) used && namesFit names) _ _ (true-T _ (passes e f))
+  checked-on e f = cond-yes (tableFits (length t) used && namesFit names) _ _ (true-T _ (holds e f))
 
   pub checked-yes : {b w : Bool} → b ≡ tableFits (length t) used && namesFit names → not b ≡ false
       → w ≡ wellFormed sameValue knownValue names (rows t used) → w ≡ true → answer 0 [] ≡ checkAnswer t used names
@@ -207,7 +201,7 @@ module _ (t : List ℕ) (used names : ℕ) (n : Row ℕ) where
       → i ≡ cond (wellFormed sameValue knownValue names (rows t used)) (entered sameValue knownValue names (length t / width) n (rows t used)) (refusedBy 14)
   unfolding insertOutcome inserted
   fit e f =
-      let p : (tableFits (length t) used ≡ true) × (namesFit names ≡ true) = and-true (tableFits (length t) used) (namesFit names) (passes e f) in
+      let p : (tableFits (length t) used ≡ true) × (namesFit names ≡ true) = and-true (tableFits (length t) used) (namesFit names) (holds e f) in
       let l : Lent (length t) used = table-lent (length t) used (p .0) in
       let g : T (roomFits (length t / width) used) = good-room (length t / width) used (record { limit = l .limit; in-use = l .in-use }) in
       ap (λ (q : Bool). cond q (inserted sameValue knownValue names (length t / width) n (rows t used)) (refusedBy 15)) (eq-eqb (length t % width) 0 (l .even))

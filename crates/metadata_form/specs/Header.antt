@@ -1,13 +1,14 @@
 -- The form of a metadata in lent memory (RULES, Numbers the desk lives by: 15), and its value. A set is one word an entry, a mapping
 -- two (name, number of intervals), an interval three (start, end, symbol).
-use mathlib.Core.Path.{_≡_, refl}
+use mathlib.Core.Path.{_≡_}
 use Prim.Native.Nat.{ℕ, _*_, _/_, _%_, _≤_, min, max}
 use native.Mathlib.Omega.{arith}
-use mathlib.Core.Bool.{Bool, true, false, _&&_}
+use mathlib.Core.Bool.{Bool, true, _&&_}
 use mathlib.Core.List.{List, [], _∷_}
 use lib.ListN.{length, take}
 use lib.Dec.{leb, eqb}
 use borrow.Author.Tests.{leb-true, eqb-true}
+use Rattle.theory.specs.Bools.{and-left, and-right}
 use Rattle.theory.specs.Answer.{bit}
 use Rattle.metadata_rules.specs.Metadata.{Metadata, Fields, sameSchema}
 use Rattle.metadata_rules.specs.Words.{before, mappingsFrom}
@@ -139,15 +140,6 @@ outcomeFits c l =
 
 -- ---- laws
 
-both-left : (a b : Bool) → (a && b) ≡ true → a ≡ true
-both-left true b e = refl
-both-left false b e = e
-
-both-right : (a b : Bool) → (a && b) ≡ true → b ≡ true
-both-right true b e = e
-both-right false true e = refl
-both-right false false e = e
-
 -- what a test of the form says, as facts
 pub record Fitting (h : Header) (l : Lengths) : Type 0 where
   pub symbols-lent : l .symbols ≤ 4096
@@ -165,27 +157,27 @@ pub record Fitting (h : Header) (l : Lengths) : Type 0 where
 pub fitting : (h : Header) (l : Lengths) → lengthsFit h l ≡ true → Fitting h l
 unfolding lengthsFit setFits
 fitting h l e0 =
-    let a0 = both-left (setFits (h .symbols) (l .symbols)) _ e0 in
-    let e1 = both-right (setFits (h .symbols) (l .symbols)) _ e0 in
-    let a1 = both-left (setFits (h .partial) (l .partial)) _ e1 in
-    let e2 = both-right (setFits (h .partial) (l .partial)) _ e1 in
-    let a2 = both-left (setFits (h .«not_found») (l .«not_found»)) _ e2 in
-    let e3 = both-right (setFits (h .«not_found») (l .«not_found»)) _ e2 in
-    let a3 = eqb-true (l .mappings % 2) 0 (both-left (eqb (l .mappings % 2) 0) _ e3) in
-    let e4 = both-right (eqb (l .mappings % 2) 0) _ e3 in
-    let a4 = leb-true (l .mappings / 2) 4096 (both-left (leb (l .mappings / 2) 4096) _ e4) in
-    let e5 = both-right (leb (l .mappings / 2) 4096) _ e4 in
-    let a5 = leb-true (h .mappings) (l .mappings / 2) (both-left (leb (h .mappings) (l .mappings / 2)) _ e5) in
-    let e6 = both-right (leb (h .mappings) (l .mappings / 2)) _ e5 in
-    let a6 = eqb-true (l .intervals % 3) 0 (both-left (eqb (l .intervals % 3) 0) _ e6) in
-    let a7 = leb-true (l .intervals / 3) 65536 (both-right (eqb (l .intervals % 3) 0) _ e6) in
+    let a0 = and-left (setFits (h .symbols) (l .symbols)) _ e0 in
+    let e1 = and-right (setFits (h .symbols) (l .symbols)) _ e0 in
+    let a1 = and-left (setFits (h .partial) (l .partial)) _ e1 in
+    let e2 = and-right (setFits (h .partial) (l .partial)) _ e1 in
+    let a2 = and-left (setFits (h .«not_found») (l .«not_found»)) _ e2 in
+    let e3 = and-right (setFits (h .«not_found») (l .«not_found»)) _ e2 in
+    let a3 = eqb-true (l .mappings % 2) 0 (and-left (eqb (l .mappings % 2) 0) _ e3) in
+    let e4 = and-right (eqb (l .mappings % 2) 0) _ e3 in
+    let a4 = leb-true (l .mappings / 2) 4096 (and-left (leb (l .mappings / 2) 4096) _ e4) in
+    let e5 = and-right (leb (l .mappings / 2) 4096) _ e4 in
+    let a5 = leb-true (h .mappings) (l .mappings / 2) (and-left (leb (h .mappings) (l .mappings / 2)) _ e5) in
+    let e6 = and-right (leb (h .mappings) (l .mappings / 2)) _ e5 in
+    let a6 = eqb-true (l .intervals % 3) 0 (and-left (eqb (l .intervals % 3) 0) _ e6) in
+    let a7 = leb-true (l .intervals / 3) 65536 (and-right (eqb (l .intervals % 3) 0) _ e6) in
     record {
-      symbols-lent = leb-true (l .symbols) 4096 (both-left (leb (l .symbols) 4096) _ a0);
-      symbols-used = leb-true (h .symbols) (l .symbols) (both-right (leb (l .symbols) 4096) _ a0);
-      partial-lent = leb-true (l .partial) 4096 (both-left (leb (l .partial) 4096) _ a1);
-      partial-used = leb-true (h .partial) (l .partial) (both-right (leb (l .partial) 4096) _ a1);
-      not-found-lent = leb-true (l .«not_found») 4096 (both-left (leb (l .«not_found») 4096) _ a2);
-      not-found-used = leb-true (h .«not_found») (l .«not_found») (both-right (leb (l .«not_found») 4096) _ a2);
+      symbols-lent = leb-true (l .symbols) 4096 (and-left (leb (l .symbols) 4096) _ a0);
+      symbols-used = leb-true (h .symbols) (l .symbols) (and-right (leb (l .symbols) 4096) _ a0);
+      partial-lent = leb-true (l .partial) 4096 (and-left (leb (l .partial) 4096) _ a1);
+      partial-used = leb-true (h .partial) (l .partial) (and-right (leb (l .partial) 4096) _ a1);
+      not-found-lent = leb-true (l .«not_found») 4096 (and-left (leb (l .«not_found») 4096) _ a2);
+      not-found-used = leb-true (h .«not_found») (l .«not_found») (and-right (leb (l .«not_found») 4096) _ a2);
       maps-lent = omega arith;
       maps-used = omega arith;
       maps-even = omega arith;
@@ -202,6 +194,6 @@ pub metadata-fitting : (h : Header) (l : Lengths) (m : List ℕ) → metadataFit
 unfolding metadataFits
 metadata-fitting h l m e =
     record {
-      fit = fitting h l (both-left (lengthsFit h l) _ e);
-      sum = leb-true (before m (h .mappings)) (l .intervals / 3) (both-right (lengthsFit h l) _ e);
+      fit = fitting h l (and-left (lengthsFit h l) _ e);
+      sum = leb-true (before m (h .mappings)) (l .intervals / 3) (and-right (lengthsFit h l) _ e);
     }

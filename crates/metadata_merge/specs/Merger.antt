@@ -1,7 +1,7 @@
 -- Opening, merging, finishing: what each answers, and what each lent list then holds (RULES, Merging metadata).
 use mathlib.Core.Path.{_≡_, refl, sym, ap, _∙_, subst}
 use mathlib.Core.Logic.{_≢_}
-use Prim.Native.Nat.{ℕ, zero, suc, _+_, _-_, _*_, _/_, _≤_, _<_}
+use Prim.Native.Nat.{ℕ, zero, suc, _+_, _-_, _*_, _/_, _≤_}
 use native.Mathlib.Omega.{arith}
 use mathlib.Core.Bool.{Bool, true, false, _&&_, cond}
 use mathlib.Core.List.{List, [], _∷_}
@@ -9,11 +9,12 @@ use lib.ListN.{length, take}
 use lib.Seq.{length-take-le, take-append-seam}
 use lib.Dec.{leb}
 use borrow.Author.Tests.{leb-true}
+use Rattle.theory.specs.Bools.{and-left, and-right}
 use Rattle.theory.specs.Answer.{Answer, answer, bit}
 use Rattle.leaves.specs.Refusal.{refused}
 use Rattle.leaves.specs.declared.refusal.Refusal.{Refusal}
 use Rattle.leaves.specs.declared.refusal.Refusal.the-variants.{Differ, BadMemory}
-use Rattle.metadata_rules.specs.Metadata.{Metadata, Fields, Mapping, opened, once, addAll, namesOf, enterAll, merge, mergeOpened, ifSame, agreedMerge, differsAt, fieldsOf, countIntervals, Outcome, done}
+use Rattle.metadata_rules.specs.Metadata.{Metadata, Mapping, opened, once, addAll, namesOf, enterAll, merge, mergeOpened, ifSame, agreedMerge, differsAt, fieldsOf, countIntervals, Outcome, done}
 use Rattle.metadata_rules.specs.Metadata.{refused as stopped}
 use Rattle.metadata_rules.specs.Words.{before, countAt, mappingsFrom, mappingWords, intervalWords, mapping-length, interval-length, read-back}
 use Rattle.metadata_rules.specs.Names.{enterAll-names}
@@ -28,7 +29,7 @@ use Rattle.metadata_form.specs.Header.{Lists, lists, lengthsOf, headerFields, m
 use Rattle.metadata_words.specs.Over.{over}
 use Rattle.metadata_gather.specs.Sets.{AllUnited}
 use Rattle.metadata_merge.specs.Outcome.{given, Deciding, Decided, Fitted, countsOf, front}
-use Rattle.metadata_merge.specs.OutcomeCalls.{Outcomes, Plannable, Commit, Fits1, committed, lists-same}
+use Rattle.metadata_merge.specs.OutcomeCalls.{Outcomes, Plannable, Commit, committed}
 use Rattle.metadata_merge.specs.Room.{names-length}
 use Rattle.metadata_merge.specs.declared.outcome.Verdict.{Verdict}
 use Rattle.metadata_merge.specs.declared.outcome.Verdict.the-variants as verdict
@@ -126,15 +127,6 @@ abbrev pub lengthsBy : ℕ → ℕ → ℕ → ℕ → ℕ → Lengths
 lengthsBy a b c m v = record { symbols = a; partial = b; «not_found» = c; mappings = m; intervals = v }
 
 -- ---- laws of the merge
-
-and-left : (a b : Bool) → (a && b) ≡ true → a ≡ true
-and-left true b e = refl
-and-left false b e = e
-
-and-right : (a b : Bool) → (a && b) ≡ true → b ≡ true
-and-right true b e = e
-and-right false true e = refl
-and-right false false e = e
 
 module _ (names : ℕ) (h : Header) (l : Lists) (g : Header) (r : Lists) where
   pub merge-unfit : (b : Bool) → b ≡ allFit names h l g r → b ≡ false → Merge names h l g r (merging.Refused BadMemory) l

@@ -6,17 +6,16 @@ use native.Mathlib.Omega.{arith}
 use mathlib.Core.Bool.{Bool, true, false, _&&_, cond}
 use mathlib.Core.List.{List, [], _∷_, _++_}
 use lib.ListN.{length, getD, replicate, length-replicate, getD-replicate, length-append}
-use lib.Dec.{T, ltb, leb}
+use lib.Dec.{ltb}
 use borrow.Author.Tests.{ltb-true}
 use Rattle.metadata_rules.specs.declared.Interval.{Interval}
 use Rattle.metadata_rules.specs.Metadata.{Mapping, Merged, conflicting, merged, enter, enterAll, byName, every, everyInterval, datesKnown, mappingsKnown, countIntervals}
 use Rattle.metadata_rules.specs.Metadata.{forwards as forwardsOf}
 use Rattle.metadata_rules.specs.Cases.{eqb-case}
-use Rattle.metadata_rules.specs.Words.{nameAt, countAt, mappingsFrom, before, mappingWords, intervalWords, namesFrom, stretch, read-back, intervals-test, names-test, mapping-length, interval-length}
+use Rattle.metadata_rules.specs.Words.{nameAt, countAt, mappingsFrom, before, mappingWords, intervalWords, namesFrom, read-back, intervals-test, names-test, mapping-length, interval-length}
 use Rattle.metadata_words.specs.Words.{rest}
 use Rattle.metadata_lists.specs.Flat.{placedFrom, placedTo}
-use Rattle.metadata_rules.specs.WordsLaws.{before-up, before-next}
-use Rattle.metadata_lists.specs.Link.{Chained, chained-linked, chained-heads, flat-same}
+use Rattle.metadata_lists.specs.Link.{Chained, chained-linked, chained-heads}
 use Rattle.metadata_lists.specs.Names.{Final, failed, placed, layAll, finishNames, collectTo, sumsTo, endNames}
 use Rattle.metadata_lists.specs.NamesLaying.{AllReady}
 use Rattle.metadata_lists.specs.NamesWhole.{HeadOk, collect-by-name, sums-bound}
@@ -27,6 +26,7 @@ use Rattle.metadata_gather.specs.Sides.{Sound, Offs, count-all, lay-append, los
 use Rattle.metadata_gather.specs.Judge.{knownDate, dated, below, known, forward, namesTo, rest-all, names-all}
 use Rattle.metadata_plan.specs.declared.plan.Planned.{Planned}
 use Rattle.metadata_plan.specs.declared.plan.Planned.the-variants.{Fault, Laid}
+use Rattle.theory.specs.Bools.{and-left, and-right}
 
 -- the mappings of both sides: the left one's without its repeats, then the right one's
 unfoldable pub bothSides : List ℕ → ℕ → List ℕ → List ℕ → ℕ → List ℕ → List Mapping
@@ -107,15 +107,6 @@ pub record Linkable (gm : List ℕ) (q : ℕ) (gv : List ℕ) (st sm so : ℕ) :
 
 zero-plus : (t : ℕ) → 0 + t ≡ t
 zero-plus t = omega arith
-
-and-left : (a b : Bool) → (a && b) ≡ true → a ≡ true
-and-left true b e = refl
-and-left false b e = e
-
-and-right : (a b : Bool) → (a && b) ≡ true → b ≡ true
-and-right true b e = e
-and-right false true e = refl
-and-right false false e = e
 
 -- each of the names passes
 names-each : (names : ℕ) (gm : List ℕ) (q t : ℕ) → every (below names) (namesFrom gm t q) ≡ true → (j : ℕ) → j < q → nameAt gm (t + j) < names

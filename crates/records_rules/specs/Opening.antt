@@ -1,6 +1,6 @@
 -- What an opening lays is a sound state, the machine's start; and what its tests show. Assumes nothing.
 use mathlib.Core.Path.{_≡_, refl, sym, ap, ap₂, _∙_}
-use mathlib.Core.Logic.{_≢_, _⊎_, inl, inr, ⊎-elim}
+use mathlib.Core.Logic.{_⊎_, inl, inr, ⊎-elim}
 use Prim.Native.Nat.{ℕ, zero, suc, _+_, _-_, _≤_, _<_, zero-le}
 use native.Mathlib.Decide.{ℕ-discrete}
 use native.Mathlib.Numerals.{add-one}
@@ -16,6 +16,7 @@ use Rattle.records_rules.specs.View.{tab, statusOf, statusesOf}
 use Rattle.records_rules.specs.Sift.{Heaped}
 use Rattle.records_rules.specs.Holds.{Holds, holds-moved}
 use Rattle.records_rules.specs.State.{arraysFit, rightStreams, Room, riseTo, padded, StreamsOpened}
+use Rattle.theory.specs.Bools.{both}
 
 -- ---- each place of the 256 is laid
 
@@ -131,10 +132,6 @@ module _ {n : ℕ} {hints ms ts cs hs hp : List ℕ} (few : n ≤ 256) (given : 
       }
 
 -- ---- the tests
-
-both : (x y : Bool) → (x && y) ≡ true → (x ≡ true) × (y ≡ true)
-both true y e = (refl, e)
-both false y e = let z : _≡_ {A = ℕ} 0 1 = cc in absurd (omega arith)
 
 pub arrays-room : (held : ℕ) (ms ts cs hs hp : List ℕ) → arraysFit held (length ms) (length ts) (length cs) (length hs) (length hp) ≡ true → Room held ms ts cs hs hp
 unfolding arraysFit

@@ -1,3 +1,4 @@
+pub mod Bools
 pub mod Answer
 pub mod Runs
 pub mod RunsTools

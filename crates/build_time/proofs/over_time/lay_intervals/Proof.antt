@@ -4,7 +4,7 @@ use mathlib.Core.Path.{_∙_}
 use Prim.Native.Nat.{_-_}
 use native.Mathlib.Omega.{arith}
 use Rattle.leaves_names.specs.Names.{namesOf}
-use Rattle.leaves_names.specs.NamesLaws.{holds, fails}
+use Rattle.theory.specs.Bools.{holds, fails}
 use Rattle.build_time.specs.OverTimeLaws.{Laying, laying-start, laying-turn, laying-stop, laying-end}
 use Rattle.build_time.proofs.over_time.lay_intervals.Statement.{statement}
 use Rattle.build_time.proofs.over_time.lay_intervals.Tie as tie

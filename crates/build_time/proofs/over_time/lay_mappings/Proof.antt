@@ -3,7 +3,7 @@ use mathlib.Core.Path.{_∙_}
 use Prim.Native.Nat.{_-_}
 use native.Mathlib.Omega.{arith}
 use Rattle.leaves_names.specs.Names.{namesOf}
-use Rattle.leaves_names.specs.NamesLaws.{holds, fails}
+use Rattle.theory.specs.Bools.{holds, fails}
 use Rattle.build_time.specs.OverTimeMappings.{Mapped, mapping-start, mapping-within, mapping-turn, mapping-stop, mapping-end}
 use borrow.Author.Needs.{needs}
 use Rattle.build_time.proofs.over_time.lay_mappings.Statement.{statement}

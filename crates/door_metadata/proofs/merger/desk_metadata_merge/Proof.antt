@@ -4,7 +4,8 @@ use borrow.Author.Tests.{not-true, not-false}
 use denote.Ref.{now}
 use Rattle.metadata_form.specs.Header.{lists}
 use Rattle.door_answers.specs.Header.{headerFits}
-use Rattle.door_answers.specs.HeaderLaws.{and-left, and-right, header-length}
+use Rattle.theory.specs.Bools.{and-left, and-right}
+use Rattle.door_answers.specs.HeaderLaws.{header-length}
 use Rattle.door_metadata.specs.MergerLaws.{merge-unfit, merge-done, merge-refused}
 use borrow.Author.Needs.{needs}
 use Rattle.door_metadata.proofs.merger.desk_metadata_merge.Statement.{statement}

@@ -3,7 +3,8 @@
 use mathlib.Core.Path.{sym, _∙_}
 use borrow.Author.Needs.{needs}
 use Rattle.leaves_names.specs.Names.{checkNames}
-use Rattle.leaves_names.specs.NamesLaws.{memory, holds, fails}
+use Rattle.theory.specs.Bools.{holds, fails}
+use Rattle.leaves_names.specs.NamesLaws.{memory}
 use Rattle.leaves_names.proofs.names.check_names.Statement.{statement}
 use Rattle.leaves_names.proofs.names.check_names.Tie as tie
 

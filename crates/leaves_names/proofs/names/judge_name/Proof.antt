@@ -2,7 +2,8 @@
 -- Assumes nothing.
 use native.Mathlib.Omega.{arith}
 use borrow.Author.Needs.{needs}
-use Rattle.leaves_names.specs.NamesLaws.{memory, formed, ordered, holds, judged-15, judged-14, judged-4, judged-old, judged-new, judged-5}
+use Rattle.theory.specs.Bools.{holds}
+use Rattle.leaves_names.specs.NamesLaws.{memory, formed, ordered, judged-15, judged-14, judged-4, judged-old, judged-new, judged-5}
 use Rattle.leaves_names.proofs.names.judge_name.Statement.{statement}
 use Rattle.leaves_names.proofs.names.judge_name.Tie as tie
 

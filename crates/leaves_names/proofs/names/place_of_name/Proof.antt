@@ -8,7 +8,8 @@ use borrow.Author.Tests.{lt-ltb, le-ltb}
 use borrow.Author.Needs.{needs}
 use Rattle.theory.specs.Answer.{answer}
 use Rattle.leaves_names.specs.Names.{nameStart, nameEnd, placeOfName}
-use Rattle.leaves_names.specs.NamesLaws.{memory, holds, fails}
+use Rattle.theory.specs.Bools.{holds, fails}
+use Rattle.leaves_names.specs.NamesLaws.{memory}
 use Rattle.leaves_names.proofs.names.place_of_name.Statement.{statement}
 use Rattle.leaves_names.proofs.names.place_of_name.Tie as tie
 

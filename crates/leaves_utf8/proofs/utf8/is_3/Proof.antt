@@ -1,7 +1,6 @@
 -- Each test decides of all four alternatives. Assumes nothing.
-use native.Mathlib.Omega.{arith}
 use borrow.Author.Needs.{needs}
-use Rattle.leaves_utf8.specs.NamesLaws.{holds, fails}
+use Rattle.theory.specs.Bools.{holds, fails}
 use Rattle.leaves_utf8.specs.Utf8Bytes.{third-out, third-2nd, third-3rd, third-e0, third-ed, third-else}
 use Rattle.leaves_utf8.proofs.utf8.is_3.Statement.{statement}
 use Rattle.leaves_utf8.proofs.utf8.is_3.Tie as tie

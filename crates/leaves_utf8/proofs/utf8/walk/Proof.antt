@@ -5,7 +5,7 @@ use Prim.Native.Nat.{_+_, _-_, _≤_}
 use native.Mathlib.Omega.{arith}
 use borrow.Author.Needs.{needs}
 use lib.Seq.{slice}
-use Rattle.leaves_utf8.specs.NamesLaws.{holds, fails}
+use Rattle.theory.specs.Bools.{holds, fails}
 use Rattle.leaves_utf8.specs.Utf8.{isUtf8}
 use Rattle.leaves_utf8.specs.Utf8Laws.{by-1, by-2, by-3, by-4, no-lead, no-2nd, no-3rd, no-4th}
 use Rattle.leaves_utf8.proofs.utf8.walk.Statement.{statement}

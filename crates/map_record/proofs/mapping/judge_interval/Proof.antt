@@ -1,6 +1,7 @@
 -- The tests in the rules' order, then the record. Assumes nothing.
 use mathlib.Core.Path.{_∙_}
-use Rattle.leaves_names.specs.NamesLaws.{holds, fails, memory}
+use Rattle.theory.specs.Bools.{holds, fails}
+use Rattle.leaves_names.specs.NamesLaws.{memory}
 use Rattle.map_record.specs.MappingInterval.{table-bytes, ready-interval, timed-table, timed-list, timed-ill-table, timed-ill-list, timed-on}
 use borrow.Author.Needs.{needs}
 use Rattle.map_record.proofs.mapping.judge_interval.Statement.{statement}

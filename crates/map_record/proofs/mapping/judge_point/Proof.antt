@@ -1,6 +1,7 @@
 -- The tests in the rules' order, then the record. Assumes nothing.
 use mathlib.Core.Path.{_∙_}
-use Rattle.leaves_names.specs.NamesLaws.{holds, fails, memory}
+use Rattle.theory.specs.Bools.{holds, fails}
+use Rattle.leaves_names.specs.NamesLaws.{memory}
 use Rattle.map_point.specs.PointsReads.{fit-bytes}
 use Rattle.map_record.specs.MappingLaws.{ready-point, judged-table, judged-list, judged-ill-table, judged-ill-list, judged-on}
 use borrow.Author.Needs.{needs}
