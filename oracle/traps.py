@@ -495,7 +495,7 @@ def whole_runs():
 
 
 def portion_runs():
-    """The same over portions, of one stream whose bytes these are: a pair is how many of them are handed in and taken, None the end's word."""
+    """The same over portions, of one stream with these bytes: a pair is how many of them are handed in and taken, None the end's word."""
     five = (0, 0, 5)
     many = [(0, 16 * i, 5) for i in range(64)]
     yield 11, record(5), (16, 16), (5, 9, needed(2, 0, five)), (5, 9, needed(1, 0)), (5, 0, going(0)), None, (5, 9, ended(1))
