@@ -523,8 +523,11 @@ def run_line(allowance, room, said):
 
 
 def run_lines():
-    """The data of vectors_run: the name of a trap, its line, and what it prints; those over portions are asked of the model here."""
+    """The data of vectors_run: the name of a trap, its line, and what it prints; those over portions are asked of the model here. Trap 10
+    is too long for it."""
     for trap, streams, *runs in whole_runs():
+        if trap == 10:
+            continue
         cuts = [sum(map(len, streams[:n])) for n in range(len(streams) + 1)]
         pairs = [number for run in runs for number in run[:2]]
         yield f"R{trap}", words("w", cuts, pairs, b"".join(streams)), [run_line(*run) for run in runs]
