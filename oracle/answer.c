@@ -687,8 +687,8 @@ static void fed_by_runs(void) {
         uint32_t answer;
         put_portion(&s, unasked / 4096, unasked % 4096);
         memcpy(before, &feed, STATE);
-        answer = desk_feed_run(feed.window, DESK_WINDOW_BYTES, feed.marks, DESK_STREAMS, feed.times, DESK_STREAMS, feed.places, DESK_STREAMS,
-                               feed.heads, DESK_STREAMS, feed.heap, DESK_STREAMS, feed.spans, DESK_STREAMS, &feed.held,
+        answer = desk_feed_run(feed.window, DESK_WINDOW_BYTES, feed.marks, DESK_STREAMS, feed.times, DESK_STREAMS, feed.places,
+                               DESK_STREAMS, feed.heads, DESK_STREAMS, feed.heap, DESK_STREAMS, feed.spans, DESK_STREAMS, &feed.held,
                                asked[made % asked_len], r.list, r.words, &r.calls, &r.written, &r.last, &r.stream, &r.place, &r.reason);
         next_answer();
         put_run(answer, &r);

@@ -495,7 +495,7 @@ def whole_runs():
 
 
 def portion_runs():
-    """The same over portions, of one stream whose bytes these are: a pair is how many of them are handed in and taken, None the end's word."""
+    """The same over portions, of one stream with these bytes: a pair is how many of them are handed in and taken, None the end's word."""
     five = (0, 0, 5)
     many = [(0, 16 * i, 5) for i in range(64)]
     yield 11, record(5), (16, 16), (5, 9, needed(2, 0, five)), (5, 9, needed(1, 0)), (5, 0, going(0)), None, (5, 9, ended(1))
@@ -523,8 +523,11 @@ def run_line(allowance, room, said):
 
 
 def run_lines():
-    """The data of vectors_run: the name of a trap, its line, and what it prints; those over portions are asked of the model here."""
+    """The data of vectors_run: the name of a trap, its line, and what it prints; those over portions are asked of the model here. Trap 10
+    is too long for it."""
     for trap, streams, *runs in whole_runs():
+        if trap == 10:
+            continue
         cuts = [sum(map(len, streams[:n])) for n in range(len(streams) + 1)]
         pairs = [number for run in runs for number in run[:2]]
         yield f"R{trap}", words("w", cuts, pairs, b"".join(streams)), [run_line(*run) for run in runs]

@@ -4,23 +4,16 @@ ghost use mathlib.Core.Path.{_≡_};
 ghost use lib.ListN.{length};
 
 // The most words of a list here.
-pub const WORDS: u64 = 15000;
+pub const WORDS: u64 = 12288;
 
 // The most pairs of a case.
 pub const PAIRS: usize = 150;
 
 // Room for a list: 9s.
-pub fn list_space() -> [u64; 15000]
-    ensures { λ r. ⌜ 15000 ≡ length r ⌝ }
+pub fn list_space() -> [u64; 12288]
+    ensures { λ r. ⌜ 12288 ≡ length r ⌝ }
 {
-    [9; 15000]
-}
-
-// Room for the bytes of streams.
-pub fn bytes_space() -> [u8; 81920]
-    ensures { λ r. ⌜ 81920 ≡ length r ⌝ }
-{
-    [0; 81920]
+    [9; 12288]
 }
 
 // The calls that were made and the records that were written.

@@ -11,10 +11,10 @@ ghost use mathlib.Core.Path.{_≡_};
 ghost use lib.ListN.{length};
 
 // Room for the whole data.
-fn room() -> [u8; 262144]
-    ensures { λ r. ⌜ 262144 ≡ length r ⌝ }
+fn room() -> [u8; 32768]
+    ensures { λ r. ⌜ 32768 ≡ length r ⌝ }
 {
-    [0; 262144]
+    [0; 32768]
 }
 
 // Prints the rest of the line that a place stands in.

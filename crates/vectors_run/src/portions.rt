@@ -1,7 +1,6 @@
 // Runs over streams that arrive in portions.
 use crate::answers::PAIRS;
 use crate::answers::WORDS;
-use crate::answers::bytes_space;
 use crate::answers::list_space;
 use crate::answers::print_list;
 use crate::answers::print_made;
@@ -14,6 +13,7 @@ use feed_window::portions::add;
 use feed_window::portions::end;
 use records::merge::empty_bytes;
 use records::merge::empty_numbers;
+use vectors_merge::buffer_space;
 use vectors_merge::numbers_space;
 use vectors_merge::print_number;
 use vectors_merge::print_refusal;
@@ -291,7 +291,7 @@ fn run_parts(streams: u64, bytes: &[u8], size: usize, pairs: &[u64], asked: usiz
 // Runs the case at a place.
 pub fn run(text: &[u8], at: usize) {
     let mut pairs = numbers_space();
-    let mut buffer = bytes_space();
+    let mut buffer = buffer_space();
     let streams = vectors_text::number_at(text, at);
     let asked = read_numbers(text, streams.next, &mut pairs);
     let bytes = vectors_text::bytes_at(text, asked.next, &mut buffer);

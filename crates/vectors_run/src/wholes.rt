@@ -1,7 +1,6 @@
 // Runs over whole buffers.
 use crate::answers::PAIRS;
 use crate::answers::WORDS;
-use crate::answers::bytes_space;
 use crate::answers::list_space;
 use crate::answers::print_list;
 use crate::answers::print_made;
@@ -10,6 +9,7 @@ use records::merge::empty_bytes;
 use records::merge::empty_numbers;
 use records::merge::open;
 use records_run::run::Last;
+use vectors_merge::buffer_space;
 use vectors_merge::numbers_space;
 use vectors_merge::print_refusal;
 use vectors_merge::read_numbers;
@@ -180,7 +180,7 @@ fn run_parts(buffer: &[u8], size: usize, cuts: &[u64], cut: usize, pairs: &[u64]
 pub fn run(text: &[u8], at: usize) {
     let mut cuts = numbers_space();
     let mut pairs = numbers_space();
-    let mut buffer = bytes_space();
+    let mut buffer = buffer_space();
     let cut = read_numbers(text, at, &mut cuts);
     let asked = read_numbers(text, cut.next, &mut pairs);
     let bytes = vectors_text::bytes_at(text, asked.next, &mut buffer);
