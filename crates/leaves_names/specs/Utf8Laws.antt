@@ -11,7 +11,7 @@ use lib.ListN.{length, getD}
 use lib.Seq.{slice}
 use Rattle.theory.specs.Slices.{cut, none-left}
 use Rattle.leaves_names.specs.Utf8Bytes.{within-yes, and-not, yes-1, not-1, not-2, not-3, not-4}
-use Rattle.leaves_names.specs.Utf8.{within, isTail, utf8-1, utf8-2, three, utf8-3, four, utf8-4, isUtf8}
+use Rattle.leaves_names.specs.Utf8.{within, isTail, utf8-1, utf8-2, utf8-3, four, utf8-4, isUtf8}
 
 -- n is the length of the UTF8-char that stands at place at, of the bytes before to; 0 where none does
 pub record Stepped (s : List ℕ) (at to n : ℕ) : Type 0 where
