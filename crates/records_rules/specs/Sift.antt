@@ -1,13 +1,13 @@
 -- The heap: what its contracts cite, and the laws that its loops' proofs cite. Assumes nothing.
 use mathlib.Core.Path.{_≡_, refl, sym, ap, subst, _∙_}
 use mathlib.Core.Logic.{_≢_, _⊎_, inl, inr, ⊎-elim}
-use mathlib.Core.Bool.{Bool, true, false, not, true≢false}
+use mathlib.Core.Bool.{Bool, true, false, true≢false}
 use Prim.Native.Nat.{ℕ, _+_, _-_, _*_, _/_, _≤_, _<_, zero-le}
 use native.Mathlib.Decide.{ℕ-discrete}
 use native.Mathlib.Omega.{arith}
 use mathlib.Core.List.{List}
-use mir.Facts.{ltb-yes, ltb-no}
-use lib.Dec.{T, ltb}
+use borrow.Author.Tests.{ltb-true, ltb-false}
+use lib.Dec.{ltb}
 use lib.ListN.{length, getD, set, length-set}
 use lib.Seq.{getD-set-same, getD-set-other, set-getD, set-set}
 use Rattle.records_rules.specs.Least.{Upto, upto-refl, upto-trans}
@@ -106,8 +106,8 @@ sooner-yes h = record { yes = λ e. record { times = omega arith; numbers = λ k
 pub sooner-tie : {t p u q : ℕ} → t ≤ u → u ≤ t → Sooner t p u q (ltb p q)
 sooner-tie {t} {p} {u} {q} h k =
     record {
-      yes = λ e. record { times = h; numbers = λ i. omega (arith, ltb-yes {a = p} {b = q} (subst T (sym e) tt)) };
-      no = λ e. record { times = k; numbers = λ i. omega (arith, ltb-no {a = p} {b = q} (subst (λ (b : Bool). T (not b)) (sym e) tt)) };
+      yes = λ e. record { times = h; numbers = λ i. omega (arith, ltb-true p q e) };
+      no = λ e. record { times = k; numbers = λ i. omega (arith, ltb-false p q e) };
     }
 
 pub sooner-no : {t p u q : ℕ} → u < t → Sooner t p u q false

@@ -50,7 +50,7 @@ fn lesser(times: &[u64], heap: &[u8], a: usize) -> Entry
     left
 }
 
-// Whether a stream of this time comes before another, or is it.
+// Whether a stream of this time comes before another.
 fn comes_first(time: u64, stream: usize, other: Entry) -> bool
     ensures { λ r. ⌜ Sooner time stream (other .time) (other .stream) r ⌝ }
 {
