@@ -35,11 +35,17 @@ pub extern "C" fn desk_feed_open(
     spans: &mut [u64],
     held: &mut usize,
 ) -> u32
-    ensures { λ r. ⌜ r ≡ numberIn (opening (openFits (length (now (marks .entry))) (length (now (times .entry))) (length (now (places .entry))) (length (now (heads .entry))) (length (now (heap .entry))) (length (now (spans .entry)))) (rightCount streams (length (now (hints .entry)))) streams) ⌝ }
-    ensures { λ _. ⌜ now (held .exit) ≡ valueIn (now (held .entry)) 1 (opening (openFits (length (now (marks .entry))) (length (now (times .entry))) (length (now (places .entry))) (length (now (heads .entry))) (length (now (heap .entry))) (length (now (spans .entry)))) (rightCount streams (length (now (hints .entry)))) streams) ⌝ }
-    ensures { λ _. ⌜ ((openFits (length (now (marks .entry))) (length (now (times .entry))) (length (now (places .entry))) (length (now (heads .entry))) (length (now (heap .entry))) (length (now (spans .entry))) && rightCount streams (length (now (hints .entry)))) ≡ false
-        → FeedUntouched (now (marks .entry)) (now (times .entry)) (now (places .entry)) (now (heads .entry)) (now (heap .entry)) (now (spans .entry)) (now (marks .exit)) (now (times .exit)) (now (places .exit)) (now (heads .exit)) (now (heap .exit)) (now (spans .exit))) ⌝ }
-    ensures { λ _. ⌜ ((openFits (length (now (marks .entry))) (length (now (times .entry))) (length (now (places .entry))) (length (now (heads .entry))) (length (now (heap .entry))) (length (now (spans .entry))) && rightCount streams (length (now (hints .entry)))) ≡ true
+    ensures { λ r. ⌜ r ≡ numberIn (opening (openFits (length (now (marks .entry))) (length (now (times .entry))) (length (now (places .entry)))
+        (length (now (heads .entry))) (length (now (heap .entry))) (length (now (spans .entry)))) (rightCount streams (length (now (hints .entry)))) streams) ⌝ }
+    ensures { λ _. ⌜ now (held .exit) ≡ valueIn (now (held .entry)) 1
+        (opening (openFits (length (now (marks .entry))) (length (now (times .entry))) (length (now (places .entry))) (length (now (heads .entry)))
+        (length (now (heap .entry))) (length (now (spans .entry)))) (rightCount streams (length (now (hints .entry)))) streams) ⌝ }
+    ensures { λ _. ⌜ ((openFits (length (now (marks .entry))) (length (now (times .entry))) (length (now (places .entry))) (length (now (heads .entry)))
+        (length (now (heap .entry))) (length (now (spans .entry))) && rightCount streams (length (now (hints .entry)))) ≡ false
+        → FeedUntouched (now (marks .entry)) (now (times .entry)) (now (places .entry)) (now (heads .entry)) (now (heap .entry)) (now (spans .entry))
+        (now (marks .exit)) (now (times .exit)) (now (places .exit)) (now (heads .exit)) (now (heap .exit)) (now (spans .exit))) ⌝ }
+    ensures { λ _. ⌜ ((openFits (length (now (marks .entry))) (length (now (times .entry))) (length (now (places .entry))) (length (now (heads .entry)))
+        (length (now (heap .entry))) (length (now (spans .entry))) && rightCount streams (length (now (hints .entry)))) ≡ true
         → FeedOpened streams (now (hints .entry)) (now (marks .exit)) (now (times .exit)) (now (places .exit)) (now (heads .exit)) (now (heap .exit)) (now (spans .exit))) ⌝ }
 {
     let opened = feed::opening::open(streams, hints, marks, times, places, heads, heap, spans);
@@ -126,18 +132,26 @@ pub extern "C" fn desk_feed_next(
     time: &mut u64,
     reason: &mut u64,
 ) -> u32
-    ensures { λ r. ⌜ (feedFits (now (held .entry)) (length (now (marks .entry))) (length (now (times .entry))) (length (now (places .entry))) (length (now (heads .entry))) (length (now (heap .entry))) (length (now (spans .entry))) (length (now (window .entry))) ≡ false
+    ensures { λ r. ⌜ (feedFits (now (held .entry)) (length (now (marks .entry))) (length (now (times .entry))) (length (now (places .entry)))
+        (length (now (heads .entry))) (length (now (heap .entry))) (length (now (spans .entry))) (length (now (window .entry))) ≡ false
         → FedHanded (answer 15 []) r (now (found .entry)) (now (stream .entry)) (now (place .entry)) (now (index .entry)) (now (long .entry)) (now (kind .entry)) (now (instrument .entry)) (now (time .entry)) (now (reason .entry))
         (now (found .exit)) (now (stream .exit)) (now (place .exit)) (now (index .exit)) (now (long .exit)) (now (kind .exit)) (now (instrument .exit)) (now (time .exit)) (now (reason .exit))
         × (now (held .exit) ≡ now (held .entry))
-        × FeedUntouched (now (marks .entry)) (now (times .entry)) (now (places .entry)) (now (heads .entry)) (now (heap .entry)) (now (spans .entry)) (now (marks .exit)) (now (times .exit)) (now (places .exit)) (now (heads .exit)) (now (heap .exit)) (now (spans .exit))) ⌝ }
-    ensures { λ r. ⌜ (feedFits (now (held .entry)) (length (now (marks .entry))) (length (now (times .entry))) (length (now (places .entry))) (length (now (heads .entry))) (length (now (heap .entry))) (length (now (spans .entry))) (length (now (window .entry))) ≡ true
+        × FeedUntouched (now (marks .entry)) (now (times .entry)) (now (places .entry)) (now (heads .entry)) (now (heap .entry)) (now (spans .entry))
+        (now (marks .exit)) (now (times .exit)) (now (places .exit)) (now (heads .exit)) (now (heap .exit)) (now (spans .exit))) ⌝ }
+    ensures { λ r. ⌜ (feedFits (now (held .entry)) (length (now (marks .entry))) (length (now (times .entry))) (length (now (places .entry)))
+        (length (now (heads .entry))) (length (now (heap .entry))) (length (now (spans .entry))) (length (now (window .entry))) ≡ true
         → (n : ℕ) → n ≤ 256 → FeedOk n (now (held .entry)) (now (marks .entry)) (now (times .entry)) (now (places .entry)) (now (heads .entry)) (now (heap .entry)) (now (spans .entry))
-        → FedHanded (nextAnswer (feedOf n (now (window .entry)) (now (marks .entry)) (now (times .entry)) (now (places .entry)) (now (heads .entry)) (now (spans .entry)))) r (now (found .entry)) (now (stream .entry)) (now (place .entry)) (now (index .entry)) (now (long .entry)) (now (kind .entry)) (now (instrument .entry)) (now (time .entry)) (now (reason .entry))
+        → FedHanded (nextAnswer (feedOf n (now (window .entry)) (now (marks .entry)) (now (times .entry)) (now (places .entry)) (now (heads .entry))
+        (now (spans .entry)))) r (now (found .entry)) (now (stream .entry)) (now (place .entry)) (now (index .entry)) (now (long .entry)) (now (kind .entry))
+        (now (instrument .entry)) (now (time .entry)) (now (reason .entry))
         (now (found .exit)) (now (stream .exit)) (now (place .exit)) (now (index .exit)) (now (long .exit)) (now (kind .exit)) (now (instrument .exit)) (now (time .exit)) (now (reason .exit))
-        × FeedSays n (now (window .entry)) (now (marks .entry)) (now (times .entry)) (now (places .entry)) (now (heads .entry)) (now (spans .entry)) (nextAnswer (feedOf n (now (window .entry)) (now (marks .entry)) (now (times .entry)) (now (places .entry)) (now (heads .entry)) (now (spans .entry))))
+        × FeedSays n (now (window .entry)) (now (marks .entry)) (now (times .entry)) (now (places .entry)) (now (heads .entry)) (now (spans .entry))
+        (nextAnswer (feedOf n (now (window .entry)) (now (marks .entry)) (now (times .entry)) (now (places .entry)) (now (heads .entry)) (now (spans .entry))))
         (now (held .exit)) (now (marks .exit)) (now (times .exit)) (now (places .exit)) (now (heads .exit)) (now (heap .exit)) (now (spans .exit))
-        × FeedNeeds (now (window .entry)) (now (held .entry)) (now (marks .entry)) (now (times .entry)) (now (places .entry)) (now (heads .entry)) (now (heap .entry)) (now (spans .entry)) (nextAnswer (feedOf n (now (window .entry)) (now (marks .entry)) (now (times .entry)) (now (places .entry)) (now (heads .entry)) (now (spans .entry))))
+        × FeedNeeds (now (window .entry)) (now (held .entry)) (now (marks .entry)) (now (times .entry)) (now (places .entry)) (now (heads .entry))
+        (now (heap .entry)) (now (spans .entry)) (nextAnswer
+        (feedOf n (now (window .entry)) (now (marks .entry)) (now (times .entry)) (now (places .entry)) (now (heads .entry)) (now (spans .entry))))
         (now (held .exit)) (now (marks .exit)) (now (times .exit)) (now (places .exit)) (now (heads .exit)) (now (heap .exit)) (now (spans .exit))) ⌝ }
 {
     let turned = feed::turns::next(window, *held, marks, times, places, heads, heap, spans);

@@ -39,13 +39,18 @@ pub extern "C" fn desk_feed_run(
     place: &mut u64,
     reason: &mut u64,
 ) -> u32
-    ensures { λ r. ⌜ (runFits (feedFits (now (held .entry)) (length (now (marks .entry))) (length (now (times .entry))) (length (now (places .entry))) (length (now (heads .entry))) (length (now (heap .entry))) (length (now (spans .entry))) (length (now (window .entry)))) allowance (length (now (list .entry))) ≡ false
+    ensures { λ r. ⌜ (runFits (feedFits (now (held .entry)) (length (now (marks .entry))) (length (now (times .entry))) (length (now (places .entry)))
+        (length (now (heads .entry))) (length (now (heap .entry))) (length (now (spans .entry))) (length (now (window .entry)))) allowance
+        (length (now (list .entry))) ≡ false
         → RunHanded (answer 15 []) 0 0 r (now (calls .entry)) (now (written .entry)) (now (last .entry)) (now (stream .entry)) (now (place .entry)) (now (reason .entry))
         (now (calls .exit)) (now (written .exit)) (now (last .exit)) (now (stream .exit)) (now (place .exit)) (now (reason .exit))
         × (now (held .exit) ≡ now (held .entry))
-        × FeedUntouched (now (marks .entry)) (now (times .entry)) (now (places .entry)) (now (heads .entry)) (now (heap .entry)) (now (spans .entry)) (now (marks .exit)) (now (times .exit)) (now (places .exit)) (now (heads .exit)) (now (heap .exit)) (now (spans .exit))
+        × FeedUntouched (now (marks .entry)) (now (times .entry)) (now (places .entry)) (now (heads .entry)) (now (heap .entry)) (now (spans .entry))
+        (now (marks .exit)) (now (times .exit)) (now (places .exit)) (now (heads .exit)) (now (heap .exit)) (now (spans .exit))
         × (now (list .exit) ≡ now (list .entry))) ⌝ }
-    ensures { λ r. ⌜ (runFits (feedFits (now (held .entry)) (length (now (marks .entry))) (length (now (times .entry))) (length (now (places .entry))) (length (now (heads .entry))) (length (now (heap .entry))) (length (now (spans .entry))) (length (now (window .entry)))) allowance (length (now (list .entry))) ≡ true
+    ensures { λ r. ⌜ (runFits (feedFits (now (held .entry)) (length (now (marks .entry))) (length (now (times .entry))) (length (now (places .entry)))
+        (length (now (heads .entry))) (length (now (heap .entry))) (length (now (spans .entry))) (length (now (window .entry)))) allowance
+        (length (now (list .entry))) ≡ true
         → (n : ℕ) → n ≤ 256 → FeedOk n (now (held .entry)) (now (marks .entry)) (now (times .entry)) (now (places .entry)) (now (heads .entry)) (now (heap .entry)) (now (spans .entry))
         → FeedRunMade n (most allowance (length (now (list .entry)))) (now (window .entry)) (now (marks .entry)) (now (times .entry)) (now (places .entry)) (now (heads .entry)) (now (spans .entry)) (now (list .entry))
         r (now (calls .entry)) (now (written .entry)) (now (last .entry)) (now (stream .entry)) (now (place .entry)) (now (reason .entry))

@@ -53,13 +53,15 @@ pub extern "C" fn desk_run(
     place: &mut u64,
     reason: &mut u64,
 ) -> u32
-    ensures { λ r. ⌜ (runFits (arraysFit (now (held .entry)) (length (now (marks .entry))) (length (now (times .entry))) (length (now (places .entry))) (length (now (heads .entry))) (length (now (heap .entry)))) allowance (length (now (list .entry))) ≡ false
+    ensures { λ r. ⌜ (runFits (arraysFit (now (held .entry)) (length (now (marks .entry))) (length (now (times .entry))) (length (now (places .entry)))
+        (length (now (heads .entry))) (length (now (heap .entry)))) allowance (length (now (list .entry))) ≡ false
         → RunHanded (answer 15 []) 0 0 r (now (calls .entry)) (now (written .entry)) (now (last .entry)) (now (stream .entry)) (now (place .entry)) (now (reason .entry))
         (now (calls .exit)) (now (written .exit)) (now (last .exit)) (now (stream .exit)) (now (place .exit)) (now (reason .exit))
         × (now (held .exit) ≡ now (held .entry))
         × Untouched (now (marks .entry)) (now (times .entry)) (now (places .entry)) (now (heads .entry)) (now (heap .entry)) (now (marks .exit)) (now (times .exit)) (now (places .exit)) (now (heads .exit)) (now (heap .exit))
         × (now (list .exit) ≡ now (list .entry))) ⌝ }
-    ensures { λ r. ⌜ (runFits (arraysFit (now (held .entry)) (length (now (marks .entry))) (length (now (times .entry))) (length (now (places .entry))) (length (now (heads .entry))) (length (now (heap .entry)))) allowance (length (now (list .entry))) ≡ true
+    ensures { λ r. ⌜ (runFits (arraysFit (now (held .entry)) (length (now (marks .entry))) (length (now (times .entry))) (length (now (places .entry)))
+        (length (now (heads .entry))) (length (now (heap .entry)))) allowance (length (now (list .entry))) ≡ true
         → (n : ℕ) → n ≤ 256 → StateOk n (now (held .entry)) (now (marks .entry)) (now (times .entry)) (now (places .entry)) (now (heads .entry)) (now (heap .entry))
         → RunMade (streamsOf (now (buffer .entry)) (now (cuts .entry))) n (most allowance (length (now (list .entry)))) (now (marks .entry)) (now (times .entry)) (now (places .entry)) (now (heads .entry)) (now (list .entry))
         r (now (calls .entry)) (now (written .entry)) (now (last .entry)) (now (stream .entry)) (now (place .entry)) (now (reason .entry))

@@ -256,5 +256,8 @@ agree f g (y ∷ ys) e x (inr m) = let h : map f ys ≡ map g ys = cc in agree f
 
 -- each of the twelve gives what it says
 pub every-holds : (x : Example) → Mem x examples → gives x ≡ said x
-unfolding gives said examples outcomeAnswer insertOutcome inserted tableFits memoryAfter rowsWritten rowsBytes rowBytes bytesOf usedAfter rowsFrom rowAt field lookupAnswer saidAnswer lookupRows numberText someDigits digits isDigit dayOf isDate isLeap monthDays dayNumber daysOfYears daysBefore mergeAnswer mergeLists bothFit metadataFits metadataOf mappingsFrom before mappingWords intervalWords over knownDate merging.merge answersF start padded opening arraysFit rightStreams streamsOf frameAt
+unfolding gives said examples outcomeAnswer insertOutcome inserted tableFits memoryAfter rowsWritten rowsBytes rowBytes bytesOf usedAfter rowsFrom
+    rowAt field lookupAnswer saidAnswer lookupRows numberText someDigits digits isDigit dayOf isDate isLeap monthDays dayNumber daysOfYears daysBefore
+    mergeAnswer mergeLists bothFit metadataFits metadataOf mappingsFrom before mappingWords intervalWords over knownDate merging.merge answersF start
+    padded opening arraysFit rightStreams streamsOf frameAt
 every-holds = agree gives said examples refl

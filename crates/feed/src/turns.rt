@@ -198,14 +198,18 @@ pub fn next(
     spans: &mut [u64],
 ) -> FedTurn
     ensures { λ r. ⌜ r .held ≤ held ⌝ }
-    ensures { λ r. ⌜ (feedFits held (length (now (marks .entry))) (length (now (times .entry))) (length (now (places .entry))) (length (now (heads .entry))) (length (now (heap .entry))) (length (now (spans .entry))) (length (now (window .entry))) ≡ false
+    ensures { λ r. ⌜ (feedFits held (length (now (marks .entry))) (length (now (times .entry))) (length (now (places .entry))) (length (now (heads .entry)))
+        (length (now (heap .entry))) (length (now (spans .entry))) (length (now (window .entry))) ≡ false
         → (fedOf (r .answer) ≡ answer 15 []) × (r .held ≡ held)
-        × FeedUntouched (now (marks .entry)) (now (times .entry)) (now (places .entry)) (now (heads .entry)) (now (heap .entry)) (now (spans .entry)) (now (marks .exit)) (now (times .exit)) (now (places .exit)) (now (heads .exit)) (now (heap .exit)) (now (spans .exit))) ⌝ }
-    ensures { λ r. ⌜ (feedFits held (length (now (marks .entry))) (length (now (times .entry))) (length (now (places .entry))) (length (now (heads .entry))) (length (now (heap .entry))) (length (now (spans .entry))) (length (now (window .entry))) ≡ true
+        × FeedUntouched (now (marks .entry)) (now (times .entry)) (now (places .entry)) (now (heads .entry)) (now (heap .entry)) (now (spans .entry))
+        (now (marks .exit)) (now (times .exit)) (now (places .exit)) (now (heads .exit)) (now (heap .exit)) (now (spans .exit))) ⌝ }
+    ensures { λ r. ⌜ (feedFits held (length (now (marks .entry))) (length (now (times .entry))) (length (now (places .entry))) (length (now (heads .entry)))
+        (length (now (heap .entry))) (length (now (spans .entry))) (length (now (window .entry))) ≡ true
         → (n : ℕ) → n ≤ 256 → FeedOk n held (now (marks .entry)) (now (times .entry)) (now (places .entry)) (now (heads .entry)) (now (heap .entry)) (now (spans .entry))
         → FeedSays n (now (window .entry)) (now (marks .entry)) (now (times .entry)) (now (places .entry)) (now (heads .entry)) (now (spans .entry))
         (fedOf (r .answer)) (r .held) (now (marks .exit)) (now (times .exit)) (now (places .exit)) (now (heads .exit)) (now (heap .exit)) (now (spans .exit))) ⌝ }
-    ensures { λ r. ⌜ (feedFits held (length (now (marks .entry))) (length (now (times .entry))) (length (now (places .entry))) (length (now (heads .entry))) (length (now (heap .entry))) (length (now (spans .entry))) (length (now (window .entry))) ≡ true
+    ensures { λ r. ⌜ (feedFits held (length (now (marks .entry))) (length (now (times .entry))) (length (now (places .entry))) (length (now (heads .entry)))
+        (length (now (heap .entry))) (length (now (spans .entry))) (length (now (window .entry))) ≡ true
         → FeedNeeds (now (window .entry)) held (now (marks .entry)) (now (times .entry)) (now (places .entry)) (now (heads .entry)) (now (heap .entry)) (now (spans .entry))
         (fedOf (r .answer)) (r .held) (now (marks .exit)) (now (times .exit)) (now (places .exit)) (now (heads .exit)) (now (heap .exit)) (now (spans .exit))) ⌝ }
 {

@@ -194,10 +194,14 @@ pub fn run(
     allowance: usize,
     list: &mut [u64],
 ) -> Made
-    ensures { λ r. ⌜ (runFits (feedFits held (length (now (marks .entry))) (length (now (times .entry))) (length (now (places .entry))) (length (now (heads .entry))) (length (now (heap .entry))) (length (now (spans .entry))) (length (now (window .entry)))) allowance (length (now (list .entry))) ≡ false
+    ensures { λ r. ⌜ (runFits (feedFits held (length (now (marks .entry))) (length (now (times .entry))) (length (now (places .entry)))
+        (length (now (heads .entry))) (length (now (heap .entry))) (length (now (spans .entry))) (length (now (window .entry)))) allowance
+        (length (now (list .entry))) ≡ false
         → FeedRunRefused (now (marks .entry)) (now (times .entry)) (now (places .entry)) (now (heads .entry)) (now (heap .entry)) (now (spans .entry)) (now (list .entry)) held
         (r .calls) (r .written) (r .held) (lastOf (r .last)) (now (marks .exit)) (now (times .exit)) (now (places .exit)) (now (heads .exit)) (now (heap .exit)) (now (spans .exit)) (now (list .exit))) ⌝ }
-    ensures { λ r. ⌜ (runFits (feedFits held (length (now (marks .entry))) (length (now (times .entry))) (length (now (places .entry))) (length (now (heads .entry))) (length (now (heap .entry))) (length (now (spans .entry))) (length (now (window .entry)))) allowance (length (now (list .entry))) ≡ true
+    ensures { λ r. ⌜ (runFits (feedFits held (length (now (marks .entry))) (length (now (times .entry))) (length (now (places .entry)))
+        (length (now (heads .entry))) (length (now (heap .entry))) (length (now (spans .entry))) (length (now (window .entry)))) allowance
+        (length (now (list .entry))) ≡ true
         → (n : ℕ) → n ≤ 256 → FeedOk n held (now (marks .entry)) (now (times .entry)) (now (places .entry)) (now (heads .entry)) (now (heap .entry)) (now (spans .entry))
         → FeedRunSays n (most allowance (length (now (list .entry)))) (now (window .entry)) (now (marks .entry)) (now (times .entry)) (now (places .entry)) (now (heads .entry)) (now (spans .entry)) (now (list .entry))
         (r .calls) (r .written) (r .held) (lastOf (r .last)) (now (marks .exit)) (now (times .exit)) (now (places .exit)) (now (heads .exit)) (now (heap .exit)) (now (spans .exit)) (now (list .exit))) ⌝ }

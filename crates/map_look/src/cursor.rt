@@ -18,7 +18,10 @@ pub struct Cursor {
 
 // The symbol of the instrument at the moment, with the cursor's hint, which becomes the new hint: 15 only, which leaves it.
 pub fn follow(cursor: &mut Cursor, table: &[u8], used: usize, instrument: u32, moment: u64) -> Found
-    ensures { λ r. ⌜ (T (not (tableFits (length (now (table .entry))) used) || ordered sameValue (rows (now (table .entry)) used)) → (foundOf r (now (cursor .exit) .hint) ≡ lookupAnswer (now (table .entry)) used instrument moment (now (cursor .entry) .hint)) × (now (cursor .exit) .hint ≡ lookupHint (now (table .entry)) used instrument moment (now (cursor .entry) .hint))) × (tableFits (length (now (table .entry))) used ≡ true → numberIn (foundOf r (now (cursor .exit) .hint)) ≡ 0) ⌝ }
+    ensures { λ r. ⌜ (T (not (tableFits (length (now (table .entry))) used) || ordered sameValue (rows (now (table .entry)) used)) →
+        (foundOf r (now (cursor .exit) .hint) ≡ lookupAnswer (now (table .entry)) used instrument moment (now (cursor .entry) .hint)) ×
+        (now (cursor .exit) .hint ≡ lookupHint (now (table .entry)) used instrument moment (now (cursor .entry) .hint))) ×
+        (tableFits (length (now (table .entry))) used ≡ true → numberIn (foundOf r (now (cursor .exit) .hint)) ≡ 0) ⌝ }
 {
     let looked = get_for_ts(table, used, instrument, moment, cursor.hint);
     cursor.hint = looked.hint;
@@ -27,7 +30,9 @@ pub fn follow(cursor: &mut Cursor, table: &[u8], used: usize, instrument: u32, m
 
 // The same on plain numbers: a cursor that is made, lent and read here.
 pub fn follow_once(table: &[u8], used: usize, instrument: u32, moment: u64, hint: u64) -> Looked
-    ensures { λ r. ⌜ (T (not (tableFits (length (now (table .entry))) used) || ordered sameValue (rows (now (table .entry)) used)) → (lookedOf r ≡ lookupAnswer (now (table .entry)) used instrument moment hint) × (r .hint ≡ lookupHint (now (table .entry)) used instrument moment hint)) × (tableFits (length (now (table .entry))) used ≡ true → numberIn (lookedOf r) ≡ 0) ⌝ }
+    ensures { λ r. ⌜ (T (not (tableFits (length (now (table .entry))) used) || ordered sameValue (rows (now (table .entry)) used)) →
+        (lookedOf r ≡ lookupAnswer (now (table .entry)) used instrument moment hint) × (r .hint ≡ lookupHint (now (table .entry)) used instrument moment hint))
+        × (tableFits (length (now (table .entry))) used ≡ true → numberIn (lookedOf r) ≡ 0) ⌝ }
 {
     let mut cursor = Cursor { hint };
     let found = follow(&mut cursor, table, used, instrument, moment);

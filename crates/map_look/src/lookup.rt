@@ -125,7 +125,9 @@ fn look_up(table: &[u8], used: usize, instrument: u32, moment: u64, hint: u64) -
 // The symbol of the instrument at the moment, with any hint, and the new hint: 15 only. On a table that is not in order the
 // answer may be any symbol or nothing.
 pub fn get_for_ts(table: &[u8], used: usize, instrument: u32, moment: u64, hint: u64) -> Looked
-    ensures right { λ r. ⌜ (T (not (tableFits (length (now (table .entry))) used) || ordered sameValue (rows (now (table .entry)) used)) → (lookedOf r ≡ lookupAnswer (now (table .entry)) used instrument moment hint) × (r .hint ≡ lookupHint (now (table .entry)) used instrument moment hint)) ⌝ }
+    ensures right { λ r. ⌜ (T (not (tableFits (length (now (table .entry))) used) || ordered sameValue (rows (now (table .entry)) used)) →
+        (lookedOf r ≡ lookupAnswer (now (table .entry)) used instrument moment hint) × (r .hint ≡ lookupHint (now (table .entry)) used instrument moment hint))
+        ⌝ }
     ensures accepted { λ r. ⌜ (tableFits (length (now (table .entry))) used ≡ true → numberIn (lookedOf r) ≡ 0) ⌝ }
 {
     if map_table::table::table_fits(table.len(), used) {

@@ -27,7 +27,30 @@ ghost use Rattle.leaves_names.specs.Names.{listFits, wellFormed};
 ghost use Rattle.leaves.specs.Frame.{mappedIn, nameIn};
 ghost use Rattle.map_rules.specs.Memory.{rows};
 ghost use Rattle.map_point.specs.Entries.{entries};
-ghost use Rattle.map_record.specs.Mapping.{numberingIn, numbered, pointWanted, pointJudged, pointJoins, pointTable, pointUsed, pointEntries, pointAnswer, timeWanted, timeJudged, timeJoins, timeTable, timeUsed, timeRows, timeAnswer, namesThen, nameBytesThen, bytesThen, endsThen, recordedOf, planOf};
+ghost use Rattle.map_record.specs.Mapping.{
+  numberingIn,
+  numbered,
+  pointWanted,
+  pointJudged,
+  pointJoins,
+  pointTable,
+  pointUsed,
+  pointEntries,
+  pointAnswer,
+  timeWanted,
+  timeJudged,
+  timeJoins,
+  timeTable,
+  timeUsed,
+  timeRows,
+  timeAnswer,
+  namesThen,
+  nameBytesThen,
+  bytesThen,
+  endsThen,
+  recordedOf,
+  planOf,
+};
 ghost use Rattle.map_record.specs.MappingLaws.{Lies, Ready, ReadyPoint, Forward, ReadyInterval};
 
 // What a mapping call comes to before the room of the table is judged.
@@ -279,11 +302,18 @@ pub fn on_record_point(
     name_bytes: usize,
     rec: &[u8],
 ) -> Recorded
-    ensures { λ r. ⌜ recordedOf r ≡ pointAnswer (now (table .entry)) used names «name_bytes» (nameIn (now (rec .entry))) (pointJudged (now (table .entry)) used (now (bytes .entry)) (now (ends .entry)) names «name_bytes» (now (rec .entry))) ⌝ }
+    ensures { λ r. ⌜ recordedOf r ≡ pointAnswer (now (table .entry)) used names «name_bytes» (nameIn (now (rec .entry)))
+        (pointJudged (now (table .entry)) used (now (bytes .entry)) (now (ends .entry)) names «name_bytes» (now (rec .entry))) ⌝ }
     ensures { λ _. ⌜ now (table .exit) ≡ pointTable (now (table .entry)) used (pointJudged (now (table .entry)) used (now (bytes .entry)) (now (ends .entry)) names «name_bytes» (now (rec .entry))) ⌝ }
-    ensures { λ _. ⌜ now (bytes .exit) ≡ bytesThen (pointJoins (now (table .entry)) used (pointJudged (now (table .entry)) used (now (bytes .entry)) (now (ends .entry)) names «name_bytes» (now (rec .entry)))) (now (bytes .entry)) «name_bytes» (nameIn (now (rec .entry))) ⌝ }
-    ensures { λ _. ⌜ now (ends .exit) ≡ endsThen (pointJoins (now (table .entry)) used (pointJudged (now (table .entry)) used (now (bytes .entry)) (now (ends .entry)) names «name_bytes» (now (rec .entry)))) (now (ends .entry)) names «name_bytes» (nameIn (now (rec .entry))) ⌝ }
-    ensures { λ _. ⌜ entries (now (table .exit)) (pointUsed (now (table .entry)) used (pointJudged (now (table .entry)) used (now (bytes .entry)) (now (ends .entry)) names «name_bytes» (now (rec .entry)))) ≡ pointEntries (now (table .entry)) used (pointJudged (now (table .entry)) used (now (bytes .entry)) (now (ends .entry)) names «name_bytes» (now (rec .entry))) ⌝ }
+    ensures { λ _. ⌜ now (bytes .exit) ≡ bytesThen (pointJoins (now (table .entry)) used
+        (pointJudged (now (table .entry)) used (now (bytes .entry)) (now (ends .entry)) names «name_bytes» (now (rec .entry)))) (now (bytes .entry))
+        «name_bytes» (nameIn (now (rec .entry))) ⌝ }
+    ensures { λ _. ⌜ now (ends .exit) ≡ endsThen (pointJoins (now (table .entry)) used
+        (pointJudged (now (table .entry)) used (now (bytes .entry)) (now (ends .entry)) names «name_bytes» (now (rec .entry)))) (now (ends .entry)) names
+        «name_bytes» (nameIn (now (rec .entry))) ⌝ }
+    ensures { λ _. ⌜ entries (now (table .exit)) (pointUsed (now (table .entry)) used
+        (pointJudged (now (table .entry)) used (now (bytes .entry)) (now (ends .entry)) names «name_bytes» (now (rec .entry)))) ≡ pointEntries
+        (now (table .entry)) used (pointJudged (now (table .entry)) used (now (bytes .entry)) (now (ends .entry)) names «name_bytes» (now (rec .entry))) ⌝ }
 {
     let plan = judge_point(table, used, bytes, ends, names, name_bytes, rec);
     match plan {
@@ -332,11 +362,18 @@ pub fn on_record(
     name_bytes: usize,
     rec: &[u8],
 ) -> Recorded
-    ensures { λ r. ⌜ recordedOf r ≡ timeAnswer (now (table .entry)) used names «name_bytes» (nameIn (now (rec .entry))) (timeJudged (now (table .entry)) used (now (bytes .entry)) (now (ends .entry)) names «name_bytes» (now (rec .entry))) ⌝ }
+    ensures { λ r. ⌜ recordedOf r ≡ timeAnswer (now (table .entry)) used names «name_bytes» (nameIn (now (rec .entry)))
+        (timeJudged (now (table .entry)) used (now (bytes .entry)) (now (ends .entry)) names «name_bytes» (now (rec .entry))) ⌝ }
     ensures { λ _. ⌜ now (table .exit) ≡ timeTable (now (table .entry)) used (timeJudged (now (table .entry)) used (now (bytes .entry)) (now (ends .entry)) names «name_bytes» (now (rec .entry))) ⌝ }
-    ensures { λ _. ⌜ now (bytes .exit) ≡ bytesThen (timeJoins (now (table .entry)) used (timeJudged (now (table .entry)) used (now (bytes .entry)) (now (ends .entry)) names «name_bytes» (now (rec .entry)))) (now (bytes .entry)) «name_bytes» (nameIn (now (rec .entry))) ⌝ }
-    ensures { λ _. ⌜ now (ends .exit) ≡ endsThen (timeJoins (now (table .entry)) used (timeJudged (now (table .entry)) used (now (bytes .entry)) (now (ends .entry)) names «name_bytes» (now (rec .entry)))) (now (ends .entry)) names «name_bytes» (nameIn (now (rec .entry))) ⌝ }
-    ensures { λ _. ⌜ rows (now (table .exit)) (timeUsed (now (table .entry)) used (timeJudged (now (table .entry)) used (now (bytes .entry)) (now (ends .entry)) names «name_bytes» (now (rec .entry)))) ≡ timeRows (now (table .entry)) used (timeJudged (now (table .entry)) used (now (bytes .entry)) (now (ends .entry)) names «name_bytes» (now (rec .entry))) ⌝ }
+    ensures { λ _. ⌜ now (bytes .exit) ≡ bytesThen (timeJoins (now (table .entry)) used
+        (timeJudged (now (table .entry)) used (now (bytes .entry)) (now (ends .entry)) names «name_bytes» (now (rec .entry)))) (now (bytes .entry)) «name_bytes»
+        (nameIn (now (rec .entry))) ⌝ }
+    ensures { λ _. ⌜ now (ends .exit) ≡ endsThen (timeJoins (now (table .entry)) used
+        (timeJudged (now (table .entry)) used (now (bytes .entry)) (now (ends .entry)) names «name_bytes» (now (rec .entry)))) (now (ends .entry)) names
+        «name_bytes» (nameIn (now (rec .entry))) ⌝ }
+    ensures { λ _. ⌜ rows (now (table .exit)) (timeUsed (now (table .entry)) used
+        (timeJudged (now (table .entry)) used (now (bytes .entry)) (now (ends .entry)) names «name_bytes» (now (rec .entry)))) ≡ timeRows (now (table .entry))
+        used (timeJudged (now (table .entry)) used (now (bytes .entry)) (now (ends .entry)) names «name_bytes» (now (rec .entry))) ⌝ }
 {
     let plan = judge_interval(table, used, bytes, ends, names, name_bytes, rec);
     match plan {

@@ -184,10 +184,12 @@ pub fn run(
     allowance: usize,
     list: &mut [u64],
 ) -> Made
-    ensures { λ r. ⌜ (runFits (arraysFit held (length (now (marks .entry))) (length (now (times .entry))) (length (now (places .entry))) (length (now (heads .entry))) (length (now (heap .entry)))) allowance (length (now (list .entry))) ≡ false
+    ensures { λ r. ⌜ (runFits (arraysFit held (length (now (marks .entry))) (length (now (times .entry))) (length (now (places .entry)))
+        (length (now (heads .entry))) (length (now (heap .entry)))) allowance (length (now (list .entry))) ≡ false
         → RunRefused (now (marks .entry)) (now (times .entry)) (now (places .entry)) (now (heads .entry)) (now (heap .entry)) (now (list .entry)) held
         (r .calls) (r .written) (r .held) (lastOf (r .last)) (now (marks .exit)) (now (times .exit)) (now (places .exit)) (now (heads .exit)) (now (heap .exit)) (now (list .exit))) ⌝ }
-    ensures { λ r. ⌜ (runFits (arraysFit held (length (now (marks .entry))) (length (now (times .entry))) (length (now (places .entry))) (length (now (heads .entry))) (length (now (heap .entry)))) allowance (length (now (list .entry))) ≡ true
+    ensures { λ r. ⌜ (runFits (arraysFit held (length (now (marks .entry))) (length (now (times .entry))) (length (now (places .entry)))
+        (length (now (heads .entry))) (length (now (heap .entry)))) allowance (length (now (list .entry))) ≡ true
         → (n : ℕ) → n ≤ 256 → StateOk n held (now (marks .entry)) (now (times .entry)) (now (places .entry)) (now (heads .entry)) (now (heap .entry))
         → RunSays (streamsOf (now (buffer .entry)) (now (cuts .entry))) n (most allowance (length (now (list .entry)))) (now (marks .entry)) (now (times .entry)) (now (places .entry)) (now (heads .entry)) (now (list .entry))
         (r .calls) (r .written) (r .held) (lastOf (r .last)) (now (marks .exit)) (now (times .exit)) (now (places .exit)) (now (heads .exit)) (now (heap .exit)) (now (list .exit))) ⌝ }

@@ -28,7 +28,11 @@ returns c =
     let o = c .before .before .before .before .end .ensures in
     let g = c .enum-told .given .1 in (
       (λ w. let x = o .0 w in (done-number (answer-same endedOf (x .0) g), x .1)),
-      (λ w n held window ts cs hs hp hn ok. let x = o .1 w n held window ts cs hs hp hn ok in (done-number (answer-same endedOf (x .heard) g), record { heard = refl; leaves = x .leaves; sound = x .sound; refused = x .refused; spans = x .spans })),
+      (λ w n held window ts cs hs hp hn ok. let x = o .1 w n held window ts cs hs hp hn ok in (
+        done-number (answer-same endedOf (x .heard) g),
+        record
+            { heard = refl; leaves = x .leaves; sound = x .sound; refused = x .refused; spans = x .spans },
+      )),
     )
 
 same-length-2 : tie.Need-same-length-2

@@ -131,17 +131,22 @@ same-length-24 c = search needs
 
 returns-4 : tie.Need-returns-4
 returns-4 c =
-    let o = c .before .before .before .before .before .before .before .before .before .before .before .before .before .before .before .before .before .before .before .before .before .before .next .ensures .1 in
-    let g = c .before .before .before .before .before .before .before .before .answer3 .given .1 in (
+    let c3 = c .before .before .before in
+    let c8 = c3 .before .before .before .before .before in
+    let c22 = c8 .before .before .before .before .before .before .before .before .before .before .before .before .before .before in
+    let o = c22 .next .ensures .1 in
+    let g = c8 .answer3 .given .1 in (
       (λ w. let x = o .0 w in (
         fed-not _ _ _ _ _ _ _ _ _
-            (c .before .before .before .before .before .before .before .before .answer3 .given .0 .0) (c .number .ensures) (c .before .before .before .before .before .stream-in .ensures) (c .before .before .before .place-in .ensures) (c .before .reason-in .ensures) (answer-same fedOf (x .0) g),
+            (c8 .answer3 .given .0 .0) (c .number .ensures) (c3 .before .before .stream-in .ensures) (c3 .place-in .ensures) (c .before .reason-in .ensures)
+            (answer-same fedOf (x .0) g),
         x .1,
         x .2,
       )),
       (λ w n h s. let x = o .1 .0 w n h s in (
         fed-not _ _ _ _ _ _ _ _ _
-            (c .before .before .before .before .before .before .before .before .answer3 .given .0 .0) (c .number .ensures) (c .before .before .before .before .before .stream-in .ensures) (c .before .before .before .place-in .ensures) (c .before .reason-in .ensures) (answer-same fedOf (x .heard) g),
+            (c8 .answer3 .given .0 .0) (c .number .ensures) (c3 .before .before .stream-in .ensures) (c3 .place-in .ensures) (c .before .reason-in .ensures)
+            (answer-same fedOf (x .heard) g),
         rw (← x .heard) x,
         rw (← x .heard) (o .1 .1 w),
       )),

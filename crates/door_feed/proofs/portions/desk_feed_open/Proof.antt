@@ -37,9 +37,11 @@ same-length-6 c = search needs
 
 returns : tie.Need-returns
 returns c =
-    let o = c .before .before .before .before .before .before .before .before .before .before .before .before .before .before .before .«open» .ensures in
+    let c15 = c .before .before .before .before .before .before .before .before .before .before .before .before .before .before .before in
+    let c29 = c15 .before .before .before .before .before .before .before .before .before .before .before .before .before .before in
+    let o = c15 .«open» .ensures in
     let e = answer-same openedOf (o .0) (c .before .opened .given .1) in
-    (done-number e, (done-value (c .before .before .before .before .before .before .before .before .before .before .before .before .before .before .before .before .before .before .before .before .before .before .before .before .before .before .before .before .before .args .held .now) 1 e, o .1))
+    (done-number e, (done-value (c29 .args .held .now) 1 e, o .1))
 
 same-length-7 : tie.Need-same-length-7
 same-length-7 c = search needs
@@ -61,10 +63,12 @@ same-length-12 c = search needs
 
 returns-2 : tie.Need-returns-2
 returns-2 c =
-    let o = c .before .before .before .before .before .before .before .before .before .before .before .before .before .before .before .before .«open» .ensures in
+    let c16 = c .before .before .before .before .before .before .before .before .before .before .before .before .before .before .before .before in
+    let c30 = c16 .before .before .before .before .before .before .before .before .before .before .before .before .before .before in
+    let o = c16 .«open» .ensures in
     let e = answer-same openedOf (o .0) (c .before .before .opened2 .given .1) in
     let r = c .before .before .opened2 .given .0 .0 in
-    (not-number r (c .number .ensures) e, (not-value r (c .before .before .before .before .before .before .before .before .before .before .before .before .before .before .before .before .before .before .before .before .before .before .before .before .before .before .before .before .before .before .args .held .now) 1 e, o .1))
+    (not-number r (c .number .ensures) e, (not-value r (c30 .args .held .now) 1 e, o .1))
 
 pub desk-feed-open-spec : {M : Type 1} → statement M
 desk-feed-open-spec =

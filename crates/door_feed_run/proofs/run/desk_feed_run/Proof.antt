@@ -62,16 +62,27 @@ same-length-7 c = search needs
 
 returns : tie.Need-returns
 returns c =
-    let a = c .before .before .before .before .before .before .before .before .before .before .before .before .before .before .before .before .before .before .before .before .before .before .before .before .before .before .before .before .before .before .before .before .before .args in
-    let ran = c .before .before .before .before .before .before .before .before .before .before .before .before .before .before .before .before .run .ensures in (
+    let c16 = c .before .before .before .before .before .before .before .before .before .before .before .before .before .before .before .before in
+    let c33 = c16 .before .before .before .before .before .before .before .before .before .before .before .before .before .before .before .before .before in
+    let a = c33 .args in
+    let ran = c16 .run .ensures in (
       (λ w.
-          let x = ran .0 w in
-          (ran-done (a .calls .now) (a .written .now) (a .last .now) (a .stream .now) (a .place .now) (a .reason .now) (x .calls) (x .written) (answer-same lastOf (x .answers) (c .enum-told .given .1)), x .held, x .untouched, x .list)),
+          let x = ran .0 w in (
+            ran-done (a .calls .now) (a .written .now) (a .last .now) (a .stream .now) (a .place .now) (a .reason .now) (x .calls) (x .written)
+                (answer-same lastOf (x .answers) (c .enum-told .given .1)),
+            x .held,
+            x .untouched,
+            x .list,
+          )),
       (λ w n h s.
           let x = ran .1 w n h s in
           let g = x .gives in
           record {
-            hands = record { handed = ran-done (a .calls .now) (a .written .now) (a .last .now) (a .stream .now) (a .place .now) (a .reason .now) (g .calls) (g .written) (answer-same lastOf (g .answers) (c .enum-told .given .1)); list = g .list };
+            hands = record {
+              handed = ran-done (a .calls .now) (a .written .now) (a .last .now) (a .stream .now) (a .place .now) (a .reason .now) (g .calls)
+                  (g .written) (answer-same lastOf (g .answers) (c .enum-told .given .1));
+              list = g .list;
+            };
             leaves = x .leaves;
             sound = x .sound;
           }),
@@ -100,16 +111,27 @@ same-length-14 c = search needs
 
 returns-2 : tie.Need-returns-2
 returns-2 c =
-    let a = c .before .before .before .before .before .before .before .before .before .before .before .before .before .before .before .before .before .before .before .before .before .before .before .before .before .before .before .before .before .before .before .before .before .args in
-    let ran = c .before .before .before .before .before .before .before .before .before .before .before .before .before .before .before .before .run .ensures in (
+    let c16 = c .before .before .before .before .before .before .before .before .before .before .before .before .before .before .before .before in
+    let c33 = c16 .before .before .before .before .before .before .before .before .before .before .before .before .before .before .before .before .before in
+    let a = c33 .args in
+    let ran = c16 .run .ensures in (
       (λ w.
-          let x = ran .0 w in
-          (ran-done (a .calls .now) (a .written .now) (a .last .now) (a .stream .now) (a .place .now) (a .reason .now) (x .calls) (x .written) (answer-same lastOf (x .answers) (c .enum-told2 .given .1)), x .held, x .untouched, x .list)),
+          let x = ran .0 w in (
+            ran-done (a .calls .now) (a .written .now) (a .last .now) (a .stream .now) (a .place .now) (a .reason .now) (x .calls) (x .written)
+                (answer-same lastOf (x .answers) (c .enum-told2 .given .1)),
+            x .held,
+            x .untouched,
+            x .list,
+          )),
       (λ w n h s.
           let x = ran .1 w n h s in
           let g = x .gives in
           record {
-            hands = record { handed = ran-done (a .calls .now) (a .written .now) (a .last .now) (a .stream .now) (a .place .now) (a .reason .now) (g .calls) (g .written) (answer-same lastOf (g .answers) (c .enum-told2 .given .1)); list = g .list };
+            hands = record {
+              handed = ran-done (a .calls .now) (a .written .now) (a .last .now) (a .stream .now) (a .place .now) (a .reason .now) (g .calls)
+                  (g .written) (answer-same lastOf (g .answers) (c .enum-told2 .given .1));
+              list = g .list;
+            };
             leaves = x .leaves;
             sound = x .sound;
           }),
@@ -138,16 +160,27 @@ same-length-21 c = search needs
 
 returns-3 : tie.Need-returns-3
 returns-3 c =
-    let a = c .before .before .before .before .before .before .before .before .before .before .before .before .before .before .before .before .before .before .before .before .before .before .before .before .before .before .before .before .before .before .before .before .before .before .args in
-    let ran = c .before .before .before .before .before .before .before .before .before .before .before .before .before .before .before .before .before .run .ensures in (
+    let c17 = c .before .before .before .before .before .before .before .before .before .before .before .before .before .before .before .before .before in
+    let c34 = c17 .before .before .before .before .before .before .before .before .before .before .before .before .before .before .before .before .before in
+    let a = c34 .args in
+    let ran = c17 .run .ensures in (
       (λ w.
-          let x = ran .0 w in
-          (ran-needs (a .calls .now) (a .written .now) (a .last .now) (a .stream .now) (a .place .now) (a .reason .now) (x .calls) (x .written) (answer-same lastOf (x .answers) (c .before .answer .given .1)), x .held, x .untouched, x .list)),
+          let x = ran .0 w in (
+            ran-needs (a .calls .now) (a .written .now) (a .last .now) (a .stream .now) (a .place .now) (a .reason .now) (x .calls) (x .written)
+                (answer-same lastOf (x .answers) (c .before .answer .given .1)),
+            x .held,
+            x .untouched,
+            x .list,
+          )),
       (λ w n h s.
           let x = ran .1 w n h s in
           let g = x .gives in
           record {
-            hands = record { handed = ran-needs (a .calls .now) (a .written .now) (a .last .now) (a .stream .now) (a .place .now) (a .reason .now) (g .calls) (g .written) (answer-same lastOf (g .answers) (c .before .answer .given .1)); list = g .list };
+            hands = record {
+              handed = ran-needs (a .calls .now) (a .written .now) (a .last .now) (a .stream .now) (a .place .now) (a .reason .now) (g .calls)
+                  (g .written) (answer-same lastOf (g .answers) (c .before .answer .given .1));
+              list = g .list;
+            };
             leaves = x .leaves;
             sound = x .sound;
           }),
@@ -176,9 +209,12 @@ same-length-28 c = search needs
 
 returns-4 : tie.Need-returns-4
 returns-4 c =
-    let a = c .before .before .before .before .before .before .before .before .before .before .before .before .before .before .before .before .before .before .before .before .before .before .before .before .before .before .before .before .before .before .before .before .before .before .before .before .before .before .before .before .before .before .before .before .before .args in
-    let ran = c .before .before .before .before .before .before .before .before .before .before .before .before .before .before .before .before .before .before .before .before .before .before .before .before .before .before .before .before .run .ensures in
-    let known = c .before .before .before .before .before .before .before .before .before .before .before .before .answer2 .given in
+    let c12 = c .before .before .before .before .before .before .before .before .before .before .before .before in
+    let c28 = c12 .before .before .before .before .before .before .before .before .before .before .before .before .before .before .before .before in
+    let c45 = c28 .before .before .before .before .before .before .before .before .before .before .before .before .before .before .before .before .before in
+    let a = c45 .args in
+    let ran = c28 .run .ensures in
+    let known = c12 .answer2 .given in
     let k = c .before .before .before .before .before .before .before .before .before .moved .ensures in
     let m = c .before .before .before .before .before .before .before .moved2 .ensures in
     let i = c .before .before .before .before .before .stream-in .ensures in
@@ -186,12 +222,14 @@ returns-4 c =
     let q = c .before .reason-in .ensures in (
       (λ w.
           let x = ran .0 w in
-          let hand = ran-not (a .calls .now) (a .written .now) (a .last .now) (a .stream .now) (a .place .now) (a .reason .now) (x .calls) (x .written) (known .0 .0) (c .number .ensures) k m i p q in
+          let hand = ran-not (a .calls .now) (a .written .now) (a .last .now) (a .stream .now) (a .place .now) (a .reason .now) (x .calls) (x .written)
+          (known .0 .0) (c .number .ensures) k m i p q in
           (hand (answer-same lastOf (x .answers) (known .1)), x .held, x .untouched, x .list)),
       (λ w n h s.
           let x = ran .1 w n h s in
           let g = x .gives in
-          let hand = ran-not (a .calls .now) (a .written .now) (a .last .now) (a .stream .now) (a .place .now) (a .reason .now) (g .calls) (g .written) (known .0 .0) (c .number .ensures) k m i p q in
+          let hand = ran-not (a .calls .now) (a .written .now) (a .last .now) (a .stream .now) (a .place .now) (a .reason .now) (g .calls) (g .written)
+          (known .0 .0) (c .number .ensures) k m i p q in
           record {
             hands = record { handed = hand (answer-same lastOf (g .answers) (known .1)); list = g .list };
             leaves = x .leaves;

@@ -56,16 +56,27 @@ same-length-6 c = search needs
 
 returns : tie.Need-returns
 returns c =
-    let a = c .before .before .before .before .before .before .before .before .before .before .before .before .before .before .before .before .before .before .before .before .before .before .before .before .before .before .before .before .before .before .args in
-    let ran = c .before .before .before .before .before .before .before .before .before .before .before .before .before .before .run .ensures in (
+    let c14 = c .before .before .before .before .before .before .before .before .before .before .before .before .before .before in
+    let c30 = c14 .before .before .before .before .before .before .before .before .before .before .before .before .before .before .before .before in
+    let a = c30 .args in
+    let ran = c14 .run .ensures in (
       (λ w.
-          let x = ran .0 w in
-          (ran-done (a .calls .now) (a .written .now) (a .last .now) (a .stream .now) (a .place .now) (a .reason .now) (x .calls) (x .written) (answer-same lastOf (x .answers) (c .enum-told .given .1)), x .held, x .untouched, x .list)),
+          let x = ran .0 w in (
+            ran-done (a .calls .now) (a .written .now) (a .last .now) (a .stream .now) (a .place .now) (a .reason .now) (x .calls) (x .written)
+                (answer-same lastOf (x .answers) (c .enum-told .given .1)),
+            x .held,
+            x .untouched,
+            x .list,
+          )),
       (λ w n h s.
           let x = ran .1 w n h s in
           let g = x .gives in
           record {
-            hands = record { handed = ran-done (a .calls .now) (a .written .now) (a .last .now) (a .stream .now) (a .place .now) (a .reason .now) (g .calls) (g .written) (answer-same lastOf (g .answers) (c .enum-told .given .1)); list = g .list };
+            hands = record {
+              handed = ran-done (a .calls .now) (a .written .now) (a .last .now) (a .stream .now) (a .place .now) (a .reason .now) (g .calls)
+                  (g .written) (answer-same lastOf (g .answers) (c .enum-told .given .1));
+              list = g .list;
+            };
             leaves = x .leaves;
             sound = x .sound;
           }),
@@ -91,16 +102,27 @@ same-length-12 c = search needs
 
 returns-2 : tie.Need-returns-2
 returns-2 c =
-    let a = c .before .before .before .before .before .before .before .before .before .before .before .before .before .before .before .before .before .before .before .before .before .before .before .before .before .before .before .before .before .before .args in
-    let ran = c .before .before .before .before .before .before .before .before .before .before .before .before .before .before .run .ensures in (
+    let c14 = c .before .before .before .before .before .before .before .before .before .before .before .before .before .before in
+    let c30 = c14 .before .before .before .before .before .before .before .before .before .before .before .before .before .before .before .before in
+    let a = c30 .args in
+    let ran = c14 .run .ensures in (
       (λ w.
-          let x = ran .0 w in
-          (ran-done (a .calls .now) (a .written .now) (a .last .now) (a .stream .now) (a .place .now) (a .reason .now) (x .calls) (x .written) (answer-same lastOf (x .answers) (c .enum-told2 .given .1)), x .held, x .untouched, x .list)),
+          let x = ran .0 w in (
+            ran-done (a .calls .now) (a .written .now) (a .last .now) (a .stream .now) (a .place .now) (a .reason .now) (x .calls) (x .written)
+                (answer-same lastOf (x .answers) (c .enum-told2 .given .1)),
+            x .held,
+            x .untouched,
+            x .list,
+          )),
       (λ w n h s.
           let x = ran .1 w n h s in
           let g = x .gives in
           record {
-            hands = record { handed = ran-done (a .calls .now) (a .written .now) (a .last .now) (a .stream .now) (a .place .now) (a .reason .now) (g .calls) (g .written) (answer-same lastOf (g .answers) (c .enum-told2 .given .1)); list = g .list };
+            hands = record {
+              handed = ran-done (a .calls .now) (a .written .now) (a .last .now) (a .stream .now) (a .place .now) (a .reason .now) (g .calls)
+                  (g .written) (answer-same lastOf (g .answers) (c .enum-told2 .given .1));
+              list = g .list;
+            };
             leaves = x .leaves;
             sound = x .sound;
           }),
@@ -126,9 +148,12 @@ same-length-18 c = search needs
 
 returns-3 : tie.Need-returns-3
 returns-3 c =
-    let a = c .before .before .before .before .before .before .before .before .before .before .before .before .before .before .before .before .before .before .before .before .before .before .before .before .before .before .before .before .before .before .before .before .before .before .before .before .before .before .before .before .before .before .args in
-    let ran = c .before .before .before .before .before .before .before .before .before .before .before .before .before .before .before .before .before .before .before .before .before .before .before .before .before .before .run .ensures in
-    let known = c .before .before .before .before .before .before .before .before .before .before .before .before .answer .given in
+    let c12 = c .before .before .before .before .before .before .before .before .before .before .before .before in
+    let c26 = c12 .before .before .before .before .before .before .before .before .before .before .before .before .before .before in
+    let c42 = c26 .before .before .before .before .before .before .before .before .before .before .before .before .before .before .before .before in
+    let a = c42 .args in
+    let ran = c26 .run .ensures in
+    let known = c12 .answer .given in
     let k = c .before .before .before .before .before .before .before .before .before .moved .ensures in
     let m = c .before .before .before .before .before .before .before .moved2 .ensures in
     let i = c .before .before .before .before .before .stream-in .ensures in
@@ -136,12 +161,14 @@ returns-3 c =
     let q = c .before .reason-in .ensures in (
       (λ w.
           let x = ran .0 w in
-          let hand = ran-not (a .calls .now) (a .written .now) (a .last .now) (a .stream .now) (a .place .now) (a .reason .now) (x .calls) (x .written) (known .0 .0) (c .number .ensures) k m i p q in
+          let hand = ran-not (a .calls .now) (a .written .now) (a .last .now) (a .stream .now) (a .place .now) (a .reason .now) (x .calls) (x .written)
+          (known .0 .0) (c .number .ensures) k m i p q in
           (hand (answer-same lastOf (x .answers) (known .1)), x .held, x .untouched, x .list)),
       (λ w n h s.
           let x = ran .1 w n h s in
           let g = x .gives in
-          let hand = ran-not (a .calls .now) (a .written .now) (a .last .now) (a .stream .now) (a .place .now) (a .reason .now) (g .calls) (g .written) (known .0 .0) (c .number .ensures) k m i p q in
+          let hand = ran-not (a .calls .now) (a .written .now) (a .last .now) (a .stream .now) (a .place .now) (a .reason .now) (g .calls) (g .written)
+          (known .0 .0) (c .number .ensures) k m i p q in
           record {
             hands = record { handed = hand (answer-same lastOf (g .answers) (known .1)); list = g .list };
             leaves = x .leaves;

@@ -26,15 +26,20 @@ returns-3 : tie.Need-returns-3
 returns-3 c = search (needs, judged-4)
 
 find-name-requires : tie.Need-find-name-requires
-find-name-requires c κs =
-    (ordered (memory _ _ _ _ (holds (c .before .before .before .before .before .list-fits .ensures) (c .before .before .before .before .if1 .left))) (formed _ _ _ _ (holds (c .before .before .before .is-list .ensures) (c .before .before .if2 .left))), c .before .before .before .before .before .before .before .before .before .pre)
+find-name-requires c κs = (
+  ordered (memory _ _ _ _ (holds (c .before .before .before .before .before .list-fits .ensures) (c .before .before .before .before .if1 .left)))
+      (formed _ _ _ _ (holds (c .before .before .before .is-list .ensures) (c .before .before .if2 .left))),
+  c .before .before .before .before .before .before .before .before .before .pre,
+)
 
 cast-t16 : tie.Need-cast-t16
 cast-t16 c = let m = memory _ _ _ _ (holds (c .before .before .before .before .before .before .before .list-fits .ensures) (c .before .before .before .before .before .before .if1 .left)) in omega (arith, m .held, m .few)
 
 returns-4 : tie.Need-returns-4
 returns-4 c =
-    judged-old _ _ _ _ _ (c .before .before .before .before .before .before .before .list-fits .ensures) (c .before .before .before .before .before .before .if1 .left) (c .before .before .before .before .before .is-list .ensures) (c .before .before .before .before .if2 .left) (c .before .before .before .is-name .ensures) (c .before .before .if3 .left)
+    judged-old _ _ _ _ _ (c .before .before .before .before .before .before .before .list-fits .ensures)
+    (c .before .before .before .before .before .before .if1 .left) (c .before .before .before .before .before .is-list .ensures)
+    (c .before .before .before .before .if2 .left) (c .before .before .before .is-name .ensures) (c .before .before .if3 .left)
     (c .before .find-name .ensures) (c .if4 .taken)
 
 sub-has-room : tie.Need-sub-has-room
@@ -44,17 +49,26 @@ has-room-requires : tie.Need-has-room-requires
 has-room-requires c κs = holds (c .before .before .before .before .before .before .before .list-fits .ensures) (c .before .before .before .before .before .before .if1 .left)
 
 cast-t20 : tie.Need-cast-t20
-cast-t20 c = let m = memory _ _ _ _ (holds (c .before .before .before .before .before .before .before .before .before .list-fits .ensures) (c .before .before .before .before .before .before .before .before .if1 .left)) in omega (arith, m .held, m .few)
+cast-t20 c = let m = memory _ _ _ _ (holds (c .before .before .before .before .before .before .before .before .before .list-fits .ensures)
+    (c .before .before .before .before .before .before .before .before .if1 .left)) in omega (arith, m .held, m .few)
 
 returns-5 : tie.Need-returns-5
 returns-5 c =
-    judged-new _ _ _ _ _ _ _ (c .before .before .before .before .before .before .before .before .before .list-fits .ensures) (c .before .before .before .before .before .before .before .before .if1 .left) (c .before .before .before .before .before .before .before .is-list .ensures) (c .before .before .before .before .before .before .if2 .left) (c .before .before .before .before .before .is-name .ensures) (c .before .before .before .before .if3 .left)
-    (c .before .before .before .find-name .ensures) (c .before .before .if4 .left) (c .before .before .before .before .before .before .before .before .before .before .before .before .before .pre .1) (c .before .has-room .ensures) (c .if5 .taken)
+    let c13 = c .before .before .before .before .before .before .before .before .before .before .before .before .before in
+    judged-new _ _ _ _ _ _ _ (c .before .before .before .before .before .before .before .before .before .list-fits .ensures)
+    (c .before .before .before .before .before .before .before .before .if1 .left)
+    (c .before .before .before .before .before .before .before .is-list .ensures) (c .before .before .before .before .before .before .if2 .left)
+    (c .before .before .before .before .before .is-name .ensures) (c .before .before .before .before .if3 .left)
+    (c .before .before .before .find-name .ensures) (c .before .before .if4 .left) (c13 .pre .1) (c .before .has-room .ensures) (c .if5 .taken)
 
 returns-6 : tie.Need-returns-6
 returns-6 c =
-    judged-5 _ _ _ _ _ _ _ (c .before .before .before .before .before .before .before .before .before .list-fits .ensures) (c .before .before .before .before .before .before .before .before .if1 .left) (c .before .before .before .before .before .before .before .is-list .ensures) (c .before .before .before .before .before .before .if2 .left) (c .before .before .before .before .before .is-name .ensures) (c .before .before .before .before .if3 .left)
-    (c .before .before .before .find-name .ensures) (c .before .before .if4 .left) (c .before .before .before .before .before .before .before .before .before .before .before .before .before .pre .1) (c .before .has-room .ensures) (c .if5 .left)
+    let c13 = c .before .before .before .before .before .before .before .before .before .before .before .before .before in
+    judged-5 _ _ _ _ _ _ _ (c .before .before .before .before .before .before .before .before .before .list-fits .ensures)
+    (c .before .before .before .before .before .before .before .before .if1 .left)
+    (c .before .before .before .before .before .before .before .is-list .ensures) (c .before .before .before .before .before .before .if2 .left)
+    (c .before .before .before .before .before .is-name .ensures) (c .before .before .before .before .if3 .left)
+    (c .before .before .before .find-name .ensures) (c .before .before .if4 .left) (c13 .pre .1) (c .before .has-room .ensures) (c .if5 .left)
 
 pub judge-name-spec : {M : Type 1} → statement M
 judge-name-spec =

@@ -25,8 +25,11 @@ add-name-requires c κs =
 
 add-t21 : tie.Need-add-t21
 add-t21 c =
-    let a = c .before .before .before .before .before .before .before .before .before .before .before .before .before .before .before .before .args in
-    let e = of-whole (a .bytes .now) (a .ends .now) (a .names) (a .name-bytes) (a .text .now) (c .before .before .before .before .before .before .before .before .before .before .judge-name .ensures) (c .before .before .before .before .before .before .before .before .judged2 .given .1) in
+    let c16 = c .before .before .before .before .before .before .before .before .before .before .before .before .before .before .before .before in
+    let a = c16 .args in
+    let e = of-whole (a .bytes .now) (a .ends .now) (a .names) (a .name-bytes) (a .text .now)
+    (c .before .before .before .before .before .before .before .before .before .before .judge-name .ensures)
+    (c .before .before .before .before .before .before .before .before .judged2 .given .1) in
     let f = case-new (a .bytes .now) (a .ends .now) (a .names) (a .name-bytes) (a .text .now) e in
     omega (arith, f .3 .few)
 
@@ -53,8 +56,11 @@ same-length-4 c = search needs
 
 returns-2 : tie.Need-returns-2
 returns-2 c =
-    let a = c .before .before .before .before .before .before .before .before .before .before .before .before .before .before .before .before .args in
-    let e = of-whole (a .bytes .now) (a .ends .now) (a .names) (a .name-bytes) (a .text .now) (c .before .before .before .before .before .before .before .before .before .before .judge-name .ensures) (c .before .before .before .before .before .before .before .before .judged2 .given .1) in
+    let c16 = c .before .before .before .before .before .before .before .before .before .before .before .before .before .before .before .before in
+    let a = c16 .args in
+    let e = of-whole (a .bytes .now) (a .ends .now) (a .names) (a .name-bytes) (a .text .now)
+    (c .before .before .before .before .before .before .before .before .before .before .judge-name .ensures)
+    (c .before .before .before .before .before .before .before .before .judged2 .given .1) in
     let d = c .before .before .before .before .add-name .ensures in
     promised-new (a .bytes .now) (a .ends .now) (a .names) (a .name-bytes) (a .text .now) _ e (whole (a .text .now)) (omega arith) (d .0) (d .1 .0) (d .1 .1)
 

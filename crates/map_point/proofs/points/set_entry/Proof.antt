@@ -51,9 +51,14 @@ same-length-3 c = search needs
 
 returns-3 : tie.Need-returns-3
 returns-3 c =
-    let start = c .before .before .before .before .before .before .before .before .before .before .before .before .before .before .before in
-    stores-more _ _ _ _ (start .pre .0) (start .pre .1) (c .before .before .before .before .before .before .before .before .before .before .before .before .place-of .ensures) (c .before .before .before .before .before .before .before .before .before .before .holds .ensures)
-    (λ k. omega (arith, c .before .before .before .before .before .before .before .before .before .before .before .before .before .before .slice-known .given k)) (small start) (c .before .before .before .before .before .before .before .before .before .if1 .left) (c .before .before .before .before .before .before .before .before .if2 .left)
+    let c12 = c .before .before .before .before .before .before .before .before .before .before .before .before in
+    let c15 = c12 .before .before .before in
+    let start = c15 in
+    stores-more _ _ _ _ (start .pre .0) (start .pre .1) (c12 .place-of .ensures)
+    (c .before .before .before .before .before .before .before .before .before .before .holds .ensures)
+    (λ k. omega (arith, c12 .before .before .slice-known .given k)) (small start)
+    (c .before .before .before .before .before .before .before .before .before .if1 .left)
+    (c .before .before .before .before .before .before .before .before .if2 .left)
     (c .before .before .before .before .before .before .move-up .ensures) (c .before .before .put-entry2 .ensures)
 
 pub set-entry-spec : {M : Type 1} → statement M

@@ -22,9 +22,11 @@ same-length-2 c = search needs
 
 returns : tie.Need-returns
 returns c =
-    let a = c .before .before .before .before .before .before .before .before .before .before .before .args in
+    let c11 = c .before .before .before .before .before .before .before .before .before .before .before in
+    let a = c11 .args in
     let j = c .before .before .before .before .add-name .ensures in
-    joined-new (a .bytes .now) (a .ends .now) (a .names) (a .name-bytes) (a .rec .now) (a .from) (a .to) (c .before .before .before .before .before .before .before .before .before .before .before .pre) (c .before .before .before .before .before .before .before .if1 .taken) (j .0) (j .1 .0) (j .1 .1)
+    joined-new (a .bytes .now) (a .ends .now) (a .names) (a .name-bytes) (a .rec .now) (a .from) (a .to) (c11 .pre)
+    (c .before .before .before .before .before .before .before .if1 .taken) (j .0) (j .1 .0) (j .1 .1)
 
 returns-2 : tie.Need-returns-2
 returns-2 c = joined-old _ _ _ _ _ (c .if1 .left)

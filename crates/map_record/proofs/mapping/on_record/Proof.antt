@@ -32,8 +32,11 @@ enum-known-inserted-2 c = search needs
 
 join-name-requires : tie.Need-join-name-requires
 join-name-requires c κs =
-    let a = c .before .before .before .before .before .before .before .before .before .before .before .before .before .before .before .before .before .before .before .before .args in
-    interval-store (a .table .now) (a .used) (a .bytes .now) (a .ends .now) (a .names) (a .name-bytes) (a .rec .now) (c .before .before .before .before .before .before .before .before .before .before .before .before .judge-interval .ensures .1) (c .before .before .before .before .before .before .before .before .before .before .plan2 .given .1) .0
+    let c12 = c .before .before .before .before .before .before .before .before .before .before .before .before in
+    let c20 = c12 .before .before .before .before .before .before .before .before in
+    let a = c20 .args in
+    interval-store (a .table .now) (a .used) (a .bytes .now) (a .ends .now) (a .names) (a .name-bytes) (a .rec .now) (c12 .judge-interval .ensures .1)
+    (c .before .before .before .before .before .before .before .before .before .before .plan2 .given .1) .0
 
 same-length : tie.Need-same-length
 same-length c = search needs
@@ -84,9 +87,12 @@ same-length-12 c = search needs
 
 returns-4 : tie.Need-returns-4
 returns-4 c =
-    let w = sym (ap planOf (c .before .before .before .before .before .before .before .before .before .before .before .before .before .before .before .plan2 .given .1)) ∙ c .before .before .before .before .before .before .before .before .before .before .before .before .before .before .before .before .before .judge-interval .ensures .0 in
+    let c12 = c .before .before .before .before .before .before .before .before .before .before .before .before in
+    let c15 = c12 .before .before .before in
+    let w = sym (ap planOf (c15 .plan2 .given .1)) ∙ c15 .before .before .judge-interval .ensures .0 in
     let j = c .before .before .before .before .join-name .ensures in
-    time-stored _ _ _ _ _ _ _ w (sym (ap insertedOf (c .before .before .before .before .before .before .before .before .inserted2 .given .1))) (c .before .before .before .before .before .before .before .before .before .before .before .before .place .ensures) (j .0 .0) (j .0 .1) (j .1 .0) (j .1 .1)
+    time-stored _ _ _ _ _ _ _ w (sym (ap insertedOf (c .before .before .before .before .before .before .before .before .inserted2 .given .1)))
+    (c12 .place .ensures) (j .0 .0) (j .0 .1) (j .1 .0) (j .1 .1)
 
 pub on-record-spec : {M : Type 1} → statement M
 on-record-spec =

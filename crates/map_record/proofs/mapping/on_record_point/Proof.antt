@@ -33,8 +33,11 @@ enum-known-stored-2 c = search needs
 
 join-name-requires : tie.Need-join-name-requires
 join-name-requires c κs =
-    let a = c .before .before .before .before .before .before .before .before .before .before .before .before .before .before .before .before .before .before .before .before .args in
-    ready-store (a .table .now) (a .used) (a .bytes .now) (a .ends .now) (a .names) (a .name-bytes) (a .rec .now) (c .before .before .before .before .before .before .before .before .before .before .before .before .judge-point .ensures .1) (c .before .before .before .before .before .before .before .before .before .before .plan2 .given .1) .0
+    let c12 = c .before .before .before .before .before .before .before .before .before .before .before .before in
+    let c20 = c12 .before .before .before .before .before .before .before .before in
+    let a = c20 .args in
+    ready-store (a .table .now) (a .used) (a .bytes .now) (a .ends .now) (a .names) (a .name-bytes) (a .rec .now) (c12 .judge-point .ensures .1)
+    (c .before .before .before .before .before .before .before .before .before .before .plan2 .given .1) .0
 
 same-length : tie.Need-same-length
 same-length c = search needs
@@ -85,9 +88,12 @@ same-length-12 c = search needs
 
 returns-4 : tie.Need-returns-4
 returns-4 c =
-    let w = sym (ap planOf (c .before .before .before .before .before .before .before .before .before .before .before .before .before .before .before .plan2 .given .1)) ∙ c .before .before .before .before .before .before .before .before .before .before .before .before .before .before .before .before .before .judge-point .ensures .0 in
+    let c12 = c .before .before .before .before .before .before .before .before .before .before .before .before in
+    let c15 = c12 .before .before .before in
+    let w = sym (ap planOf (c15 .plan2 .given .1)) ∙ c15 .before .before .judge-point .ensures .0 in
     let j = c .before .before .before .before .join-name .ensures in
-    leaves-stored _ _ _ _ _ _ _ w (sym (ap storedOf (c .before .before .before .before .before .before .before .before .stored2 .given .1))) (c .before .before .before .before .before .before .before .before .before .before .before .before .set-entry .ensures) (j .0 .0) (j .0 .1) (j .1 .0) (j .1 .1)
+    leaves-stored _ _ _ _ _ _ _ w (sym (ap storedOf (c .before .before .before .before .before .before .before .before .stored2 .given .1)))
+    (c12 .set-entry .ensures) (j .0 .0) (j .0 .1) (j .1 .0) (j .1 .1)
 
 pub on-record-point-spec : {M : Type 1} → statement M
 on-record-point-spec =

@@ -24,7 +24,11 @@ is-name-requires c κs =
     (p .0, p .1)
 
 plan-name-requires : tie.Need-plan-name-requires
-plan-name-requires c κs = (c .before .before .before .before .before .before .before .before .before .before .before .pre, asked-part [] [] _ 0 0 (c .before .before .before .before .before .before .before .read-mapping .ensures) (c .before .before .before .before .before .asked2 .given .1))
+plan-name-requires c κs = (
+  c .before .before .before .before .before .before .before .before .before .before .before .pre,
+  asked-part [] [] _ 0 0
+      (c .before .before .before .before .before .before .before .read-mapping .ensures) (c .before .before .before .before .before .asked2 .given .1),
+)
 
 returns : tie.Need-returns
 returns c = (time-other _ _ _ _ _ (c .before .before .read-mapping .ensures) (c .enum-told .given .1), (tt, tt))

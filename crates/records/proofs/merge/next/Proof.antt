@@ -22,8 +22,10 @@ returns c =
 
 turns-requires : tie.Need-turns-requires
 turns-requires c κs =
-    let a = c .before .before .before .before .before .before .before .before .before .before .before .before .before .before .args in
-    arrays-room (a .held) (a .marks .now) (a .times .now) (a .places .now) (a .heads .now) (a .heap .now) (sym (c .before .before .before .before .before .before .arrays-fit .ensures) ∙ not-false _ (c .before .before .before .before .before .if1 .left))
+    let c14 = c .before .before .before .before .before .before .before .before .before .before .before .before .before .before in
+    let a = c14 .args in
+    arrays-room (a .held) (a .marks .now) (a .times .now) (a .places .now) (a .heads .now) (a .heap .now)
+    (sym (c .before .before .before .before .before .before .arrays-fit .ensures) ∙ not-false _ (c .before .before .before .before .before .if1 .left))
 
 same-length : tie.Need-same-length
 same-length c = search needs
@@ -42,7 +44,8 @@ same-length-5 c = search needs
 
 returns-2 : tie.Need-returns-2
 returns-2 c =
-    let yes : arraysFit _ _ _ _ _ _ ≡ true = sym (c .before .before .before .before .before .before .before .before .before .before .before .before .before .before .before .before .before .arrays-fit .ensures) ∙ not-false _ (c .before .before .before .before .before .before .before .before .before .before .before .before .before .before .before .before .if1 .left) in
+    let c16 = c .before .before .before .before .before .before .before .before .before .before .before .before .before .before .before .before in
+    let yes : arraysFit _ _ _ _ _ _ ≡ true = sym (c16 .before .arrays-fit .ensures) ∙ not-false _ (c16 .if1 .left) in
     let turn = c .before .before .before .before .before .before .before .before .before .before .turns in
     (turn .ensures .0, ((λ e. let z : _≡_ {A = ℕ} 0 1 = cc in absurd (omega arith)), (λ e. turn .ensures .1)))
 

@@ -103,7 +103,10 @@ returns-2 c =
     let root = there .before .before .before .before in
     let at = there .before .before .before .before .before .before .before .loop in
     let start = there .before .before .before .before .before .before .before .before .before .before .before .before .before .before .before in
-    rw (c .damaged .ensures) (step-damaged (at .inv) (start .pre) (root .slot .ensures .0) (omega (arith, root .before .before .if1 .left)) (there .before .if2 .taken) (got .result .found) (got .result .time) (got .result .head) (got .ensures) (c .before .before .before .before .sift-down .ensures) (c .before .if4 .taken) (c .before .before .before .before .before .before .before .before .if3 .taken))
+    rw (c .damaged .ensures) (step-damaged (at .inv) (start .pre) (root .slot .ensures .0) (omega (arith, root .before .before .if1 .left))
+    (there .before .if2 .taken) (got .result .found) (got .result .time) (got .result .head) (got .ensures)
+    (c .before .before .before .before .sift-down .ensures) (c .before .if4 .taken)
+    (c .before .before .before .before .before .before .before .before .if3 .taken))
 
 loop-less : tie.Need-loop-less Inv-loop μ-loop
 loop-less c =
@@ -116,12 +119,14 @@ loop-less c =
 
 loop-again : tie.Need-loop-again Inv-loop μ-loop
 loop-again c =
-    let there = c .before .before .before .before .before .before .before .before in
+    let c3 = c .before .before .before in
+    let there = c3 .before .before .before .before .before in
     let got = there .read-stream in
     let root = there .before .before .before .before in
     let at = there .before .before .before .before .before .before .before .loop in
     let start = there .before .before .before .before .before .before .before .before .before .before .before .before .before .before .before in
-    step-ended (at .inv) (start .pre) (root .slot .ensures .0) (omega (arith, root .before .before .if1 .left)) (there .before .if2 .taken) (got .result .found) (got .result .time) (got .result .head) (got .ensures) (c .before .before .before .sift-down .ensures) (c .if4 .left) (c .before .before .before .sift-down .kept .1 .0)
+    step-ended (at .inv) (start .pre) (root .slot .ensures .0) (omega (arith, root .before .before .if1 .left)) (there .before .if2 .taken) (got .result .found)
+    (got .result .time) (got .result .head) (got .ensures) (c3 .sift-down .ensures) (c .if4 .left) (c3 .sift-down .kept .1 .0)
 
 slice-write-marks-2 : tie.Need-slice-write-marks-2 Inv-loop μ-loop
 slice-write-marks-2 c = omega arith
@@ -157,7 +162,8 @@ loop-again-2 c =
     let root = there .before .before .before .before in
     let at = there .before .before .before .before .before .before .before .loop in
     let start = there .before .before .before .before .before .before .before .before .before .before .before .before .before .before .before in
-    step-whole (at .inv) (start .pre) (root .slot .ensures .0) (omega (arith, root .before .before .if1 .left)) (there .before .if2 .taken) (got .result .found) (got .result .time) (got .result .head) (got .ensures) (c .before .before .before .before .before .if3 .left)
+    step-whole (at .inv) (start .pre) (root .slot .ensures .0) (omega (arith, root .before .before .if1 .left)) (there .before .if2 .taken) (got .result .found)
+    (got .result .time) (got .result .head) (got .ensures) (c .before .before .before .before .before .if3 .left)
     (omega (arith, stream-short (start .args .buffer .now) (start .args .cuts .now) (root .slot .result), start .good .0 .0))
     (c .before .before .sift-down2 .ensures) (c .before .before .sift-down2 .kept .1 .0)
 
@@ -211,10 +217,14 @@ same-length-15 c = search needs
 
 returns-3 : tie.Need-returns-3 Inv-loop μ-loop
 returns-3 c =
+    let c18 = c .before .before .before .before .before .before .before .before .before .before .before .before .before .before .before .before .before
+    .before in
     let at = c .before .before .before .before .before .before .before .before .before .before .loop in
-    let start = c .before .before .before .before .before .before .before .before .before .before .before .before .before .before .before .before .before .before in
+    let start = c18 in
     rw (c .handed .ensures)
-    (step-record (at .inv) (start .pre) (c .before .before .before .before .before .before .before .slot .ensures .0) (omega (arith, c .before .before .before .before .before .before .before .before .before .if1 .left)) (c .before .before .before .before .if2 .left) (c .before .plus .result) (c .before .plus .ensures))
+    (step-record (at .inv) (start .pre) (c .before .before .before .before .before .before .before .slot .ensures .0)
+    (omega (arith, c .before .before .before .before .before .before .before .before .before .if1 .left)) (c .before .before .before .before .if2 .left)
+    (c .before .plus .result) (c .before .plus .ensures))
 
 pub turns-spec : {M : Type 1} → statement M
 turns-spec =

@@ -65,11 +65,16 @@ same-length-6 c = search needs
 
 returns-2 : tie.Need-returns-2
 returns-2 c =
-    let a = c .before .before .before .before .before .before .before .before .before .before .before .before .before .before .before .before .before .before .before .before .before .before .before .before .before .before .before .before .before .before .before .args in
+    let c12 = c .before .before .before .before .before .before .before .before .before .before .before .before in
+    let c19 = c12 .before .before .before .before .before .before .before in
+    let c22 = c19 .before .before .before in
+    let c31 = c22 .before .before .before .before .before .before .before .before .before in
+    let a = c31 .args in
     let fit : runFits (arraysFit _ _ _ _ _ _) (a .allowance) (length (a .list .now)) ≡ true =
-    ap (λ (m : Bool). runFits m (a .allowance) (length (a .list .now))) (sym (c .before .before .before .before .before .before .before .before .before .before .before .before .before .before .before .before .before .before .before .before .before .before .arrays-fit .ensures)) ∙ sym (c .before .before .before .before .before .before .before .before .before .before .before .before .before .before .before .before .before .before .before .before .before .run-fits .ensures) ∙ not-false _ (c .before .before .before .before .before .before .before .before .before .before .before .before .before .before .before .before .before .before .before .before .if1 .left) in
-    let ran = c .before .before .before .before .before .before .before .before .before .before .before .before .steps .ensures .1 in
-    ((λ e. absurd (subst T (sym fit ∙ e) tt)), (λ e n few ok. rw (← (c .before .before .before .before .before .before .before .before .before .before .before .before .before .before .before .before .before .before .before .limit-of .ensures)) (ran n few ok)))
+    ap (λ (m : Bool). runFits m (a .allowance) (length (a .list .now))) (sym (c22 .arrays-fit .ensures)) ∙ sym (c19 .before .before .run-fits .ensures) ∙
+    not-false _ (c19 .before .if1 .left) in
+    let ran = c12 .steps .ensures .1 in
+    ((λ e. absurd (subst T (sym fit ∙ e) tt)), (λ e n few ok. rw (← (c19 .limit-of .ensures)) (ran n few ok)))
 
 pub run-spec : {M : Type 1} → statement M
 run-spec =

@@ -26,43 +26,74 @@ step-requires c κs =
     (under-room u (p .0), omega (arith, u .lengths .list, p .1, c .before .before .before .before .before .before .loop-test .taken))
 
 add-t29 : tie.Need-add-t29 Inv-loop μ-loop
-add-t29 c = omega (arith, c .before .before .before .before .before .before .before .before .before .before .before .before .before .before .before .before .before .before .before .before .before .loop-test .taken, c .before .before .before .before .before .before .before .before .before .before .before .before .before .before .before .before .before .before .before .before .before .before .before .before .before .before .before .before .before .before .before .fits .limit)
+add-t29 c =
+    let c21 = c .before .before .before .before .before .before .before .before .before .before .before .before .before .before .before .before .before .before
+    .before .before .before in
+    let c31 = c21 .before .before .before .before .before .before .before .before .before .before in
+    omega (arith, c21 .loop-test .taken, c31 .fits .limit)
 
 same-length : tie.Need-same-length Inv-loop μ-loop
-same-length c = c .before .before .before .before .before .before .before .before .before .before .before .before .before .before .step .kept .1 .1 .1 .0 ∙ c .before .before .before .before .before .before .before .before .before .before .before .before .before .before .before .before .before .before .before .before .before .before .loop .inv .lengths .marks
+same-length c =
+    let c14 = c .before .before .before .before .before .before .before .before .before .before .before .before .before .before in
+    let c22 = c14 .before .before .before .before .before .before .before .before in
+    c14 .step .kept .1 .1 .1 .0 ∙ c22 .loop .inv .lengths .marks
 
 same-length-2 : tie.Need-same-length-2 Inv-loop μ-loop
-same-length-2 c = c .before .before .before .before .before .before .before .before .before .before .before .before .before .before .step .kept .1 .1 .1 .1 .0 ∙ c .before .before .before .before .before .before .before .before .before .before .before .before .before .before .before .before .before .before .before .before .before .before .loop .inv .lengths .times
+same-length-2 c =
+    let c14 = c .before .before .before .before .before .before .before .before .before .before .before .before .before .before in
+    let c22 = c14 .before .before .before .before .before .before .before .before in
+    c14 .step .kept .1 .1 .1 .1 .0 ∙ c22 .loop .inv .lengths .times
 
 same-length-3 : tie.Need-same-length-3 Inv-loop μ-loop
-same-length-3 c = c .before .before .before .before .before .before .before .before .before .before .before .before .before .before .step .kept .1 .1 .1 .1 .1 .0 ∙ c .before .before .before .before .before .before .before .before .before .before .before .before .before .before .before .before .before .before .before .before .before .before .loop .inv .lengths .places
+same-length-3 c =
+    let c14 = c .before .before .before .before .before .before .before .before .before .before .before .before .before .before in
+    let c22 = c14 .before .before .before .before .before .before .before .before in
+    c14 .step .kept .1 .1 .1 .1 .1 .0 ∙ c22 .loop .inv .lengths .places
 
 same-length-4 : tie.Need-same-length-4 Inv-loop μ-loop
-same-length-4 c = c .before .before .before .before .before .before .before .before .before .before .before .before .before .before .step .kept .1 .1 .1 .1 .1 .1 .0 ∙ c .before .before .before .before .before .before .before .before .before .before .before .before .before .before .before .before .before .before .before .before .before .before .loop .inv .lengths .heads
+same-length-4 c =
+    let c14 = c .before .before .before .before .before .before .before .before .before .before .before .before .before .before in
+    let c22 = c14 .before .before .before .before .before .before .before .before in
+    c14 .step .kept .1 .1 .1 .1 .1 .1 .0 ∙ c22 .loop .inv .lengths .heads
 
 same-length-5 : tie.Need-same-length-5 Inv-loop μ-loop
-same-length-5 c = c .before .before .before .before .before .before .before .before .before .before .before .before .before .before .step .kept .1 .1 .1 .1 .1 .1 .1 .0 ∙ c .before .before .before .before .before .before .before .before .before .before .before .before .before .before .before .before .before .before .before .before .before .before .loop .inv .lengths .heap
+same-length-5 c =
+    let c14 = c .before .before .before .before .before .before .before .before .before .before .before .before .before .before in
+    let c22 = c14 .before .before .before .before .before .before .before .before in
+    c14 .step .kept .1 .1 .1 .1 .1 .1 .1 .0 ∙ c22 .loop .inv .lengths .heap
 
 same-length-6 : tie.Need-same-length-6 Inv-loop μ-loop
-same-length-6 c = c .before .before .before .before .before .before .before .before .before .before .before .before .before .before .step .kept .1 .1 .1 .1 .1 .1 .1 .1 .0 ∙ c .before .before .before .before .before .before .before .before .before .before .before .before .before .before .before .before .before .before .before .before .before .before .loop .inv .lengths .list
+same-length-6 c =
+    let c14 = c .before .before .before .before .before .before .before .before .before .before .before .before .before .before in
+    let c22 = c14 .before .before .before .before .before .before .before .before in
+    c14 .step .kept .1 .1 .1 .1 .1 .1 .1 .1 .0 ∙ c22 .loop .inv .lengths .list
 
 returns : tie.Need-returns Inv-loop μ-loop
 returns c =
-    let u = c .before .before .before .before .before .before .before .before .before .before .before .before .before .before .before .before .before .before .before .before .before .before .loop .inv in
-    let s = c .before .before .before .before .before .before .before .before .before .before .before .before .before .before .step .ensures in
-    (omega (arith, s .0, u .holds), under-stop u (s .1) (c .before .before .before .before .before .before .before .before .before .before .before .before .before .before .before .before .before .before .before .before .before .loop-test .taken) (not-true _ (c .if1 .taken)) (c .before .before .before .before .before .before .before .before .before .before .before .before .before .before .before .before .before .before .before .before .before .before .before .before .before .before .before .before .before .before .before .pre .1))
+    let c14 = c .before .before .before .before .before .before .before .before .before .before .before .before .before .before in
+    let c21 = c14 .before .before .before .before .before .before .before in
+    let c31 = c21 .before .before .before .before .before .before .before .before .before .before in
+    let u = c21 .before .loop .inv in
+    let s = c14 .step .ensures in
+    (omega (arith, s .0, u .holds), under-stop u (s .1) (c21 .loop-test .taken) (not-true _ (c .if1 .taken)) (c31 .pre .1))
 
 add-calls : tie.Need-add-calls Inv-loop μ-loop
-add-calls c = omega (arith, c .before .before .before .before .before .before .before .before .before .before .before .before .before .before .before .before .before .before .before .before .before .loop-test .taken, c .before .before .before .before .before .before .before .before .before .before .before .before .before .before .before .before .before .before .before .before .before .before .before .before .before .before .before .before .before .before .before .fits .limit)
+add-calls c =
+    let c21 = c .before .before .before .before .before .before .before .before .before .before .before .before .before .before .before .before .before .before
+    .before .before .before in
+    let c31 = c21 .before .before .before .before .before .before .before .before .before .before in
+    omega (arith, c21 .loop-test .taken, c31 .fits .limit)
 
 loop-less : tie.Need-loop-less Inv-loop μ-loop
 loop-less c = omega (arith, c .before .before .before .before .before .before .before .before .before .before .before .before .before .before .before .before .before .before .before .before .before .loop-test .taken)
 
 loop-again : tie.Need-loop-again Inv-loop μ-loop
 loop-again c =
-    let u = c .before .before .before .before .before .before .before .before .before .before .before .before .before .before .before .before .before .before .before .before .before .before .loop .inv in
-    let s = c .before .before .before .before .before .before .before .before .before .before .before .before .before .before .step in
-    under-more u (s .ensures .1) (c .before .before .before .before .before .before .before .before .before .before .before .before .before .before .before .before .before .before .before .before .before .loop-test .taken) (not-false _ (c .if1 .left)) (s .ensures .0)
+    let c14 = c .before .before .before .before .before .before .before .before .before .before .before .before .before .before in
+    let c21 = c14 .before .before .before .before .before .before .before in
+    let u = c21 .before .loop .inv in
+    let s = c14 .step in
+    under-more u (s .ensures .1) (c21 .loop-test .taken) (not-false _ (c .if1 .left)) (s .ensures .0)
     (record {
       marks = s .kept .1 .1 .1 .0;
       times = s .kept .1 .1 .1 .1 .0;

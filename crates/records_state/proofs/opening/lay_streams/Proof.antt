@@ -56,7 +56,9 @@ loop-less c = omega arith
 
 loop-again : tie.Need-loop-again Inv-loop μ-loop
 loop-again c =
-    laying-step _ _ _ (c .before .before .before .before .before .before .before .before .before .before .before .pre) (c .before .before .before .before .loop .inv) (c .before .before .before .loop-test .taken) (c .before .before .mark-at .ensures) (c .before .entry-or-zero .ensures) (c .number-at .ensures)
+    laying-step _ _ _ (c .before .before .before .before .before .before .before .before .before .before .before .pre)
+    (c .before .before .before .before .loop .inv) (c .before .before .before .loop-test .taken) (c .before .before .mark-at .ensures)
+    (c .before .entry-or-zero .ensures) (c .number-at .ensures)
 
 same-length : tie.Need-same-length Inv-loop μ-loop
 same-length c = search needs

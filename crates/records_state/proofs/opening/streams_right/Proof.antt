@@ -46,7 +46,14 @@ unfolding rightStreams
 returns-4 c =
     let a = c .before .before .before .before .before .before .before .args in
     let cuts = a .cuts .now in
-    simp (le-leb 2 (length cuts) (c .before .before .before .before .before .if1 .left), le-leb (length cuts) 257 (c .before .before .before .before .if2 .left), eq-eqb (getD cuts 0 0) 0 (c .before .before .if3 .left), ne-eqb (getD cuts (length cuts - 1) 0) (a .size) (c .if4 .taken))
+    simp (
+      le-leb 2 (length cuts) (c .before .before .before .before .before .if1 .left),
+      le-leb (length cuts) 257
+          (c .before .before .before .before .if2 .left),
+      eq-eqb (getD cuts 0 0) 0 (c .before .before .if3 .left),
+      ne-eqb (getD cuts (length cuts - 1) 0)
+          (a .size) (c .if4 .taken),
+    )
 
 sub-hints-right : tie.Need-sub-hints-right
 sub-hints-right c = search needs
@@ -59,7 +66,15 @@ unfolding rightStreams
 returns-5 c =
     let a = c .before .before .before .before .before .before .before .before .before .args in
     let cuts = a .cuts .now in
-    simp (le-leb 2 (length cuts) (c .before .before .before .before .before .before .before .if1 .left), le-leb (length cuts) 257 (c .before .before .before .before .before .before .if2 .left), eq-eqb (getD cuts 0 0) 0 (c .before .before .before .before .if3 .left), eq-eqb (getD cuts (length cuts - 1) 0) (a .size) (c .before .before .if4 .left), sym (c .before .hints-right .ensures) ∙ not-true _ (c .if5 .taken))
+    simp (
+      le-leb 2 (length cuts) (c .before .before .before .before .before .before .before .if1 .left),
+      le-leb (length cuts) 257
+          (c .before .before .before .before .before .before .if2 .left),
+      eq-eqb (getD cuts 0 0) 0 (c .before .before .before .before .if3 .left),
+      eq-eqb
+          (getD cuts (length cuts - 1) 0) (a .size) (c .before .before .if4 .left),
+      sym (c .before .hints-right .ensures) ∙ not-true _ (c .if5 .taken),
+    )
 
 rising-requires : tie.Need-rising-requires
 rising-requires c κs = search needs
@@ -69,7 +84,15 @@ unfolding rightStreams
 returns-6 c =
     let a = c .before .before .before .before .before .before .before .before .before .before .args in
     let cuts = a .cuts .now in
-    simp (le-leb 2 (length cuts) (c .before .before .before .before .before .before .before .before .if1 .left), le-leb (length cuts) 257 (c .before .before .before .before .before .before .before .if2 .left), eq-eqb (getD cuts 0 0) 0 (c .before .before .before .before .before .if3 .left), eq-eqb (getD cuts (length cuts - 1) 0) (a .size) (c .before .before .before .if4 .left), sym (c .before .before .hints-right .ensures) ∙ not-false _ (c .before .if5 .left)) (c .rising .ensures)
+    simp (
+      le-leb 2 (length cuts) (c .before .before .before .before .before .before .before .before .if1 .left),
+      le-leb (length cuts) 257
+          (c .before .before .before .before .before .before .before .if2 .left),
+      eq-eqb (getD cuts 0 0) 0 (c .before .before .before .before .before .if3 .left),
+      eq-eqb (getD cuts (length cuts - 1) 0) (a .size) (c .before .before .before .if4 .left),
+      sym (c .before .before .hints-right .ensures) ∙ not-false _
+          (c .before .if5 .left),
+    ) (c .rising .ensures)
 
 pub streams-right-spec : {M : Type 1} → statement M
 streams-right-spec =

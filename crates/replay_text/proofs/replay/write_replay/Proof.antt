@@ -14,7 +14,10 @@ enum-known-count : tie.Need-enum-known-count
 enum-known-count c = search needs
 
 taken : (c : tie.After-known-told)
-    → Taken (now (c .before .before .before .before .before .before .before .before .before .before .before .before .before .before .args .bundle)) (c .before .before .before .before .before .before .before .part .last .1 .0) (c .before .before .before .before .before .before .before .part .last .1 .1 .0) (now (c .before .before .before .before .before .before .before .before .before .before .before .before .before .before .args .text)) (c .before .count .given .0 .0) (c .before .count .given .0 .1 .0)
+    → Taken (now (c .before .before .before .before .before .before .before .before .before .before .before .before .before .before .args .bundle))
+    (c .before .before .before .before .before .before .before .part .last .1 .0) (c .before .before .before .before .before .before .before .part .last .1 .1 .0)
+    (now (c .before .before .before .before .before .before .before .before .before .before .before .before .before .before .args .text))
+    (c .before .count .given .0 .0) (c .before .count .given .0 .1 .0)
 taken c =
     let p = c .before .before .before .before .before .before .before .part in
     let pre = c .before .before .before .before .before .before .before .before .before .before .before .before .before .before .pre in
