@@ -14,7 +14,7 @@ fn is_lower(table: &[u8], at: usize, instrument: u32) -> bool
     requires { ⌜ at + width ≤ length (now table) ⌝ }
     ensures { λ r. ⌜ Probe (isLower (now (table .entry)) instrument) at r ⌝ }
 {
-    leaves::fields::u32_at(table, at) < instrument
+    leaves_fields::fields::u32_at(table, at) < instrument
 }
 
 // The bytes `at`, or those a step of so many places further on where the interval before them is of a lower instrument.

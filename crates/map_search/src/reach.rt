@@ -18,7 +18,7 @@ fn is_own_started(table: &[u8], at: usize, instrument: u32, moment: u64) -> bool
     requires { ⌜ at + width ≤ length (now table) ⌝ }
     ensures { λ r. ⌜ Probe (isOwnStarted (now (table .entry)) instrument moment) at r ⌝ }
 {
-    if leaves::fields::u32_at(table, at) == instrument {
+    if leaves_fields::fields::u32_at(table, at) == instrument {
         crate::starts::is_started(table, at, moment)
     } else {
         false
@@ -63,13 +63,13 @@ pub fn beyond(table: &[u8], used: usize, begin: usize, instrument: u32, moment: 
 {
     let end = used * WIDTH;
     if begin + FEW_BYTES + WIDTH <= end {
-        if instrument < leaves::fields::u32_at(table, begin + FEW_BYTES) {
+        if instrument < leaves_fields::fields::u32_at(table, begin + FEW_BYTES) {
             return narrow(table, begin, FEW, instrument, moment);
         }
     }
     let count = (end - begin) / WIDTH;
     if WIDTH <= end {
-        if leaves::fields::u32_at(table, end - WIDTH) == instrument {
+        if leaves_fields::fields::u32_at(table, end - WIDTH) == instrument {
             return crate::starts::turn(table, begin, count, moment);
         }
     }

@@ -12,7 +12,7 @@ pub fn is_started(table: &[u8], at: usize, moment: u64) -> bool
     requires { ⌜ at + width ≤ length (now table) ⌝ }
     ensures { λ r. ⌜ Probe (isStarted (now (table .entry)) moment) at r ⌝ }
 {
-    leaves::fields::u64_at(table, at + 8) <= moment
+    leaves_fields::fields::u64_at(table, at + 8) <= moment
 }
 
 // The bytes `at`, or those a step of so many places further on where the interval before them has started.
