@@ -1,3 +1,4 @@
 pub mod Names
 pub mod NamesLaws
+pub mod NamingLaws
 pub mod NamesList

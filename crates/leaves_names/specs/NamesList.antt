@@ -13,7 +13,8 @@ use lib.Dec.{eqb}
 use lib.ListN.{length, getD, set, take, drop, length-set, List·getD-append}
 use lib.Seq.{slice, take-append-le, take-take, take-paste, length-paste, length-take-le, drop-at, take-length, getD-set-same, getD-set-other}
 use Rattle.leaves_names.specs.Names.{nameStart, nameEnd, nameOf, namesFrom, namesOf, isName, wellFormed, listFits, same, least, naming, nameWritten}
-use Rattle.leaves_names.specs.NamesLaws.{Formed, Memory, Room, memory-so, start-next, well-formed, case-old, case-new}
+use Rattle.leaves_names.specs.NamesLaws.{Formed, Memory, memory-so, start-next, well-formed}
+use Rattle.leaves_names.specs.NamingLaws.{Room, case-old, case-new}
 use Rattle.leaves_names.specs.declared.names.Naming.the-variants.{Old, New}
 
 -- ---- what stands at each number

@@ -22,7 +22,8 @@ use Rattle.leaves.specs.declared.frame.Mapping.{Mapping}
 use Rattle.leaves.specs.declared.frame.Mapping.the-variants.{Other, Symbol, Refused as NotRead}
 use Rattle.leaves_names.specs.Names.{listFits, wellFormed as wellFormedNames, namesOf, least, isName, nameWritten, hasRoom as hasNameRoom}
 use Rattle.leaves_names.specs.declared.names.Naming.the-variants.{New, Refused as NotNamed}
-use Rattle.leaves_names.specs.NamesLaws.{memory, Ordered as OrderedNames, formed, ordered, numbered-old, numbered-fresh}
+use Rattle.leaves_names.specs.NamesLaws.{memory, Ordered as OrderedNames, formed, ordered}
+use Rattle.leaves_names.specs.NamingLaws.{numbered-old, numbered-fresh}
 use Rattle.map_point.specs.Entries.{entries}
 use Rattle.map_point.specs.declared.entries.Entry.{Entry}
 use Rattle.map_point.specs.Points.{rising, allKnown, wellFormed, setEntry, pointsFit, hasRoom, storedAnswer}

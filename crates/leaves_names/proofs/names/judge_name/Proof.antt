@@ -3,7 +3,8 @@
 use native.Mathlib.Omega.{arith}
 use borrow.Author.Needs.{needs}
 use Rattle.theory.specs.Bools.{holds}
-use Rattle.leaves_names.specs.NamesLaws.{memory, formed, ordered, judged-15, judged-14, judged-4, judged-old, judged-new, judged-5}
+use Rattle.leaves_names.specs.NamesLaws.{memory, formed, ordered}
+use Rattle.leaves_names.specs.NamingLaws.{judged-15, judged-14, judged-4, judged-old, judged-new, judged-5}
 use Rattle.leaves_names.proofs.names.judge_name.Statement.{statement}
 use Rattle.leaves_names.proofs.names.judge_name.Tie as tie
 

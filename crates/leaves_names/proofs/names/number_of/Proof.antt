@@ -3,7 +3,7 @@
 use native.Mathlib.Omega.{arith}
 use borrow.Author.Needs.{needs}
 use Rattle.theory.specs.Slices.{whole}
-use Rattle.leaves_names.specs.NamesLaws.{of-whole, case-new, promised-old, promised-new, promised-refused}
+use Rattle.leaves_names.specs.NamingLaws.{of-whole, case-new, promised-old, promised-new, promised-refused}
 use Rattle.leaves_names.proofs.names.number_of.Statement.{statement}
 use Rattle.leaves_names.proofs.names.number_of.Tie as tie
 
