@@ -3,9 +3,7 @@
 // the words of a list, each of which holds 9. `p STREAMS COUNT pair.. HEX` are streams in portions: a pair is a run too, or 10,000 + a
 // stream and how many of the bytes to come are its next portion, or 20,000 + a stream, which has ended, and 0. A run prints its calls,
 // the records that it wrote, how it stopped, and the first nine words of its list.
-mod answers;
 mod portions;
-mod wholes;
 
 ghost use mathlib.Core.Path.{_≡_};
 ghost use lib.ListN.{length};
@@ -35,7 +33,7 @@ fn run_line(text: &[u8], at: usize) {
         print_line(text, rest);
     }
     if kind == b'w' {
-        wholes::run(text, rest);
+        vectors_wholes::wholes::run(text, rest);
     }
     if kind == b'p' {
         portions::run(text, rest);

@@ -1,9 +1,4 @@
 // Runs over streams that arrive in portions.
-use crate::answers::PAIRS;
-use crate::answers::WORDS;
-use crate::answers::list_space;
-use crate::answers::print_list;
-use crate::answers::print_made;
 use feed::opening::FeedOpening;
 use feed::opening::open;
 use feed_run::run::Last;
@@ -18,6 +13,11 @@ use vectors_merge::numbers_space;
 use vectors_merge::print_number;
 use vectors_merge::print_refusal;
 use vectors_merge::read_numbers;
+use vectors_wholes::answers::PAIRS;
+use vectors_wholes::answers::WORDS;
+use vectors_wholes::answers::list_space;
+use vectors_wholes::answers::print_list;
+use vectors_wholes::answers::print_made;
 ghost use mathlib.Core.Path.{_≡_};
 ghost use Prim.Native.Nat.{_≤_};
 ghost use lib.ListN.{length};

@@ -3,8 +3,8 @@ use mathlib.Core.Path.{sym}
 use native.Mathlib.Omega.{arith}
 use lib.Seq.{length-take-le}
 use borrow.Author.Needs.{needs}
-use Rattle.vectors_run.proofs.wholes.ask_words.Statement.{statement}
-use Rattle.vectors_run.proofs.wholes.ask_words.Tie as tie
+use Rattle.vectors_wholes.proofs.wholes.ask_words.Statement.{statement}
+use Rattle.vectors_wholes.proofs.wholes.ask_words.Tie as tie
 
 list-space-requires : tie.Need-list-space-requires
 list-space-requires c κs = search needs

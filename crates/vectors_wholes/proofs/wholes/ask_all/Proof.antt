@@ -4,8 +4,8 @@ use native.Mathlib.Omega.{arith}
 use Prim.Native.Nat.{_-_}
 use lib.ListN.{length}
 use borrow.Author.Needs.{needs}
-use Rattle.vectors_run.proofs.wholes.ask_all.Statement.{statement}
-use Rattle.vectors_run.proofs.wholes.ask_all.Tie as tie
+use Rattle.vectors_wholes.proofs.wholes.ask_all.Statement.{statement}
+use Rattle.vectors_wholes.proofs.wholes.ask_all.Tie as tie
 
 abbrev Inv-loop : tie.InvT-loop
 Inv-loop buffer cuts streams marks₀ times₀ places₀ heads₀ heap₀ pairs held₀ i₀ marks times places heads heap held i =

@@ -3,8 +3,8 @@ use mathlib.Core.Path.{refl, sym}
 use native.Mathlib.Omega.{arith}
 use lib.Seq.{length-take-le}
 use borrow.Author.Needs.{needs}
-use Rattle.vectors_run.proofs.wholes.run_parts.Statement.{statement}
-use Rattle.vectors_run.proofs.wholes.run_parts.Tie as tie
+use Rattle.vectors_wholes.proofs.wholes.run_parts.Statement.{statement}
+use Rattle.vectors_wholes.proofs.wholes.run_parts.Tie as tie
 
 slice-aggregate-runs : tie.Need-slice-aggregate-runs
 slice-aggregate-runs c = sym (length-take-le _ _ (omega arith))

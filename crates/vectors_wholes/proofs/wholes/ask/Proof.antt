@@ -1,7 +1,7 @@
 -- The run keeps the lengths. Assumes nothing.
 use borrow.Author.Needs.{needs}
-use Rattle.vectors_run.proofs.wholes.ask.Statement.{statement}
-use Rattle.vectors_run.proofs.wholes.ask.Tie as tie
+use Rattle.vectors_wholes.proofs.wholes.ask.Statement.{statement}
+use Rattle.vectors_wholes.proofs.wholes.ask.Tie as tie
 
 run-requires : tie.Need-run-requires
 run-requires c κs = search needs
