@@ -14,22 +14,12 @@ fn room() -> [u8; 131072]
     [0; 131072]
 }
 
-// Prints the rest of the line that a place stands in.
-fn print_line(text: &[u8], at: usize) {
-    let from = vectors_text::past_blanks(text, at);
-    let to = vectors_text::line_end(text, from);
-    if to <= text.len() {
-        io::write_all(1, &text[from..to]);
-        io::write_all(1, b"\n");
-    }
-}
-
 // Runs the case that a line holds.
 fn run_line(text: &[u8], at: usize) {
     let kind = vectors_text::byte_at(text, at);
     let rest = vectors_text::past(text, at);
     if kind == b'=' {
-        print_line(text, rest);
+        vectors_merge::print_line(text, rest);
     }
     if kind == b'b' {
         bundles::run(text, rest);
