@@ -788,6 +788,14 @@ static int ran(size_t calls, size_t written, uint32_t last) {
     return d.calls == calls && d.written == written && d.last == last;
 }
 
+/* State and list are those of `was`, as a run without a call leaves them. */
+static int unmoved(void) {
+    return d.held == was.held && memcmp(d.marks, was.marks, sizeof d.marks) == 0 && memcmp(d.times, was.times, sizeof d.times) == 0
+        && memcmp(d.places, was.places, sizeof d.places) == 0 && memcmp(d.heads, was.heads, sizeof d.heads) == 0
+        && memcmp(d.heap, was.heap, sizeof d.heap) == 0 && memcmp(d.spans, was.spans, sizeof d.spans) == 0
+        && memcmp(d.rows, was.rows, sizeof d.rows) == 0;
+}
+
 static void test_run(void) {
     static const uint64_t cuts[] = {0, 19, 35}, one[] = {0, 32}, bad[] = {0, 3}, none[1];
     const uint64_t old = UINT64_C(0xA5A5A5A5A5A5A5A5);
@@ -807,8 +815,15 @@ static void test_run(void) {
     IS(ran(2, 1, 0) && row_is(0, 1, 0, 6) && d.stream == 0 && d.place == 0 && d.reason == old && d.held == 0);
     DONE(run(35, cuts, 3, 0, DESK_RUN_CALLS, RUN_ROOM));
     IS(ran(1, 0, 0) && row_is(0, 1, 0, 6));
-    DONE(run(35, cuts, 3, 0, 0, RUN_ROOM)); /* no call */
-    IS(ran(0, 0, 1) && d.held == 0);
+    was = d;
+    DONE(run(35, cuts, 3, 0, 0, RUN_ROOM)); /* no call, and nothing moves */
+    IS(ran(0, 0, 1) && d.held == 0 && unmoved());
+    DONE(open_whole(35, cuts, 3, none, 0));
+    was = d;
+    DONE(run(35, cuts, 3, 0, 0, RUN_ROOM));
+    IS(ran(0, 0, 1) && unmoved());
+    DONE(run(35, cuts, 3, 0, 10, 0));
+    IS(ran(0, 0, 1) && unmoved());
 
     /* 15 is judged before any call, and everything is as before */
     DONE(open_whole(35, cuts, 3, none, 0));
@@ -902,6 +917,9 @@ static void test_feed_run(void) {
     static uint64_t list[3 * 65];
     begin_feed();
     put_head(0, 16, 0, 0, 5);
+    DONE(feed_open(2)); /* no call, and nothing moves */
+    was = d;
+    IS(runs(0, 9, 0, 0, 1, 0) && runs(5, 0, 0, 0, 1, 0) && unmoved());
     DONE(feed_open(1)); /* a record, and more is needed; asked again; no room, no call; the end */
     IS(takes(0, 16, 16) && runs(5, 9, 2, 1, DESK_NEED_MORE, 0) && row_is(0, 0, 0, 5) && d.rows[3] == old && d.reason == old);
     IS(d.held == 1 && runs(5, 9, 1, 0, DESK_NEED_MORE, 0) && row_is(0, 0, 0, 5) && runs(5, 0, 0, 0, 1, 0) && runs(0, 9, 0, 0, 1, 0));
