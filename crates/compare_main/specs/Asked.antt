@@ -11,7 +11,8 @@ use Rattle.theory.specs.Fields.{field}
 use borrow.Author.Tests.{eq-eqb, ne-eqb, not-true, not-false}
 use Rattle.map_rules.specs.Memory.{width}
 use Rattle.map_compare_rules.specs.Memory.{compareFits, bothFormed}
-use Rattle.lines.specs.Asked.{tableEnd, between, Ends}
+use Rattle.lines.specs.Asked.{tableEnd, between}
+use Rattle.standard.specs.Status.{Ends}
 
 -- the status of two tables, all of whose intervals are in use: 0 where they are compared, 1 where they are refused
 unfoldable pub tablesStatus : List ℕ → List ℕ → ℕ → ℕ

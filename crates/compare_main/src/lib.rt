@@ -9,22 +9,17 @@ use map_compare::compare::both_formed;
 use map_compare::compare::compare_fits;
 use map_compare_walk::walk::Position;
 use map_table::interval::WIDTH;
+use standard::BAD;
+use standard::DONE;
+use standard::FAILED;
 use standard::Input;
+use standard::text_space;
 ghost use mathlib.Core.Path.{_≡_};
 ghost use Prim.Native.Nat.{_≤_};
 ghost use lib.ListN.{length};
 ghost use Rattle.map_compare_walk.specs.Walk.{InOrder};
-ghost use Rattle.lines.specs.Asked.{Ends};
+ghost use Rattle.standard.specs.Status.{Ends};
 ghost use Rattle.compare_main.specs.Asked.{tablesStatus, statusOf};
-
-// The status of two tables that were compared.
-const DONE: u8 = 0;
-
-// The status of a bad bundle, and of a refusal.
-const BAD: u8 = 1;
-
-// The status where reading or writing failed.
-const FAILED: u8 = 2;
 
 // An input over this many bytes is bad.
 const MOST_BYTES: usize = 3145750;
@@ -36,31 +31,16 @@ fn input_space() -> [u8; 3145751]
     [0; 3145751]
 }
 
-// Room for a portion of lines.
-fn text_space() -> [u8; 65536]
-    ensures { λ r. ⌜ 65536 ≡ length r ⌝ }
-{
-    [0; 65536]
-}
-
 // Writes the last line and answers the status.
 fn say(text: &[u8], status: u8) -> u8
     ensures { λ r. ⌜ Ends status r ⌝ }
 {
-    if standard::write_output(text, b"compare: writing standard output") {
-        status
-    } else {
-        FAILED
-    }
+    standard::ended(text, status, b"compare: writing standard output")
 }
 
 // Writes a portion of lines, and answers whether it went out.
 fn put(text: &[u8]) -> bool {
-    let out = io::write_all(libc::STDOUT_FILENO, text);
-    if !out {
-        os::fail(b"compare: writing standard output");
-    }
-    out
+    standard::write_portion(text, b"compare: writing standard output")
 }
 
 // Writes the line of every stretch in which two tables that are in order disagree, portion by portion, then `end`.

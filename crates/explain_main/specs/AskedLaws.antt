@@ -15,7 +15,8 @@ use Rattle.map_rules.specs.Memory.{width, checkAnswer}
 use Rattle.map_table.specs.declared.table.Checked.{Checked}
 use Rattle.map_table.specs.declared.table.Checked.the-variants.{WellFormed, Refused}
 use Rattle.map_table.specs.Table.{checkedOf}
-use Rattle.lines.specs.Asked.{tableEnd, between, Ends}
+use Rattle.lines.specs.Asked.{tableEnd, between}
+use Rattle.standard.specs.Status.{Ends}
 use Rattle.explain_main.specs.Asked.{areQuestions, checkStatus, answerStatus, askedStatus, statusOf}
 
 -- the check's answer tells the status

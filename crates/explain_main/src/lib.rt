@@ -7,24 +7,19 @@ use lines::asked::table_end;
 use lines::parts::PART_HEAD;
 use map_table::interval::WIDTH;
 use map_table::table::Checked;
+use standard::BAD;
+use standard::DONE;
+use standard::FAILED;
 use standard::Input;
+use standard::text_space;
 ghost use mathlib.Core.Path.{_≡_};
 ghost use Prim.Native.Nat.{_*_, _≤_};
 ghost use lib.ListN.{length};
-ghost use Rattle.lines.specs.Asked.{Ends};
+ghost use Rattle.standard.specs.Status.{Ends};
 ghost use Rattle.explain_main.specs.Text.{Ready};
 ghost use Rattle.explain_main.specs.Asked.{areQuestions, checkStatus, askedStatus, statusOf};
 
 pub mod telling;
-
-// The status of questions that were answered.
-const DONE: u8 = 0;
-
-// The status of a bad bundle, and of a refusal.
-const BAD: u8 = 1;
-
-// The status where reading or writing failed.
-const FAILED: u8 = 2;
 
 // The kind of the section with the questions.
 const QUESTIONS: u16 = 4;
@@ -42,13 +37,6 @@ fn input_space() -> [u8; 2359319]
     [0; 2359319]
 }
 
-// Room for a portion of lines.
-fn text_space() -> [u8; 65536]
-    ensures { λ r. ⌜ 65536 ≡ length r ⌝ }
-{
-    [0; 65536]
-}
-
 // Whether so many bytes are whole questions, and not too many.
 fn are_questions(bytes: usize) -> bool
     ensures { λ r. ⌜ r ≡ areQuestions bytes ⌝ }
@@ -64,20 +52,12 @@ fn are_questions(bytes: usize) -> bool
 fn say(text: &[u8], status: u8) -> u8
     ensures { λ r. ⌜ Ends status r ⌝ }
 {
-    if standard::write_output(text, b"explain: writing standard output") {
-        status
-    } else {
-        FAILED
-    }
+    standard::ended(text, status, b"explain: writing standard output")
 }
 
 // Writes a portion of lines, and answers whether it went out.
 fn put(text: &[u8]) -> bool {
-    let out = io::write_all(libc::STDOUT_FILENO, text);
-    if !out {
-        os::fail(b"explain: writing standard output");
-    }
-    out
+    standard::write_portion(text, b"explain: writing standard output")
 }
 
 // The status of questions about a table of which the check said this.

@@ -6,6 +6,7 @@ use mathlib.Core.Bool.{Bool, true, false, cond, _&&_}
 use lib.Dec.{leb, ltb, eqb}
 use lib.ListN.{length, getD, set}
 use lib.Seq.{slice, paste}
+use Rattle.leaves_limits.specs.Limits.{longestName, mostNames, mostNameBytes}
 use Rattle.theory.specs.Answer.{Answer, answer}
 use Rattle.leaves.specs.Refusal.{refused}
 use Rattle.leaves_utf8.specs.Utf8.{isUtf8}
@@ -47,7 +48,7 @@ namesOf bytes ends names = namesFrom bytes ends 0 names
 
 -- a name is "0 to 255 bytes of UTF-8"
 unfoldable pub isName : List ℕ → Bool
-isName name = leb (length name) 255 && isUtf8 name
+isName name = leb (length name) longestName && isUtf8 name
 
 -- so many names, from number n on: no end falls, each name is valid, and the last ends where the bytes in use do
 unfoldable pub standFrom : List ℕ → List ℕ → ℕ → ℕ → ℕ → Bool
@@ -61,7 +62,7 @@ wellFormed bytes ends names name-bytes = standFrom bytes ends name-bytes 0 names
 
 -- at most 4,096 names and 65,536 name bytes in all; each number in use within its room
 unfoldable pub listFits : ℕ → ℕ → ℕ → ℕ → Bool
-listFits bytes places names name-bytes = leb places 4096 && leb bytes 65536 && leb names places && leb name-bytes bytes
+listFits bytes places names name-bytes = leb places mostNames && leb bytes mostNameBytes && leb names places && leb name-bytes bytes
 
 -- the answer of a check
 abbrev pub checkedOf : Checked → Answer
@@ -92,7 +93,7 @@ least name (x ∷ xs) = cond (same name x) 0 (suc (least name xs))
 -- one name more, of so many bytes, passes neither 4,096 names, nor 65,536 bytes, nor the room lent
 unfoldable pub hasRoom : ℕ → ℕ → ℕ → ℕ → ℕ → Bool
 hasRoom bytes places names name-bytes size =
-    leb (names + 1) 4096 && leb (name-bytes + size) 65536 && leb (names + 1) places && leb (name-bytes + size) bytes
+    leb (names + 1) mostNames && leb (name-bytes + size) mostNameBytes && leb (names + 1) places && leb (name-bytes + size) bytes
 
 -- what becomes of a valid name whose least number is this: "the least number with equal bytes, else the next new one", or 5
 unfoldable pub numbering : ℕ → ℕ → ℕ → ℕ → ℕ → ℕ → Naming

@@ -9,15 +9,11 @@ ghost use Rattle.leaves_names.specs.Names.{nameStart, nameEnd, namesOf, 
 ghost use Rattle.leaves_names.specs.NamesLaws.{standing, Ordered};
 ghost use Rattle.leaves_utf8.specs.Utf8Laws.{Upto};
 use leaves::refusal::Refusal;
+use leaves_limits::NAMES;
+use leaves_limits::NAME_BYTES;
+use leaves_limits::NAME_SIZE;
 use leaves_utf8::utf8::is_plain;
 use leaves_utf8::utf8::is_utf8_within;
-
-// The most names.
-pub const NAMES: usize = 4096;
-// The most bytes of all names together.
-pub const NAME_BYTES: usize = 65536;
-// The most bytes of one name.
-pub const NAME_SIZE: usize = 255;
 
 // What a check of a name list answers.
 pub enum Checked {

@@ -28,10 +28,6 @@ pub record Apart (e long : ℕ) : Type 0 where
 abbrev pub between : ℕ → ℕ → List ℕ → List ℕ
 between from to b = take (to - from) (drop from b)
 
--- a call that did what it was asked has this status: it failed, or it has the status
-abbrev pub Ends : ℕ → ℕ → Type 0
-Ends status r = r ≢ 2 → r ≡ status
-
 -- ---- laws
 
 module _ (most last : ℕ) (b : List ℕ) where

@@ -8,6 +8,7 @@ use mathlib.Core.List.{List, [], _∷_, _++_}
 use lib.ListN.{length, getD, drop}
 use lib.Seq.{slice}
 use lib.Dec.{leb, eqb}
+use Rattle.leaves_limits.specs.Limits.{mostBundle, mostStreams}
 use Rattle.theory.specs.Fields.{field}
 use Rattle.lines.specs.declared.sections.Parted.{Parted}
 use Rattle.lines.specs.declared.sections.Parted.the-variants.{Streams, Bad}
@@ -54,12 +55,12 @@ sections s = sectionsF (suc (length s)) s
 -- "0 or over 256 sections" are bad
 unfoldable pub few : Option (List (List ℕ)) → Option (List (List ℕ))
 few none = none
-few (some ss) = cond (leb 1 (length ss) && leb (length ss) 256) (some ss) none
+few (some ss) = cond (leb 1 (length ss) && leb (length ss) mostStreams) (some ss) none
 
 -- the streams of a bundle; none: bad ("a bundle that it can't take apart, over 60,000 bytes, or with 0 or over 256 sections")
 unfoldable pub streamsIn : List ℕ → Option (List (List ℕ))
 unfolding sections few
-streamsIn b = cond (leb (length b) 60000) (few (sections b)) none
+streamsIn b = cond (leb (length b) mostBundle) (few (sections b)) none
 
 -- ---- what the code makes of it
 
@@ -84,8 +85,8 @@ pub record Apart (bundle buffer cuts : List ℕ) (n bytes : ℕ) : Type 0 where
   pub streams : streamsIn bundle ≡ some (cutOut buffer cuts n)
   pub cut : Cuts cuts n bytes
   pub some : 0 < n
-  pub few : n ≤ 256
-  pub fits : bytes ≤ 60000
+  pub few : n ≤ mostStreams
+  pub fits : bytes ≤ mostBundle
 
 -- what an answer says of the bundle
 abbrev pub PartedOk : List ℕ → List ℕ → List ℕ → Parted → Type 0

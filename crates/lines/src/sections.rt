@@ -1,14 +1,13 @@
 // A bundle taken apart into one buffer and cuts (RULES, Merging records: sections of whole length (4 bytes),
 // kind (2, always 1), then one stream).
+use leaves_limits::BUNDLE_BYTES;
+use leaves_limits::STREAMS;
 ghost use mathlib.Core.Path.{_≡_};
 ghost use Prim.Native.Nat.{_+_, _≤_};
 ghost use lib.ListN.{length, getD, drop};
+ghost use Rattle.leaves_limits.specs.Limits.{mostBundle};
 ghost use Rattle.lines.specs.Sections.{sectionSize, PartedOk};
 
-// A bundle over this many bytes is bad.
-pub const MOST_BYTES: usize = 60000;
-// A bundle with no section, or with more than these, is bad.
-pub const MOST_SECTIONS: usize = 256;
 // A section's head: its whole length (4 bytes) and its kind (2).
 const HEAD: usize = 6;
 // Where in the head the kind stands.
@@ -46,17 +45,17 @@ fn section_size(bundle: &[u8], at: usize) -> usize
 
 // Takes a bundle apart: the streams' bytes one after another in the buffer, and where each begins and ends in the cuts.
 pub fn part(bundle: &[u8], buffer: &mut [u8], cuts: &mut [u64]) -> Parted
-    requires { ⌜ (60000 ≤ length (now buffer)) × (257 ≤ length (now cuts)) × (getD (now cuts) 0 0 ≡ 0) ⌝ }
+    requires { ⌜ (mostBundle ≤ length (now buffer)) × (257 ≤ length (now cuts)) × (getD (now cuts) 0 0 ≡ 0) ⌝ }
     ensures { λ r. ⌜ PartedOk (now (bundle .entry)) (now (buffer .exit)) (now (cuts .exit)) r ⌝ }
 {
-    if MOST_BYTES < bundle.len() {
+    if BUNDLE_BYTES < bundle.len() {
         return Parted::Bad;
     }
     let mut at = 0;
     let mut bytes = 0;
     let mut count = 0;
     while at < bundle.len() {
-        if count == MOST_SECTIONS {
+        if count == STREAMS {
             return Parted::Bad;
         }
         let size = section_size(bundle, at);

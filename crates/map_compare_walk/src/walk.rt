@@ -5,6 +5,7 @@ ghost use mathlib.Core.Path.{_≡_};
 ghost use mathlib.Core.Bool.{true, false};
 ghost use Prim.Native.Nat.{_+_, _*_, _≤_, _<_, max};
 ghost use lib.ListN.{length};
+ghost use Rattle.leaves_limits.specs.Limits.{mostRoom};
 ghost use Rattle.map_rules.specs.Memory.{sameValue, width};
 ghost use Rattle.map_table.specs.Interval.{rowOf};
 ghost use Rattle.map_compare_rules.specs.Compare.{over};
@@ -150,7 +151,7 @@ fn instrument_of(left: bool, x: Interval, y: Interval) -> u32
 
 // The stretch of a turn of the heads x and y, and how far both tables are walked after it.
 fn taken(x: Interval, y: Interval, t: Turn, l: Position, r: Position) -> Step
-    requires { ⌜ (l .place + t .x .by ≤ 65536) × (r .place + t .y .by ≤ 65536) ⌝ }
+    requires { ⌜ (l .place + t .x .by ≤ mostRoom) × (r .place + t .y .by ≤ mostRoom) ⌝ }
     ensures { λ s. ⌜ s ≡ takenOf x y t l r ⌝ }
 {
     let instrument = instrument_of(t.left, x, y);

@@ -1,14 +1,15 @@
 // Lookups in the table over time (RULES, The map over time): the hinted interval of the instrument, the following one, then the last
 // with start <= moment. No step is linear in the table.
 use leaves::refusal::Refusal;
+use leaves_limits::ROOM;
 use map_table::interval::WIDTH;
-use map_table::table::ROOM_LIMIT;
 ghost use mathlib.Core.Path.{_≡_};
 ghost use mathlib.Core.Bool.{true, not, _||_};
 ghost use mathlib.Core.List.{[], _∷_};
 ghost use Prim.Native.Nat.{ℕ, _*_, _+_, _≤_};
 ghost use lib.ListN.{length};
 ghost use lib.Dec.{T};
+ghost use Rattle.leaves_limits.specs.Limits.{mostRoom};
 ghost use Rattle.theory.specs.Answer.{answer};
 ghost use Rattle.map_rules.specs.Table.{Ordered, ordered};
 ghost use Rattle.map_rules.specs.Lookup.{lookupRows};
@@ -18,7 +19,7 @@ ghost use Rattle.map_rules.specs.Looks.{numberIn, coversAt, Begun, last, Tells,
 ghost use Rattle.map_look.specs.Lookup.{lookedOf};
 
 // No interval has this number or a higher one: a table's room.
-const HINT_LIMIT: u64 = ROOM_LIMIT as u64;
+const HINT_LIMIT: u64 = ROOM as u64;
 
 // What a lookup finds: the symbol, or nothing; or it is refused.
 pub enum Found {
@@ -35,7 +36,7 @@ pub struct Looked {
 
 // Whether the interval in the bytes from `at` on is one of those in use, of the instrument, with start <= moment < end.
 fn covers(table: &[u8], used: usize, at: usize, instrument: u32, moment: u64) -> bool
-    requires { ⌜ (used * width ≤ length (now table)) × (used ≤ 65536) × (at ≤ (used + 65536) * width) ⌝ }
+    requires { ⌜ (used * width ≤ length (now table)) × (used ≤ mostRoom) × (at ≤ (used + mostRoom) * width) ⌝ }
     ensures within { λ r. ⌜ (r ≡ true → at + width ≤ used * width) ⌝ }
     ensures right { λ r. ⌜ Probe (coversAt (now (table .entry)) used instrument moment) at r ⌝ }
 {
@@ -76,7 +77,7 @@ fn last_started(
     moment: u64,
     hint: u64,
 ) -> Looked
-    requires { ⌜ (used * width ≤ length (now table)) × (used ≤ 65536) × (begin ≤ used * width) ⌝ }
+    requires { ⌜ (used * width ≤ length (now table)) × (used ≤ mostRoom) × (begin ≤ used * width) ⌝ }
     ensures right { λ r. ⌜ ((g : ℕ) → begin ≡ g * width → Ordered (rows (now (table .entry)) used) → Begun (now (table .entry)) used instrument g 0 → Tells (last (now (table .entry)) used instrument moment hint) (lookedOf r) (r .hint)) ⌝ }
     ensures accepted { λ r. ⌜ numberIn (lookedOf r) ≡ 0 ⌝ }
 {
@@ -105,7 +106,7 @@ fn last_started(
 
 // A lookup in memory that is a table: the hinted interval, the following one, then the last with start <= moment.
 fn look_up(table: &[u8], used: usize, instrument: u32, moment: u64, hint: u64) -> Looked
-    requires { ⌜ (used * width ≤ length (now table)) × (used ≤ 65536) ⌝ }
+    requires { ⌜ (used * width ≤ length (now table)) × (used ≤ mostRoom) ⌝ }
     ensures right { λ r. ⌜ (Ordered (rows (now (table .entry)) used) → Tells (lookupRows (rows (now (table .entry)) used) instrument moment hint) (lookedOf r) (r .hint)) ⌝ }
     ensures accepted { λ r. ⌜ numberIn (lookedOf r) ≡ 0 ⌝ }
 {

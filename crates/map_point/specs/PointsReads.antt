@@ -10,6 +10,7 @@ use mathlib.Core.List.{List, [], _∷_}
 use lib.ListN.{length, getD}
 use lib.Dec.{T, ltb, leb, eqb}
 use borrow.Author.Tests.{lt-ltb, le-ltb, le-leb, lt-leb, leb-true, ltb-true, eq-eqb, ne-eqb, eqb-true, not-true, not-false}
+use Rattle.theory.specs.Bracket.{Bracket, bracket-met}
 use Rattle.theory.specs.Bools.{and-left, and-right}
 use Rattle.theory.specs.Answer.{answer}
 use Rattle.leaves.specs.Refusal.{refused}
@@ -125,57 +126,31 @@ pub record EntryPlaced (t : List ℕ) (used instrument place : ℕ) : Type 0 whe
   pub within : place ≤ used
   pub exact : T (rising (entries t used)) → placeOf instrument (entries t used) ≡ place
 
--- the two ends of the search: the entry before the lower one is below the instrument, the one at the upper end is not
-pub record Between (t : List ℕ) (used instrument low high : ℕ) : Type 0 where
-  pub apart : low ≤ high
-  pub within : high ≤ used
-  pub below : (k : ℕ) → k + 1 ≡ low → entryAt t k .instrument < instrument
-  pub above : high < used → instrument ≤ entryAt t high .instrument
+-- the instrument of the entry at a place
+abbrev pub instrumentAt : List ℕ → ℕ → ℕ
+instrumentAt t k = entryAt t k .instrument
 
-pub between-all : (t : List ℕ) (used instrument : ℕ) → Between t used instrument 0 used
-between-all t used instrument = record {
-  apart = omega arith;
-  within = omega arith;
-  below = λ k e. absurd (omega arith);
-  above = λ h. absurd (omega arith);
-}
+-- the instrument of the entry that was read at a place
+pub instrument-at : (t : List ℕ) (k : ℕ) {x : Entry} → x ≡ entryAt t k → x .instrument ≡ instrumentAt t k
+instrument-at t k e = ap (λ (y : Entry). y .instrument) e
 
-pub between-up : {t : List ℕ} {used instrument low high : ℕ} {x : Entry} → low < high → Between t used instrument low high
-    → x ≡ entryAt t (low + (high - low) / 2) → x .instrument < instrument → Between t used instrument (low + (high - low) / 2 + 1) high
-between-up {t} {used} {instrument} {low} {high} {x} h b e l = record {
-  apart = omega arith;
-  within = b .within;
-  below = λ k q.
-      let m : k ≡ low + (high - low) / 2 = omega arith in
-      rw (m, ← e) l;
-  above = b .above;
-}
-
-pub between-down : {t : List ℕ} {used instrument low high : ℕ} {x : Entry} → low < high → Between t used instrument low high
-    → x ≡ entryAt t (low + (high - low) / 2) → instrument ≤ x .instrument → Between t used instrument low (low + (high - low) / 2)
-between-down {t} {used} {instrument} {low} {high} {x} h b e l = record {
-  apart = omega arith;
-  within = omega (arith, b .within);
-  below = b .below;
-  above = λ u. rw (← e) l;
-}
-
-pub between-met : {t : List ℕ} {used instrument low high : ℕ} → high ≤ low → Between t used instrument low high → EntryPlaced t used instrument low
-between-met {t} {used} {instrument} {low} {high} h b =
-    let met : low ≡ high = omega (arith, b .apart) in
+-- the entry before the lower end is below the instrument, the one at the upper end is not
+pub bracket-placed : {t : List ℕ} {used instrument low high : ℕ} → high ≤ low → Bracket (instrumentAt t) used instrument low high → EntryPlaced t used instrument low
+bracket-placed {t} {used} {instrument} {low} {high} h w =
+    let b = bracket-met w h in
     let d = entryAt t 0 in
     record {
-      within = omega (arith, b .within);
+      within = b .hi-le;
       exact = λ s.
           place-is instrument d (entries t used) s low
-          (omega (arith, length-entries t 0 used, b .within))
+          (omega (arith, length-entries t 0 used, b .hi-le))
           (λ k e.
-          let g : getD (entries t used) k d ≡ entryAt t k = getD-entries t 0 used k d (omega (arith, b .within)) ∙ ap (entryAt t) (zero-add k) in
+          let g : getD (entries t used) k d ≡ entryAt t k = getD-entries t 0 used k d (omega (arith, b .hi-le)) ∙ ap (entryAt t) (zero-add k) in
           rw g (b .below k e))
           (λ u.
           let l : low < used = omega (arith, length-entries t 0 used) in
           let g : getD (entries t used) low d ≡ entryAt t low = getD-entries t 0 used low d l ∙ ap (entryAt t) (zero-add low) in
-          rw (g, met) (b .above (omega arith)));
+          rw g (b .above l));
     }
 
 -- ---- the lookup

@@ -6,10 +6,10 @@ use crate::entries::entry_at;
 use crate::entries::move_up;
 use crate::entries::put_entry;
 use leaves::refusal::Refusal;
+use leaves_limits::NAMES;
+use leaves_limits::ROOM;
 use map_look::lookup::Found;
 use map_table::table::Checked;
-use map_table::table::NAME_LIMIT;
-use map_table::table::ROOM_LIMIT;
 ghost use mathlib.Core.Path.{_≡_};
 ghost use mathlib.Core.Bool.{true, not, _||_};
 ghost use Prim.Native.Nat.{_*_, _≤_, _<_};
@@ -34,7 +34,7 @@ pub fn points_fit(bytes: usize, used: usize) -> bool
     if bytes % WIDTH != 0 {
         return false;
     }
-    if ROOM_LIMIT < bytes / WIDTH {
+    if ROOM < bytes / WIDTH {
         return false;
     }
     used <= bytes / WIDTH
@@ -78,7 +78,7 @@ pub fn check_points(table: &[u8], used: usize, names: usize) -> Checked
     if !points_fit(table.len(), used) {
         return Checked::Refused(Refusal::BadMemory);
     }
-    if NAME_LIMIT < names {
+    if NAMES < names {
         return Checked::Refused(Refusal::BadMemory);
     }
     if !well_formed(table, used, names) {

@@ -9,6 +9,7 @@ use mathlib.Core.Bool.{cond}
 use mathlib.Core.List.{List}
 use lib.ListN.{getD}
 use lib.Dec.{ltb}
+use Rattle.theory.specs.Bracket.{Bracket, bracket-met}
 use Rattle.theory.specs.RunsTools.{cond-lt, cond-ge, Order, less, equal, more, order}
 use Rattle.map_rules.specs.Table.{Row, Ordered}
 use Rattle.map_rules.specs.RowSplice.{Before, Touches, After, Cut}
@@ -32,12 +33,9 @@ pub record Found (t : List ℕ) (used : ℕ) (n : Row ℕ) (c r : ℕ) : Type 0 
   pub below : (k : ℕ) → k + 1 ≡ r → sideOf n (rowAt t k) < c
   pub above : r < used → c ≤ sideOf n (rowAt t r)
 
--- a search's two ends
-pub record Bracket (t : List ℕ) (used : ℕ) (n : Row ℕ) (c lo hi : ℕ) : Type 0 where
-  pub lo-le : lo ≤ hi
-  pub hi-le : hi ≤ used
-  pub below : (k : ℕ) → k + 1 ≡ lo → sideOf n (rowAt t k) < c
-  pub above : hi < used → c ≤ sideOf n (rowAt t hi)
+-- the side of n on which the row at a place lies
+abbrev pub sideAt : List ℕ → Row ℕ → ℕ → ℕ
+sideAt t n k = sideOf n (rowAt t k)
 
 -- ---- the side
 
@@ -82,33 +80,12 @@ side-is n x = go (order (x .instrument) (n .instrument)) (decLe (n .start) (x .e
 
 -- ---- the loop
 
-pub bracket-all : (t : List ℕ) (used : ℕ) (n : Row ℕ) (c : ℕ) → Bracket t used n c 0 used
-bracket-all t used n c = record { lo-le = omega arith; hi-le = omega arith; below = λ k e. absurd (omega arith); above = λ h. absurd (omega arith) }
+-- the side of the row that was read at a place
+pub side-at : (t : List ℕ) (n : Row ℕ) (k : ℕ) {x : Row ℕ} {s : ℕ} → x ≡ rowAt t k → s ≡ sideOf n x → s ≡ sideAt t n k
+side-at t n k e f = f ∙ ap (sideOf n) e
 
-pub bracket-up : {t : List ℕ} {used : ℕ} {n : Row ℕ} {c lo hi : ℕ} {x : Row ℕ} {s : ℕ} → Bracket t used n c lo hi → lo < hi
-    → x ≡ rowAt t (lo + (hi - lo) / 2) → s ≡ sideOf n x → s < c → Bracket t used n c (lo + (hi - lo) / 2 + 1) hi
-bracket-up {t} {n = n} {c = c} {lo = lo} {hi = hi} b h e f l = record {
-  lo-le = omega arith;
-  hi-le = b .hi-le;
-  below = λ k q. let q′ : k ≡ lo + (hi - lo) / 2 = omega arith in rw (q′, ← e, ← f) l;
-  above = b .above;
-}
-
-pub bracket-down : {t : List ℕ} {used : ℕ} {n : Row ℕ} {c lo hi : ℕ} {x : Row ℕ} {s : ℕ} → Bracket t used n c lo hi → lo < hi
-    → x ≡ rowAt t (lo + (hi - lo) / 2) → s ≡ sideOf n x → c ≤ s → Bracket t used n c lo (lo + (hi - lo) / 2)
-bracket-down {t} {n = n} {c = c} {lo = lo} {hi = hi} b h e f l = record {
-  lo-le = omega arith;
-  hi-le = omega (arith, b .hi-le);
-  below = b .below;
-  above = λ k. rw (← e, ← f) l;
-}
-
-pub bracket-met : {t : List ℕ} {used : ℕ} {n : Row ℕ} {c lo hi : ℕ} → Bracket t used n c lo hi → hi ≤ lo → Found t used n c lo
-bracket-met {lo = lo} {hi = hi} b h = record {
-  within = omega (arith, b .hi-le, b .lo-le);
-  below = b .below;
-  above = λ l. let e : lo ≡ hi = omega (arith, b .lo-le) in rw e (b .above (omega arith));
-}
+pub bracket-found : {t : List ℕ} {used : ℕ} {n : Row ℕ} {c lo hi : ℕ} → Bracket (sideAt t n) used c lo hi → hi ≤ lo → Found t used n c lo
+bracket-found b h = let m = bracket-met b h in record { within = m .hi-le; below = m .below; above = m .above }
 
 -- the last one in use lies before that side
 pub found-last : (t : List ℕ) (used : ℕ) (n : Row ℕ) (c : ℕ) {s : ℕ} (x : Row ℕ) → (used ≡ 0 → ⊥) → x ≡ rowAt t (used - 1) → s ≡ sideOf n x → s < c → Found t used n c used

@@ -8,6 +8,7 @@ use mathlib.Core.List.{List, [], _∷_, _++_, map}
 use lib.ListN.{length}
 use lib.Dec.{leb, ltb, eqb}
 use Rattle.theory.specs.Runs.{Interval, interval, answerAt, Ahead, overwrite, apart}
+use Rattle.leaves_limits.specs.Limits.{mostNames, mostRoom}
 
 -- an instrument's value from start to the moment before end
 pub record Row (A : Type 0) : Type 0 where
@@ -86,11 +87,11 @@ ifRoom room ys = cond (ltb room (length ys)) (refusedBy 2) (stored ys)
 
 -- a table's room is 0 to 65,536, and the number in use is within it; 15 where not (RULES, Numbers the desk lives by)
 unfoldable pub roomFits : ℕ → ℕ → Bool
-roomFits room used = leb room 65536 && leb used room
+roomFits room used = leb room mostRoom && leb used room
 
 -- at most 4,096 names; 15 where there are more
 unfoldable pub namesFit : ℕ → Bool
-namesFit names = leb names 4096
+namesFit names = leb names mostNames
 
 module _ {A : Type 0} (same : A → A → Bool) where
   -- the test for AheadRow

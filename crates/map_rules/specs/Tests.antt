@@ -9,7 +9,7 @@ use mathlib.Core.List.{List, [], _∷_}
 use lib.Dec.{T, leb, ltb, lt→ltb, le→leb}
 use mir.Facts.{leb-yes, ltb-yes}
 use Rattle.theory.specs.Runs.{Mem, Same, apart}
-use Rattle.theory.specs.RunsTools.{cond-lt, cond-ge, T-and, T-fst, T-snd, Order, less, equal, more, order}
+use Rattle.theory.specs.RunsTools.{cond-lt, cond-ge, T-and, T-fst, T-snd, head-yes, head-if, Order, less, equal, more, order}
 use Rattle.theory.specs.RunsOverwrite.{apart-iff}
 use Rattle.map_rules.specs.Table.{Row, intervalOf, AheadRow, Ordered, allKnown, apartRow, ordered, wellFormed, roomFits, namesFit}
 
@@ -52,19 +52,12 @@ module _ {A : Type 0} (same : A → A → Bool) (laws : Same same) where
   ordered-yes : (xs : List (Row A)) → T (ordered same xs) → Ordered xs
   unfolding ordered
   ordered-yes [] t = tt
-  ordered-yes (x ∷ xs) t =
-      let b : Bool = ltb (x .start) (x .end) in
-      let c : Bool = apartRow same x xs in
-      let s : T (b && c) = T-fst (b && c) (ordered same xs) t in
-      (ltb-yes (T-fst b c s), ahead-yes x xs (T-snd b c s), ordered-yes xs (T-snd (b && c) (ordered same xs) t))
+  ordered-yes (x ∷ xs) t = head-yes (x .start) (x .end) (apartRow same x xs) (ordered same xs) (ahead-yes x xs) (ordered-yes xs) t
 
   ordered-if : (xs : List (Row A)) → Ordered xs → T (ordered same xs)
   unfolding ordered
   ordered-if [] w = tt
-  ordered-if (x ∷ xs) w =
-      let b : Bool = ltb (x .start) (x .end) in
-      let c : Bool = apartRow same x xs in
-      T-and (b && c) (ordered same xs) (T-and b c (lt→ltb _ _ (w .0)) (ahead-if x xs (w .1))) (ordered-if xs (w .2))
+  ordered-if (x ∷ xs) w = head-if (x .start) (x .end) (apartRow same x xs) (ordered same xs) (ahead-if x xs) (ordered-if xs) w
 
   pub ordered-iff : (xs : List (Row A)) → T (ordered same xs) ↔ Ordered xs
   ordered-iff xs = (ordered-yes xs, ordered-if xs)

@@ -3,6 +3,7 @@
 use map_table::interval::WIDTH;
 ghost use Prim.Native.Nat.{_+_, _*_, _≤_, _<_};
 ghost use lib.ListN.{length};
+ghost use Rattle.leaves_limits.specs.Limits.{mostRoom};
 ghost use Rattle.map_rules.specs.Table.{Ordered};
 ghost use Rattle.map_rules.specs.Memory.{width, rows};
 ghost use Rattle.map_rules.specs.Halves.{Probe, Onward, Halved, Finds};
@@ -102,7 +103,7 @@ fn sized(table: &[u8], lo: usize, count: usize, instrument: u32) -> usize
 
 // As `narrow`, with a look at the first interval beforehand.
 pub fn turn(table: &[u8], lo: usize, count: usize, instrument: u32) -> usize
-    requires { ⌜ (count ≤ 65536) × (lo + count * width ≤ length (now table)) ⌝ }
+    requires { ⌜ (count ≤ mostRoom) × (lo + count * width ≤ length (now table)) ⌝ }
     ensures within { λ r. ⌜ r ≤ lo + count * width ⌝ }
     ensures right { λ r. ⌜ Finds (isLower (now (table .entry)) instrument) lo count r ⌝ }
 {
@@ -117,7 +118,7 @@ pub fn turn(table: &[u8], lo: usize, count: usize, instrument: u32) -> usize
 
 // The place of the instrument's first interval, or where it would stand.
 pub fn beginning(table: &[u8], used: usize, instrument: u32) -> usize
-    requires { ⌜ (used * width ≤ length (now table)) × (used ≤ 65536) ⌝ }
+    requires { ⌜ (used * width ≤ length (now table)) × (used ≤ mostRoom) ⌝ }
     ensures within { λ r. ⌜ r ≤ used ⌝ }
     ensures right { λ r. ⌜ (Ordered (rows (now (table .entry)) used) → Begun (now (table .entry)) used instrument r 0) ⌝ }
 {

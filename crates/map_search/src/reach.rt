@@ -2,6 +2,7 @@
 use map_table::interval::WIDTH;
 ghost use Prim.Native.Nat.{_+_, _*_, _≤_, _<_};
 ghost use lib.ListN.{length};
+ghost use Rattle.leaves_limits.specs.Limits.{mostRoom};
 ghost use Rattle.map_rules.specs.Table.{Ordered};
 ghost use Rattle.map_rules.specs.Memory.{width, rows};
 ghost use Rattle.map_rules.specs.Halves.{Probe, Onward, Finds};
@@ -57,7 +58,7 @@ fn narrow(table: &[u8], lo: usize, count: usize, instrument: u32, moment: u64) -
 // The bytes where the first interval begins that the moment does not reach, where those of the instrument begin at the bytes `begin`:
 // few of them, or all up to the table's end, or any.
 pub fn beyond(table: &[u8], used: usize, begin: usize, instrument: u32, moment: u64) -> usize
-    requires { ⌜ (used * width ≤ length (now table)) × (used ≤ 65536) × (begin ≤ used * width) ⌝ }
+    requires { ⌜ (used * width ≤ length (now table)) × (used ≤ mostRoom) × (begin ≤ used * width) ⌝ }
     ensures within { λ r. ⌜ r ≤ used * width ⌝ }
     ensures right { λ r. ⌜ Reached (now (table .entry)) used instrument moment begin r ⌝ }
 {
@@ -78,7 +79,7 @@ pub fn beyond(table: &[u8], used: usize, begin: usize, instrument: u32, moment: 
 
 // The place of the first interval that the moment does not reach, where those of the instrument begin at the place `begin`.
 pub fn reached(table: &[u8], used: usize, begin: usize, instrument: u32, moment: u64) -> usize
-    requires { ⌜ (used * width ≤ length (now table)) × (used ≤ 65536) × (begin ≤ used) ⌝ }
+    requires { ⌜ (used * width ≤ length (now table)) × (used ≤ mostRoom) × (begin ≤ used) ⌝ }
     ensures within { λ r. ⌜ r ≤ used ⌝ }
     ensures right { λ r. ⌜ (Ordered (rows (now (table .entry)) used) → Begun (now (table .entry)) used instrument begin 0 → Reach (now (table .entry)) used instrument moment r r) ⌝ }
 {

@@ -3,6 +3,7 @@
 use map_table::interval::WIDTH;
 ghost use Prim.Native.Nat.{_+_, _*_, _≤_, _<_};
 ghost use lib.ListN.{length};
+ghost use Rattle.leaves_limits.specs.Limits.{mostRoom};
 ghost use Rattle.map_rules.specs.Memory.{width};
 ghost use Rattle.map_rules.specs.Halves.{Probe, Onward, Halved, Finds};
 ghost use Rattle.map_rules.specs.Arrivals.{isStarted};
@@ -100,7 +101,7 @@ fn sized(table: &[u8], lo: usize, count: usize, moment: u64) -> usize
 
 // As `narrow`, with a look at the first interval beforehand.
 pub fn turn(table: &[u8], lo: usize, count: usize, moment: u64) -> usize
-    requires { ⌜ (count ≤ 65536) × (lo + count * width ≤ length (now table)) ⌝ }
+    requires { ⌜ (count ≤ mostRoom) × (lo + count * width ≤ length (now table)) ⌝ }
     ensures within { λ r. ⌜ r ≤ lo + count * width ⌝ }
     ensures right { λ r. ⌜ Finds (isStarted (now (table .entry)) moment) lo count r ⌝ }
 {

@@ -2,6 +2,8 @@
 use crate::interval::Interval;
 use crate::interval::WIDTH;
 use leaves::refusal::Refusal;
+use leaves_limits::NAMES;
+use leaves_limits::ROOM;
 ghost use mathlib.Core.Path.{_≡_};
 ghost use mathlib.Core.Bool.{_&&_};
 ghost use mathlib.Core.List.{[], _∷_};
@@ -13,12 +15,8 @@ ghost use Rattle.map_rules.specs.Checks.{valid, follows};
 ghost use Rattle.map_table.specs.Interval.{rowOf};
 ghost use Rattle.map_table.specs.Table.{checkedOf};
 
-// A table's room is at most so many intervals.
-pub const ROOM_LIMIT: usize = 65536;
-// At most so many names.
-pub const NAME_LIMIT: usize = 4096;
 // A table's bytes are at most so many.
-const BYTE_LIMIT: usize = ROOM_LIMIT * WIDTH;
+const BYTE_LIMIT: usize = ROOM * WIDTH;
 
 // The check's answer: the table is well-formed, or 14 or 15.
 pub enum Checked {
@@ -30,7 +28,7 @@ pub enum Checked {
 pub fn table_fits(length: usize, used: usize) -> bool
     ensures { λ r. ⌜ r ≡ tableFits length used ⌝ }
 {
-    if used <= ROOM_LIMIT {
+    if used <= ROOM {
         if length <= BYTE_LIMIT {
             if length % WIDTH == 0 {
                 used * WIDTH <= length
@@ -50,7 +48,7 @@ pub fn memory_fits(length: usize, used: usize, names: usize) -> bool
     ensures { λ r. ⌜ r ≡ tableFits length used && namesFit names ⌝ }
 {
     if table_fits(length, used) {
-        names <= NAME_LIMIT
+        names <= NAMES
     } else {
         false
     }

@@ -2,19 +2,15 @@
 // records), by the engine that the program is built with.
 use replay_text::replay::HEAP;
 use replay_text::replay::Replayed;
+use standard::BAD;
+use standard::DONE;
+use standard::FAILED;
 use standard::Input;
 ghost use mathlib.Core.Path.{_≡_};
 ghost use lib.ListN.{length};
-ghost use Rattle.replay_main.specs.Status.{textStatus, TextEnds, Ends};
-
-// The status of a bundle that was replayed.
-const DONE: u8 = 0;
-
-// The status of a bad bundle.
-const BAD: u8 = 1;
-
-// The status where reading or writing failed.
-const FAILED: u8 = 2;
+ghost use Rattle.lines.specs.Sections.{streamsIn};
+ghost use Rattle.standard.specs.Status.{Ends};
+ghost use Rattle.replay_main.specs.Status.{statusOf, textStatus};
 
 // Room for the longest bundle and a byte more, so that a longer one is seen.
 fn input_space() -> [u8; 60001]
@@ -35,18 +31,14 @@ fn status_of(text: &[u8]) -> u8
 
 // Writes a replay's text and answers the status.
 fn put(text: &[u8]) -> u8
-    ensures { λ r. ⌜ TextEnds (now (text .entry)) r ⌝ }
+    ensures { λ r. ⌜ Ends (textStatus (now (text .entry))) r ⌝ }
 {
-    if standard::write_output(text, b"replay: writing standard output") {
-        status_of(text)
-    } else {
-        FAILED
-    }
+    standard::ended(text, status_of(text), b"replay: writing standard output")
 }
 
 // Writes a bundle's replay, which the lent bytes have room for, and answers the status.
 fn show(plain: bool, bundle: &[u8], text: &mut [u8]) -> u8
-    ensures { λ r. ⌜ Ends (now (bundle .entry)) r ⌝ }
+    ensures { λ r. ⌜ Ends (statusOf (streamsIn (now (bundle .entry)))) r ⌝ }
 {
     match replay_text::replay::replay_by(plain, bundle, text) {
         Replayed::Text(n) => put(&text[..n]),

@@ -1,12 +1,10 @@
 // The list of a run, and its limits (RULES, Requests, No. 14): three words a record, from the list's front, and at most 4,096 calls.
+use leaves_limits::CALLS;
 ghost use mathlib.Core.Path.{_≡_};
 ghost use Prim.Native.Nat.{_+_, _*_, _≤_};
 ghost use lib.ListN.{length};
 ghost use Rattle.run_rules.specs.Rows.{runFits, most};
 ghost use Rattle.run_rules.specs.RowsLaws.{row};
-
-// The most calls that a run may be allowed.
-pub const CALLS: usize = 4096;
 
 // The words of a record in a run's list: stream, place, time.
 pub const WORDS: usize = 3;

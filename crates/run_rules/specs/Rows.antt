@@ -7,12 +7,13 @@ use lib.ListN.{length, drop}
 use lib.Dec.{eqb, leb}
 use Rattle.theory.specs.Answer.{Answer, answer}
 use Rattle.run_rules.specs.Batch.{Ran, ran}
+use Rattle.leaves_limits.specs.Limits.{mostCalls}
 
 -- ---- what is lent
 
 -- "at most a stated number of next calls, 0 to 4,096 (more gets 15)"; a list of whole rows of three words
 unfoldable pub runFits : Bool → ℕ → ℕ → Bool
-runFits arrays allowance words = arrays && (leb allowance 4096 && eqb (words % 3) 0)
+runFits arrays allowance words = arrays && (leb allowance mostCalls && eqb (words % 3) 0)
 
 -- the most calls that are made: no more than allowed, and none where the list is full
 abbrev pub most : ℕ → ℕ → ℕ

@@ -1,2 +1,3 @@
 pub mod Input
 pub mod InputLaws
+pub mod Status

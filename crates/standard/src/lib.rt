@@ -1,8 +1,26 @@
 // Standard input read to its end, and a text written to standard output, for every program. What the system refuses is said in one
 // line on standard error: what the program was doing, and the system's reason.
+ghost use mathlib.Core.Path.{_≡_};
 ghost use Prim.Native.Nat.{_+_, _≤_};
 ghost use lib.ListN.{length};
 ghost use Rattle.standard.specs.Input.{Within};
+ghost use Rattle.standard.specs.Status.{Ends};
+
+// The status of a program that did what it was asked.
+pub const DONE: u8 = 0;
+
+// The status of a bad bundle, and of a refusal.
+pub const BAD: u8 = 1;
+
+// The status where reading or writing failed.
+pub const FAILED: u8 = 2;
+
+// Room for a portion of lines.
+pub fn text_space() -> [u8; 65536]
+    ensures { λ r. ⌜ 65536 ≡ length r ⌝ }
+{
+    [0; 65536]
+}
 
 // What reading answers: how many bytes came until the end or until the room was full, or that a read failed.
 pub enum Input {
@@ -57,4 +75,24 @@ pub fn write_output(text: &[u8], doing: &[u8]) -> bool {
         os::fail(doing);
     }
     out
+}
+
+// Writes a portion of a text, and answers whether all of it went out.
+pub fn write_portion(text: &[u8], doing: &[u8]) -> bool {
+    let out = io::write_all(libc::STDOUT_FILENO, text);
+    if !out {
+        os::fail(doing);
+    }
+    out
+}
+
+// Writes a program's last text, and answers the status to end with.
+pub fn ended(text: &[u8], status: u8, doing: &[u8]) -> u8
+    ensures { λ r. ⌜ Ends status r ⌝ }
+{
+    if write_output(text, doing) {
+        status
+    } else {
+        FAILED
+    }
 }

@@ -1,8 +1,9 @@
-pub mod Bools
 pub mod Answer
-pub mod Runs
-pub mod RunsTools
-pub mod RunsOverwrite
-pub mod RunsLongest
+pub mod Bools
+pub mod Bracket
 pub mod Fields
+pub mod Runs
+pub mod RunsLongest
+pub mod RunsOverwrite
+pub mod RunsTools
 pub mod Slices

@@ -11,7 +11,7 @@ use mathlib.Core.List.{List, [], _∷_, _++_}
 use lib.Dec.{T, leb, ltb, eqb, eqb-refl, lt→ltb, le→leb, not-T}
 use mir.Facts.{eqb-yes, ltb-yes, leb-yes}
 use Rattle.theory.specs.Runs.{Interval, interval, answerAt, Ahead, WellFormed, clipped, upTo, from, meets, glue, join, overwrite, apart, wellFormed, Same}
-use Rattle.theory.specs.RunsTools.{cond-case, ltb-case, cond-ge, T-and, T-fst, T-snd, T-nand}
+use Rattle.theory.specs.RunsTools.{cond-case, ltb-case, cond-ge, T-and, T-fst, T-snd, T-nand, head-yes, head-if}
 use Rattle.theory.specs.RunsTools.{Place, early, within, late, place, answer-in, answer-early, answer-late, answer-cons, Low, low-ahead, low-le, low-tail, answer-low, none-some}
 
 module _ {A : Type 0} where
@@ -232,19 +232,12 @@ module _ {A : Type 0} (same : A → A → Bool) (laws : Same same) where
   formed-yes : (xs : List (Interval A)) → T (wellFormed same xs) → WellFormed xs
   unfolding wellFormed
   formed-yes [] t = tt
-  formed-yes (x ∷ xs) t =
-      let b : Bool = ltb (x .start) (x .end) in
-      let c : Bool = apart same x xs in
-      let s : T (b && c) = T-fst (b && c) (wellFormed same xs) t in
-      (ltb-yes (T-fst b c s), apart-yes x xs (T-snd b c s), formed-yes xs (T-snd (b && c) (wellFormed same xs) t))
+  formed-yes (x ∷ xs) t = head-yes (x .start) (x .end) (apart same x xs) (wellFormed same xs) (apart-yes x xs) (formed-yes xs) t
 
   formed-if : (xs : List (Interval A)) → WellFormed xs → T (wellFormed same xs)
   unfolding wellFormed
   formed-if [] w = tt
-  formed-if (x ∷ xs) w =
-      let b : Bool = ltb (x .start) (x .end) in
-      let c : Bool = apart same x xs in
-      T-and (b && c) (wellFormed same xs) (T-and b c (lt→ltb _ _ (w .0)) (apart-if x xs (w .1))) (formed-if xs (w .2))
+  formed-if (x ∷ xs) w = head-if (x .start) (x .end) (apart same x xs) (wellFormed same xs) (apart-if x xs) (formed-if xs) w
 
   pub formed-iff : (xs : List (Interval A)) → T (wellFormed same xs) ↔ WellFormed xs
   formed-iff xs = (formed-yes xs, formed-if xs)

@@ -47,6 +47,17 @@ pub T-snd : (a b : Bool) → T (a && b) → T b
 T-snd true b t = t
 T-snd false b t = absurd t
 
+-- the test of a list's head, and of the rest: it is non-empty, and stands well before what follows
+module _ (start end : ℕ) (c d : Bool) {P Q : Type 0} where
+  pub head-yes : (T c → P) → (T d → Q) → T ((ltb start end && c) && d) → (start < end) × P × Q
+  head-yes f g t =
+      let b : Bool = ltb start end in
+      let s : T (b && c) = T-fst (b && c) d t in
+      (ltb-yes (T-fst b c s), f (T-snd b c s), g (T-snd (b && c) d t))
+
+  pub head-if : (P → T c) → (Q → T d) → (start < end) × P × Q → T ((ltb start end && c) && d)
+  head-if f g w = T-and (ltb start end && c) d (T-and (ltb start end) c (lt→ltb _ _ (w .0)) (f (w .1))) (g (w .2))
+
 pub T-nor-l : (a b : Bool) → T (not a) → T (not (a && b))
 T-nor-l true b t = absurd t
 T-nor-l false b t = tt

@@ -2,13 +2,14 @@
 -- Assumes nothing.
 use borrow.Author.Needs.{needs}
 use Prim.Native.Nat.{_-_}
-use Rattle.map_rules.specs.Search.{Bracket, bracket-all, bracket-up, bracket-down, bracket-met}
+use Rattle.theory.specs.Bracket.{Bracket, bracket-all, bracket-up, bracket-down}
+use Rattle.map_rules.specs.Search.{sideAt, side-at, bracket-found}
 use Rattle.map_table.specs.Interval.{rowOf}
 use Rattle.map_moves.proofs.search.search.Statement.{statement}
 use Rattle.map_moves.proofs.search.search.Tie as tie
 
 abbrev Inv-loop : tie.InvT-loop
-Inv-loop table used n lo₀ hi₀ lo hi = Bracket table used (rowOf n) 1 lo hi
+Inv-loop table used n lo₀ hi₀ lo hi = Bracket (sideAt table (rowOf n)) used 1 lo hi
 
 abbrev μ-loop : tie.MeasureT-loop
 μ-loop table used n lo₀ hi₀ lo hi = hi - lo
@@ -35,16 +36,16 @@ loop-less : tie.Need-loop-less Inv-loop μ-loop
 loop-less c = search needs
 
 loop-again : tie.Need-loop-again Inv-loop μ-loop
-loop-again c = search (needs, bracket-up)
+loop-again c = search (needs, bracket-up, side-at)
 
 loop-less-2 : tie.Need-loop-less-2 Inv-loop μ-loop
 loop-less-2 c = search needs
 
 loop-again-2 : tie.Need-loop-again-2 Inv-loop μ-loop
-loop-again-2 c = search (needs, bracket-down)
+loop-again-2 c = search (needs, bracket-down, side-at)
 
 returns : tie.Need-returns Inv-loop μ-loop
-returns c = search (needs, bracket-met)
+returns c = search (needs, bracket-found)
 
 pub search-spec : {M : Type 1} → statement M
 search-spec =

@@ -1,18 +1,19 @@
 -- The invariant: the entry before the lower end is below the instrument, the one at the upper end is not. Assumes nothing.
 use Prim.Native.Nat.{_-_}
-use Rattle.map_point.specs.PointsReads.{Between, between-all, between-up, between-down, between-met}
+use Rattle.theory.specs.Bracket.{Bracket, bracket-all, bracket-up, bracket-down}
+use Rattle.map_point.specs.PointsReads.{instrumentAt, instrument-at, bracket-placed}
 use borrow.Author.Needs.{needs}
 use Rattle.map_point.proofs.points.place_of.Statement.{statement}
 use Rattle.map_point.proofs.points.place_of.Tie as tie
 
 abbrev Inv-loop : tie.InvT-loop
-Inv-loop table used instrument low₀ high₀ low high = Between table used instrument low high
+Inv-loop table used instrument low₀ high₀ low high = Bracket (instrumentAt table) used instrument low high
 
 abbrev μ-loop : tie.MeasureT-loop
 μ-loop table used instrument low₀ high₀ low high = high - low
 
 loop-holds : tie.Need-loop-holds Inv-loop μ-loop
-loop-holds c = search (needs, between-all)
+loop-holds c = search (needs, bracket-all)
 
 sub-middle : tie.Need-sub-middle Inv-loop μ-loop
 sub-middle c = search needs
@@ -30,16 +31,16 @@ loop-less : tie.Need-loop-less Inv-loop μ-loop
 loop-less c = search needs
 
 loop-again : tie.Need-loop-again Inv-loop μ-loop
-loop-again c = search (needs, between-up)
+loop-again c = search (needs, bracket-up, instrument-at)
 
 loop-less-2 : tie.Need-loop-less-2 Inv-loop μ-loop
 loop-less-2 c = search needs
 
 loop-again-2 : tie.Need-loop-again-2 Inv-loop μ-loop
-loop-again-2 c = search (needs, between-down)
+loop-again-2 c = search (needs, bracket-down, instrument-at)
 
 returns : tie.Need-returns Inv-loop μ-loop
-returns c = search (needs, between-met)
+returns c = search (needs, bracket-placed)
 
 pub place-of-spec : {M : Type 1} → statement M
 place-of-spec =
