@@ -19,7 +19,6 @@ use Rattle.map_rules.specs.Lookup.{lookupRows}
 use Rattle.map_rules.specs.Looks.{saidAnswer, lookupAnswer}
 use Rattle.metadata_rules.specs.Metadata as merging
 use Rattle.metadata_rules.specs.Words.{before, mappingsFrom, mappingWords, intervalWords}
-use Rattle.metadata_gather.specs.Judge.{knownDate}
 use Rattle.metadata_form.specs.declared.header.Header.{Header}
 use Rattle.metadata_form.specs.Header.{Lists, lists, metadataOf, metadataFits}
 use Rattle.metadata_words.specs.Over.{over}
@@ -258,6 +257,6 @@ agree f g (y ∷ ys) e x (inr m) = let h : map f ys ≡ map g ys = cc in agree f
 pub every-holds : (x : Example) → Mem x examples → gives x ≡ said x
 unfolding gives said examples outcomeAnswer insertOutcome inserted tableFits memoryAfter rowsWritten rowsBytes rowBytes bytesOf usedAfter rowsFrom
     rowAt field lookupAnswer saidAnswer lookupRows numberText someDigits digits isDigit dayOf isDate isLeap monthDays dayNumber daysOfYears daysBefore
-    mergeAnswer mergeLists bothFit metadataFits metadataOf mappingsFrom before mappingWords intervalWords over knownDate merging.merge answersF start
+    mergeAnswer mergeLists bothFit metadataFits metadataOf mappingsFrom before mappingWords intervalWords over merging.merge answersF start
     padded opening arraysFit rightStreams streamsOf frameAt
 every-holds = agree gives said examples refl

@@ -149,3 +149,10 @@ month-known leap (suc m) h = go (decLe 12 m)
     go : Dec (12 ≤ m) → Month (suc m) (getD (monthLengths leap) (suc m) 0)
     go (yes l) = absurd (omega (arith, List·getD-eq-default (monthLengths leap) 0 {n = suc m} (suc-le-suc l)))
     go (no l) = record { from = omega arith; to = omega arith; short = short leap (omega arith) }
+
+-- each of the twelve has at least 28
+pub month-long : (leap : Bool) (month : ℕ) → 1 ≤ month → month ≤ 12 → 28 ≤ monthDays leap month
+unfolding monthDays
+month-long leap zero h k = absurd (omega arith)
+month-long true (suc m) h k = leb-yes (below (λ n. leb 28 (getD (monthLengths true) (suc n) 0)) 12 tt m (omega arith))
+month-long false (suc m) h k = leb-yes (below (λ n. leb 28 (getD (monthLengths false) (suc n) 0)) 12 tt m (omega arith))

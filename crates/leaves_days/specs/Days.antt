@@ -31,13 +31,17 @@ momentAnswerOf (moment.Refused r) = refused r
 abbrev pub inRange : ℕ → Bool
 inRange date = leb 19700101 date && leb date 25540721
 
+-- there is such a date, and it is in range
+abbrev pub knownDate : ℕ → Bool
+knownDate date = isDate date && inRange date
+
 -- the last day, 2554-07-21
 abbrev pub lastDay : ℕ
 lastDay = 213503
 
 -- a date's day; 11 where there is no such date, or it is out of range
 unfoldable pub dayOf : ℕ → Answer
-dayOf date = cond (isDate date && inRange date) (answer 0 (dayNumber date ∷ [])) (refused NoDate)
+dayOf date = cond (knownDate date) (answer 0 (dayNumber date ∷ [])) (refused NoDate)
 
 -- a day's date; 11 past the last day
 unfoldable pub dateOf : ℕ → Answer

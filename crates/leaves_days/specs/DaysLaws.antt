@@ -14,7 +14,7 @@ use Rattle.leaves.specs.declared.refusal.Refusal.the-variants.{NoDate}
 use Rattle.leaves_days.specs.Calendar.{isLeap, monthDays, yearIn, isDate, dayNumber, dateNumber}
 use Rattle.theory.specs.RunsTools.{Order, less, equal, more, order}
 use Rattle.leaves_days.specs.CalendarDates.{Dated, dated-one, number-rises, number-one, date-yes, in-month, dateNumber-dated, number-of-last}
-use Rattle.leaves_days.specs.Days.{inRange, lastDay, dayOf, dateOf, dayStart}
+use Rattle.leaves_days.specs.Days.{inRange, lastDay, knownDate, dayOf, dateOf, dayStart}
 
 -- there is such a date, from 1970-01-01 to 2554-07-21
 pub record Good (date : ℕ) : Type 0 where
@@ -22,14 +22,32 @@ pub record Good (date : ℕ) : Type 0 where
   pub from : 19700101 ≤ date
   pub to : date ≤ 25540721
 
-good-yes : (date : ℕ) → T (isDate date && inRange date) → Good date
+good-yes : (date : ℕ) → T (knownDate date) → Good date
 good-yes date t =
     let p = and-yes (isDate date) (inRange date) t in
     let q = and-yes (leb 19700101 date) (leb date 25540721) (p .1) in
     record { is = p .0; from = leb-yes (q .0); to = leb-yes (q .1) }
 
-yes-good : (date : ℕ) → Good date → T (isDate date && inRange date)
+yes-good : (date : ℕ) → Good date → T (knownDate date)
 yes-good date g = yes-and (isDate date) (inRange date) (g .is) (yes-and (leb 19700101 date) (leb date 25540721) (yes-leb (g .from)) (yes-leb (g .to)))
+
+-- the test says so, either way
+pub known-good : (date : ℕ) → knownDate date ≡ true → Good date
+known-good date e = good-yes date (subst T (sym e) tt)
+
+pub good-known : (date : ℕ) → Good date → true ≡ knownDate date
+good-known date g = go (knownDate date) (yes-good date g)
+  where
+    go : (b : Bool) → T b → true ≡ b
+    go true t = refl
+    go false t = absurd t
+
+pub not-known : (date : ℕ) → (Good date → ⊥) → false ≡ knownDate date
+not-known date h = go (knownDate date) (λ t. h (good-yes date t))
+  where
+    go : (b : Bool) → (T b → ⊥) → false ≡ b
+    go true f = absurd (f tt)
+    go false f = refl
 
 -- ---- an answer of one value where a test passes, else 11
 
@@ -56,20 +74,20 @@ was-failed false x e = tt
 
 pub day-good : (date : ℕ) → Good date → dayOf date ≡ answer 0 (dayNumber date ∷ [])
 unfolding dayOf
-day-good date g = passed (isDate date && inRange date) (dayNumber date) (yes-good date g)
+day-good date g = passed (knownDate date) (dayNumber date) (yes-good date g)
 
 pub day-answered : (date n : ℕ) → dayOf date ≡ answer 0 (n ∷ []) → Good date × (dayNumber date ≡ n)
 unfolding dayOf
 day-answered date n e =
-    let p = was-passed (isDate date && inRange date) (dayNumber date) n e in
+    let p = was-passed (knownDate date) (dayNumber date) n e in
     (good-yes date (p .0), p .1)
 
 -- 11 exactly where there is no such date, or it lies outside 1970-01-01 to 2554-07-21
 pub day-refused : (date : ℕ) → (dayOf date ≡ refused NoDate) ↔ (Good date → ⊥)
 unfolding dayOf
 day-refused date = (
-  λ e g. T-not (isDate date && inRange date) (yes-good date g) (was-failed (isDate date && inRange date) (dayNumber date) e),
-  λ h. failed (isDate date && inRange date) (dayNumber date) (not-T (isDate date && inRange date) (λ t. h (good-yes date t))),
+  λ e g. T-not (knownDate date) (yes-good date g) (was-failed (knownDate date) (dayNumber date) e),
+  λ h. failed (knownDate date) (dayNumber date) (not-T (knownDate date) (λ t. h (good-yes date t))),
 )
 
 good-year : (date : ℕ) → 19700101 ≤ date → 1970 ≤ yearIn date

@@ -4,7 +4,7 @@ ghost use Prim.Native.Nat.{_-_, _≤_, _<_};
 ghost use Rattle.leaves_days.specs.Calendar.{isLeap, yearDays, daysOfYears, daysBefore};
 ghost use Rattle.leaves_days.specs.CalendarLaws.{leapDay};
 ghost use Rattle.leaves_days.specs.CalendarDates.{YearOf, MonthOf};
-ghost use Rattle.leaves_days.specs.Days.{dayAnswerOf, dateAnswerOf, momentAnswerOf, dayOf, dateOf, dayStart};
+ghost use Rattle.leaves_days.specs.Days.{dayAnswerOf, dateAnswerOf, momentAnswerOf, knownDate, dayOf, dateOf, dayStart};
 use leaves::refusal::Refusal;
 
 // A date's day.
@@ -60,6 +60,8 @@ const LEAPS_BEFORE: u32 = 477;
 const FEBRUARY: u32 = 2;
 
 const DECEMBER: u32 = 12;
+
+const SHORTEST_MONTH: u32 = 28;
 
 const LONGEST_MONTH: u32 = 31;
 // The days of a common year before each month, from month 0, which is none, to month 13, the year's end.
@@ -142,30 +144,48 @@ fn month_of(year: u32, in_year: u32) -> u32
     month
 }
 
+// Whether a number is a date from 1970-01-01 to 2554-07-21. Most are, and lie before the 29th, where no year is needed to tell.
+pub fn is_date(date: u32) -> bool
+    ensures { λ r. ⌜ r ≡ knownDate date ⌝ }
+{
+    if date < FIRST_DATE {
+        return false;
+    }
+    if LAST_DATE < date {
+        return false;
+    }
+    let month = date / TWO_DIGITS % TWO_DIGITS;
+    let day = date % TWO_DIGITS;
+    if month < 1 {
+        return false;
+    }
+    if DECEMBER < month {
+        return false;
+    }
+    if day < 1 {
+        return false;
+    }
+    if day <= SHORTEST_MONTH {
+        return true;
+    }
+    let year = date / FOUR_DIGITS;
+    if before_month(year, month + 1) - before_month(year, month) < day {
+        return false;
+    }
+    true
+}
+
 // A date's day since 1970-01-01; 11 where there is no such date, or it lies outside 1970-01-01 to 2554-07-21.
 pub fn day_of(date: u32) -> Day
     ensures { λ r. ⌜ dayAnswerOf r ≡ dayOf date ⌝ }
 {
-    if date < FIRST_DATE {
-        return Day::Refused(Refusal::NoDate);
-    }
-    if LAST_DATE < date {
+    if !is_date(date) {
         return Day::Refused(Refusal::NoDate);
     }
     let year = date / FOUR_DIGITS;
     let month = date / TWO_DIGITS % TWO_DIGITS;
     let day = date % TWO_DIGITS;
-    if DECEMBER < month {
-        return Day::Refused(Refusal::NoDate);
-    }
-    if day < 1 {
-        return Day::Refused(Refusal::NoDate);
-    }
-    let before = before_month(year, month);
-    if before_month(year, month + 1) - before < day {
-        return Day::Refused(Refusal::NoDate);
-    }
-    Day::Number(before_year(year) + before + (day - 1))
+    Day::Number(before_year(year) + before_month(year, month) + (day - 1))
 }
 
 // The date of a day since 1970-01-01; 11 past 2554-07-21.

@@ -48,14 +48,11 @@ pub record Lists : Type 0 where
 abbrev pub lists : List ℕ → List ℕ → List ℕ → List ℕ → List ℕ → Lists
 lists a b c m v = record { symbols = a; partial = b; not-found = c; mappings = m; intervals = v }
 
+abbrev pub lengthsBy : ℕ → ℕ → ℕ → ℕ → ℕ → Lengths
+lengthsBy a b c m v = record { symbols = a; partial = b; «not_found» = c; mappings = m; intervals = v }
+
 abbrev pub lengthsOf : Lists → Lengths
-lengthsOf l = record {
-  symbols = length (l .symbols);
-  partial = length (l .partial);
-  «not_found» = length (l .not-found);
-  mappings = length (l .mappings);
-  intervals = length (l .intervals);
-}
+lengthsOf l = lengthsBy (length (l .symbols)) (length (l .partial)) (length (l .not-found)) (length (l .mappings)) (length (l .intervals))
 
 -- the metadata that header and lists are
 unfoldable pub metadataOf : Header → Lists → Metadata
@@ -78,11 +75,8 @@ lengthsFit h l =
     setFits (h .symbols) (l .symbols)
     && (setFits (h .partial) (l .partial)
     && (setFits (h .«not_found») (l .«not_found»)
-    && (eqb (l .mappings % 2) 0
-    && (leb (l .mappings / 2) 4096
-    && (leb (h .mappings) (l .mappings / 2)
-    && (eqb (l .intervals % 3) 0
-    && leb (l .intervals / 3) 65536))))))
+    && ((eqb (l .mappings % 2) 0 && (leb (l .mappings / 2) 4096 && leb (h .mappings) (l .mappings / 2)))
+    && (eqb (l .intervals % 3) 0 && leb (l .intervals / 3) 65536))))
 
 -- a metadata's memory is of the form: its lists, and the intervals in use, the sum of the mappings' counts, within the lent ones;
 -- where not, 15
@@ -163,12 +157,12 @@ fitting h l e0 =
     let e2 = and-right (setFits (h .partial) (l .partial)) _ e1 in
     let a2 = and-left (setFits (h .«not_found») (l .«not_found»)) _ e2 in
     let e3 = and-right (setFits (h .«not_found») (l .«not_found»)) _ e2 in
-    let a3 = eqb-true (l .mappings % 2) 0 (and-left (eqb (l .mappings % 2) 0) _ e3) in
-    let e4 = and-right (eqb (l .mappings % 2) 0) _ e3 in
+    let m = and-left (eqb (l .mappings % 2) 0 && (leb (l .mappings / 2) 4096 && leb (h .mappings) (l .mappings / 2))) _ e3 in
+    let e6 = and-right (eqb (l .mappings % 2) 0 && (leb (l .mappings / 2) 4096 && leb (h .mappings) (l .mappings / 2))) _ e3 in
+    let a3 = eqb-true (l .mappings % 2) 0 (and-left (eqb (l .mappings % 2) 0) _ m) in
+    let e4 = and-right (eqb (l .mappings % 2) 0) _ m in
     let a4 = leb-true (l .mappings / 2) 4096 (and-left (leb (l .mappings / 2) 4096) _ e4) in
-    let e5 = and-right (leb (l .mappings / 2) 4096) _ e4 in
-    let a5 = leb-true (h .mappings) (l .mappings / 2) (and-left (leb (h .mappings) (l .mappings / 2)) _ e5) in
-    let e6 = and-right (leb (h .mappings) (l .mappings / 2)) _ e5 in
+    let a5 = leb-true (h .mappings) (l .mappings / 2) (and-right (leb (l .mappings / 2) 4096) _ e4) in
     let a6 = eqb-true (l .intervals % 3) 0 (and-left (eqb (l .intervals % 3) 0) _ e6) in
     let a7 = leb-true (l .intervals / 3) 65536 (and-right (eqb (l .intervals % 3) 0) _ e6) in
     record {

@@ -1,11 +1,13 @@
 // A metadata's header, the test of its memory (15), the six fields compared (6), and the fields of a merge.
+use metadata_words::words::INTERVAL_WORDS;
+use metadata_words::words::MAPPING_WORDS;
 use metadata_words::words::count_at;
 ghost use mathlib.Core.Path.{_≡_};
 ghost use Prim.Native.Nat.{_+_, _-_, _*_, _<_, _≤_, min, max};
 ghost use lib.ListN.{length};
 ghost use Rattle.metadata_rules.specs.Words.{before};
 ghost use Rattle.metadata_rules.specs.Metadata.{sameSchema, sameBool, differsAt};
-ghost use Rattle.metadata_form.specs.Header.{headerFields, setFits, lengthsFit, metadataFits, mergedHeader, countedHeader, outcomeFits};
+ghost use Rattle.metadata_form.specs.Header.{headerFields, lengthsBy, setFits, lengthsFit, metadataFits, mergedHeader, countedHeader, outcomeFits};
 
 // What a metadata says besides its lists, and how many places of each list are in use. The dataset is a name's number; an end
 // or limit of 0 is a missing one; schema 65535 and stype_in 255 mean none.
@@ -51,49 +53,47 @@ const MAPPINGS: usize = 4096;
 
 const INTERVALS: usize = 65536;
 
-// The words of a mapping and of an interval.
-const MAPPING_WORDS: usize = 2;
-
-const INTERVAL_WORDS: usize = 3;
-
 const NO_SCHEMA: u16 = 65535;
+
+// The lengths of five lists.
+pub fn lengths_by(
+    symbols: usize,
+    partial: usize,
+    not_found: usize,
+    mappings: usize,
+    intervals: usize,
+) -> Lengths
+    ensures { λ r. ⌜ r ≡ lengthsBy symbols partial «not_found» mappings intervals ⌝ }
+{
+    Lengths {
+        symbols: symbols,
+        partial: partial,
+        not_found: not_found,
+        mappings: mappings,
+        intervals: intervals,
+    }
+}
 
 // Whether a set's list is within the limit, and what is in use within the list.
 fn set_fits(used: usize, lent: usize) -> bool
     ensures { λ r. ⌜ r ≡ setFits used lent ⌝ }
 {
-    if ENTRIES < lent {
-        return false;
-    }
-    used <= lent
+    (lent <= ENTRIES) & (used <= lent)
 }
 
 // Whether each list is within its limit and made of whole mappings and intervals, and what is in use within each.
 fn lengths_fit(header: Header, lengths: Lengths) -> bool
     ensures { λ r. ⌜ r ≡ lengthsFit header lengths ⌝ }
 {
-    if !set_fits(header.symbols, lengths.symbols) {
-        return false;
-    }
-    if !set_fits(header.partial, lengths.partial) {
-        return false;
-    }
-    if !set_fits(header.not_found, lengths.not_found) {
-        return false;
-    }
-    if lengths.mappings % MAPPING_WORDS != 0 {
-        return false;
-    }
-    if MAPPINGS < lengths.mappings / MAPPING_WORDS {
-        return false;
-    }
-    if lengths.mappings / MAPPING_WORDS < header.mappings {
-        return false;
-    }
-    if lengths.intervals % INTERVAL_WORDS != 0 {
-        return false;
-    }
-    lengths.intervals / INTERVAL_WORDS <= INTERVALS
+    let symbols = set_fits(header.symbols, lengths.symbols);
+    let partial = set_fits(header.partial, lengths.partial);
+    let not_found = set_fits(header.not_found, lengths.not_found);
+    let maps = lengths.mappings / MAPPING_WORDS;
+    let maps_fit = (lengths.mappings % MAPPING_WORDS == 0)
+        & ((maps <= MAPPINGS) & (header.mappings <= maps));
+    let spans_fit = (lengths.intervals % INTERVAL_WORDS == 0)
+        & (lengths.intervals / INTERVAL_WORDS <= INTERVALS);
+    symbols & (partial & (not_found & (maps_fit & spans_fit)))
 }
 
 // How many intervals the first `count` mappings have together.
@@ -231,17 +231,9 @@ pub fn counted(header: Header, counts: Counts) -> Header
 pub fn outcome_fits(counts: Counts, lengths: Lengths) -> bool
     ensures { λ r. ⌜ r ≡ outcomeFits counts lengths ⌝ }
 {
-    if lengths.symbols < counts.symbols {
-        return false;
-    }
-    if lengths.partial < counts.partial {
-        return false;
-    }
-    if lengths.not_found < counts.not_found {
-        return false;
-    }
-    if lengths.mappings / MAPPING_WORDS < counts.mappings {
-        return false;
-    }
-    counts.intervals <= lengths.intervals / INTERVAL_WORDS
+    (counts.symbols <= lengths.symbols)
+        & ((counts.partial <= lengths.partial)
+            & ((counts.not_found <= lengths.not_found)
+                & ((counts.mappings <= lengths.mappings / MAPPING_WORDS)
+                    & (counts.intervals <= lengths.intervals / INTERVAL_WORDS))))
 }

@@ -1,35 +1,23 @@
 -- The tests of a merge, and a loop's turn over what is left to test. Assumes nothing.
 use mathlib.Core.Path.{_≡_, refl, sym, ap, _∙_}
-use Prim.Native.Nat.{ℕ, zero, suc, _+_, _-_, _*_, _/_, _%_, _≤_, _<_}
+use Prim.Native.Nat.{ℕ, zero, suc, _+_, _-_, _*_, _≤_, _<_}
+use native.Mathlib.Nat.{suc-mul}
 use native.Mathlib.Omega.{arith}
 use mathlib.Core.Bool.{Bool, true, false, _&&_, cond}
 use mathlib.Core.List.{List, [], _∷_}
-use native.Mathlib.Numerals.{add-one}
-use lib.ListN.{length, getD, take, drop, drop-of-length-le}
-use lib.Seq.{slice-cons, length-take-le}
-use lib.Dec.{T, leb, ltb}
-use mir.Facts.{and-yes, yes-and, leb-yes, yes-leb}
-use Rattle.theory.specs.Answer.{Answer, answer}
-use Rattle.leaves_days.specs.Calendar.{isLeap, monthDays, isDate, dayNumber}
-use Rattle.leaves_days.specs.CalendarDates.{yes-date}
-use Rattle.leaves_days.specs.Days.{inRange, dayOf, dayAnswerOf}
-use Rattle.leaves.specs.Refusal.{refused, numberOf}
-use Rattle.leaves.specs.RefusalLaws.{refused-not-done}
-use Rattle.leaves.specs.declared.refusal.Refusal.{Refusal}
-use Rattle.leaves_days.specs.declared.days.Day.{Day}
-use Rattle.leaves_days.specs.declared.days.Day.the-variants.{Number, Refused}
+use lib.ListN.{length, getD, take}
+use lib.Dec.{leb, ltb}
+pub use Rattle.leaves_days.specs.Days.{knownDate}
+use Rattle.leaves.specs.declared.refusal.Refusal.the-variants.{NoDate, UnknownSymbol, Reversed}
 use Rattle.metadata_rules.specs.declared.Interval.{Interval}
 use Rattle.metadata_rules.specs.Metadata.{every}
 use Rattle.metadata_rules.specs.Words.{intervalAt, stretch, nameAt, namesFrom}
 use Rattle.metadata_words.specs.Words.{rest, rest-cons, rest-nil}
-
--- a date of ISO 8601 from 1970-01-01 to 2554-07-21 (RULES, Names, numbers, days): the numbers that do not get 11
-unfoldable pub knownDate : ℕ → Bool
-knownDate d = isDate d && inRange d
+use Rattle.metadata_gather.specs.declared.judge.Judged.{Judged}
+use Rattle.metadata_gather.specs.declared.judge.Judged.the-variants.{Passed, Refused}
 
 -- 11: an interval's start and end are dates
 unfoldable pub dated : Interval → Bool
-unfolding knownDate
 dated x = knownDate (x .start) && knownDate (x .end)
 
 -- 3: a name number was handed out; an interval's symbol was
@@ -44,121 +32,106 @@ known names x = below names (x .symbol)
 unfoldable pub forward : Interval → Bool
 forward x = leb (x .start) (x .end)
 
--- the names of the mappings from the place t up to the place e
-unfoldable pub namesTo : List ℕ → ℕ → ℕ → List ℕ
-unfolding namesFrom
-namesTo m t e = namesFrom m t (e - t)
+-- n words of m, from the place at on, each so many further on than the one before
+unfoldable pub spaced : List ℕ → ℕ → ℕ → ℕ → List ℕ
+spaced m stride at zero = []
+spaced m stride at (suc n) = getD m at 0 ∷ spaced m stride (at + stride) n
+
+-- 11 before 3, 3 before 1
+unfoldable pub judgedOf : Bool → Bool → Bool → Judged
+judgedOf dates names forwards = cond dates (cond names (cond forwards Passed (Refused Reversed)) (Refused UnknownSymbol)) (Refused NoDate)
+
+-- of intervals, where k says 3 of what else there is, and f says 1
+unfoldable pub judgedBy : ℕ → Bool → Bool → List Interval → Judged
+unfolding judgedOf every
+judgedBy names k f xs = judgedOf (every dated xs) (k && every (known names) xs) (f && every forward xs)
 
 -- ---- laws
 
--- every month has 28 days, so up to the 28th a day is one of its month in any year
-least : (n : ℕ) (xs : List ℕ) (k : ℕ) → T (every (leb n) xs) → k < length xs → n ≤ getD xs k 0
-unfolding every
-least n [] k t h = absurd (omega arith)
-least n (x ∷ xs) zero t h = leb-yes (and-yes (leb n x) _ t .0)
-least n (x ∷ xs) (suc k) t h = least n xs k (and-yes (leb n x) _ t .1) (omega arith)
+pub and-assoc : (a b c : Bool) → ((a && b) && c) ≡ (a && (b && c))
+and-assoc true b c = refl
+and-assoc false b c = refl
 
-month-long : (leap : Bool) (month : ℕ) → 1 ≤ month → month ≤ 12 → 28 ≤ monthDays leap month
-unfolding monthDays every
-month-long leap zero h k = absurd (omega arith)
-month-long true (suc m) h k = least 28 (31 ∷ 29 ∷ 31 ∷ 30 ∷ 31 ∷ 30 ∷ 31 ∷ 31 ∷ 30 ∷ 31 ∷ 30 ∷ 31 ∷ []) m tt (omega arith)
-month-long false (suc m) h k = least 28 (31 ∷ 28 ∷ 31 ∷ 30 ∷ 31 ∷ 30 ∷ 31 ∷ 31 ∷ 30 ∷ 31 ∷ 30 ∷ 31 ∷ []) m tt (omega arith)
-
-T-true : (b : Bool) → T b → true ≡ b
-T-true true t = refl
-T-true false t = absurd t
-
-pub early-date : (d : ℕ) → 19700101 ≤ d → d ≤ 25540721 → 1 ≤ d / 100 % 100 → d / 100 % 100 ≤ 12 → 1 ≤ d % 100 → d % 100 ≤ 28 → true ≡ knownDate d
-unfolding knownDate
-early-date d a b e f g h =
-    T-true (isDate d && inRange d)
-    (yes-and (isDate d) (inRange d)
-    (yes-date d (record { from = g; to = omega (arith, month-long (isLeap (d / 10000)) (d / 100 % 100) e f) }))
-    (yes-and (leb 19700101 d) (leb d 25540721) (yes-leb a) (yes-leb b)))
-
-pub date-number : (d n : ℕ) → dayAnswerOf (Number n) ≡ dayOf d → true ≡ knownDate d
-unfolding dayOf knownDate
-date-number d n e = go (isDate d && inRange d) e
-  where
-    go : (b : Bool) → answer 0 (n ∷ []) ≡ cond b (answer 0 (dayNumber d ∷ [])) (answer 11 []) → true ≡ b
-    go true f = refl
-    go false f = let z : _≡_ {A = ℕ} 0 11 = cc in absurd (omega arith)
-
-pub date-refused : (d : ℕ) (r : Refusal) → dayAnswerOf (Refused r) ≡ dayOf d → false ≡ knownDate d
-unfolding dayOf knownDate
-date-refused d r e = go (isDate d && inRange d) e
-  where
-    go : (b : Bool) → refused r ≡ cond b (answer 0 (dayNumber d ∷ [])) (answer 11 []) → false ≡ b
-    go true f = let z : numberOf r ≡ 0 = cc in absurd (refused-not-done r z)
-    go false f = refl
+pub and-true : (a : Bool) → (a && true) ≡ a
+and-true true = refl
+and-true false = refl
 
 -- one turn over the intervals from the place i up to the place n
-module _ (p : Interval → Bool) (v : List ℕ) (i n : ℕ) where
-  pub spans-turn : {x : Interval} {b : Bool} → x ≡ intervalAt v i → b ≡ p x → b ≡ true → i < n → every p (rest v (i + 1) n) ≡ every p (rest v i n)
-  unfolding every
-  spans-turn {x} {b} e f g h =
-      let t : p (intervalAt v i) ≡ true = ap p (sym e) ∙ sym f ∙ g in
-      sym (ap (every p) (rest-cons v i n h) ∙ ap (λ (c : Bool). c && every p (rest v (i + 1) n)) t)
+module _ (names : ℕ) (v : List ℕ) (i n : ℕ) (k f : Bool) where
+  pub judge-turn : {x : Interval} {b : Bool} → x ≡ intervalAt v i → b ≡ dated x → b ≡ true → i < n
+      → judgedBy names (k && known names x) (f && forward x) (rest v (i + 1) n) ≡ judgedBy names k f (rest v i n)
+  unfolding judgedBy every
+  judge-turn {x} {b} e g t h =
+      let d : dated (intervalAt v i) ≡ true = ap dated (sym e) ∙ sym g ∙ t in
+      rw (rest-cons v i n h, d, e) (rw (
+        and-assoc k (known names (intervalAt v i)) (every (known names) (rest v (i + 1) n)),
+        and-assoc f (forward (intervalAt v i)) (every forward (rest v (i + 1) n)),
+      ) refl)
 
-  pub spans-stop : {x : Interval} {b : Bool} → x ≡ intervalAt v i → b ≡ p x → b ≡ false → i < n → false ≡ every p (rest v i n)
-  unfolding every
-  spans-stop {x} {b} e f g h =
-      let t : p (intervalAt v i) ≡ false = ap p (sym e) ∙ sym f ∙ g in
-      sym (ap (every p) (rest-cons v i n h) ∙ ap (λ (c : Bool). c && every p (rest v (i + 1) n)) t)
+  pub judge-stop : {x : Interval} {b : Bool} → x ≡ intervalAt v i → b ≡ dated x → b ≡ false → i < n → Refused NoDate ≡ judgedBy names k f (rest v i n)
+  unfolding judgedBy judgedOf every
+  judge-stop {x} {b} e g t h =
+      let d : dated (intervalAt v i) ≡ false = ap dated (sym e) ∙ sym g ∙ t in rw (rest-cons v i n h, d) refl
 
-  pub spans-end : n ≤ i → true ≡ every p (rest v i n)
-  unfolding every
-  spans-end h = sym (ap (every p) (rest-nil v i n h))
+  pub judge-end : n ≤ i → judgedOf true k f ≡ judgedBy names k f (rest v i n)
+  unfolding judgedBy every
+  judge-end h = rw (rest-nil v i n h, and-true k, and-true f) refl
 
--- and over names and entries
-module _ (p : ℕ → Bool) (m : List ℕ) (i n : ℕ) where
-  names-cons : i < n → namesTo m i n ≡ nameAt m i ∷ namesTo m (i + 1) n
-  unfolding namesTo namesFrom
-  names-cons h = let z : n - i ≡ suc (n - (i + 1)) = omega arith in rw z refl
+-- one turn over numbers
+module _ (p : ℕ → Bool) (m : List ℕ) (stride at i n : ℕ) where
+  left : i < n → n - i ≡ suc (n - (i + 1))
+  left h = omega arith
 
-  pub names-turn : {x : ℕ} {b : Bool} → x ≡ nameAt m i → b ≡ p x → b ≡ true → i < n → every p (namesTo m (i + 1) n) ≡ every p (namesTo m i n)
-  unfolding every
-  names-turn {x} {b} e f g h =
-      let t : p (nameAt m i) ≡ true = ap p (sym e) ∙ sym f ∙ g in
-      sym (ap (every p) (names-cons h) ∙ ap (λ (c : Bool). c && every p (namesTo m (i + 1) n)) t)
+  pub spaced-turn : {b : Bool} → b ≡ p (getD m at 0) → b ≡ true → i < n → every p (spaced m stride (at + stride) (n - (i + 1))) ≡ every p (spaced m stride at (n - i))
+  unfolding every spaced
+  spaced-turn {b} f g h = rw (left h, sym f ∙ g) refl
 
-  pub names-stop : {x : ℕ} {b : Bool} → x ≡ nameAt m i → b ≡ p x → b ≡ false → i < n → false ≡ every p (namesTo m i n)
-  unfolding every
-  names-stop {x} {b} e f g h =
-      let t : p (nameAt m i) ≡ false = ap p (sym e) ∙ sym f ∙ g in
-      sym (ap (every p) (names-cons h) ∙ ap (λ (c : Bool). c && every p (namesTo m (i + 1) n)) t)
+  pub spaced-stop : {b : Bool} → b ≡ p (getD m at 0) → b ≡ false → i < n → false ≡ every p (spaced m stride at (n - i))
+  unfolding every spaced
+  spaced-stop {b} f g h = rw (left h, sym f ∙ g) refl
 
-  pub names-end : n ≤ i → true ≡ every p (namesTo m i n)
-  unfolding every namesTo namesFrom
-  names-end h = let z : n - i ≡ 0 = omega arith in rw z refl
+  pub spaced-end : n ≤ i → true ≡ every p (spaced m stride at (n - i))
+  unfolding every spaced
+  spaced-end h = let z : n - i ≡ 0 = omega arith in rw z refl
 
-  entries-cons : i < n → n ≤ length m → drop i (take n m) ≡ getD m i 0 ∷ drop (i + 1) (take n m)
-  entries-cons h k = slice-cons i n m 0 h k ∙ ap (λ (j : ℕ). getD m i 0 ∷ drop j (take n m)) (sym (add-one i))
+  -- what is left lies within the words, and so does the first of it
+  pub spaced-room : at + (n - i) * stride ≤ length m → i < n → at + stride + (n - (i + 1)) * stride ≤ length m
+  spaced-room r h = let z = ap (λ (k : ℕ). k * stride) (left h) ∙ suc-mul (n - (i + 1)) stride in omega arith
 
-  pub entries-turn : {b : Bool} → b ≡ p (getD m i 0) → b ≡ true → i < n → n ≤ length m → every p (drop (i + 1) (take n m)) ≡ every p (drop i (take n m))
-  unfolding every
-  entries-turn {b} f g h k =
-      let t : p (getD m i 0) ≡ true = sym f ∙ g in
-      sym (ap (every p) (entries-cons h k) ∙ ap (λ (c : Bool). c && every p (drop (i + 1) (take n m))) t)
+  pub spaced-in : 0 < stride → at + (n - i) * stride ≤ length m → i < n → at < length m
+  spaced-in g r h = let z = spaced-room r h in omega arith
 
-  pub entries-stop : {b : Bool} → b ≡ p (getD m i 0) → b ≡ false → i < n → n ≤ length m → false ≡ every p (drop i (take n m))
-  unfolding every
-  entries-stop {b} f g h k =
-      let t : p (getD m i 0) ≡ false = sym f ∙ g in
-      sym (ap (every p) (entries-cons h k) ∙ ap (λ (c : Bool). c && every p (drop (i + 1) (take n m))) t)
+pub spaced-all : (m : List ℕ) (stride n : ℕ) → n * stride ≤ length m → (0 + (n - 0) * stride ≤ length m) × (spaced m stride 0 (n - 0) ≡ spaced m stride 0 n)
+spaced-all m stride n h =
+    let z : n - 0 ≡ n = omega arith in
+    let y = ap (λ (k : ℕ). k * stride) z in
+    (omega arith, ap (spaced m stride 0) z)
 
-  pub entries-end : n ≤ i → n ≤ length m → true ≡ every p (drop i (take n m))
-  unfolding every
-  entries-end h k = sym (ap (every p) (drop-of-length-le (take n m) (at-most (length-take-le n m k))))
-    where
-      at-most : length (take n m) ≡ n → length (take n m) ≤ i
-      at-most e = omega arith
+-- one after the other: the front of a list
+further : (x : ℕ) (m : List ℕ) (t n : ℕ) → spaced (x ∷ m) 1 (suc t) n ≡ spaced m 1 t n
+unfolding spaced
+further x m t zero = refl
+further x m t (suc n) =
+    let z : suc t + 1 ≡ suc (t + 1) = omega arith in
+    ap (λ (l : List ℕ). getD m t 0 ∷ l) (ap (λ (u : ℕ). spaced (x ∷ m) 1 u n) z ∙ further x m (t + 1) n)
+
+pub spaced-front : (m : List ℕ) (n : ℕ) → n ≤ length m → spaced m 1 0 n ≡ take n m
+unfolding spaced
+spaced-front [] zero h = refl
+spaced-front [] (suc n) h = absurd (omega arith)
+spaced-front (x ∷ m) zero h = refl
+spaced-front (x ∷ m) (suc n) h = ap (λ (l : List ℕ). x ∷ l) (further x m 0 n ∙ spaced-front m n (omega arith))
+
+-- every second: the names of mappings
+pub spaced-names : (m : List ℕ) (n : ℕ) → spaced m 2 0 n ≡ namesFrom m 0 n
+unfolding spaced namesFrom nameAt
+spaced-names m n = go n 0
+  where
+    go : (j t : ℕ) → spaced m 2 (2 * t) j ≡ namesFrom m t j
+    go zero t = refl
+    go (suc j) t = let z : 2 * t + 2 ≡ 2 * (t + 1) = omega arith in ap (λ (l : List ℕ). getD m (2 * t) 0 ∷ l) (ap (λ (u : ℕ). spaced m 2 u j) z ∙ go j (t + 1))
 
 -- the whole list of words
 pub rest-all : (v : List ℕ) (n : ℕ) → rest v 0 n ≡ stretch v 0 n
 unfolding rest
 rest-all v n = let z : n - 0 ≡ n = omega arith in ap (stretch v 0) z
-
-pub names-all : (m : List ℕ) (n : ℕ) → namesTo m 0 n ≡ namesFrom m 0 n
-unfolding namesTo
-names-all m n = let z : n - 0 ≡ n = omega arith in ap (namesFrom m 0) z

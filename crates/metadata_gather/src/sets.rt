@@ -1,13 +1,10 @@
 // A set of both sides: equal entries once, in the order of first arrival.
 use crate::arrivals::add_all;
-use crate::judge::entries_known;
+use crate::judge::numbers_known;
 ghost use mathlib.Core.Path.{_≡_};
-ghost use mathlib.Core.Bool.{_&&_};
 ghost use mathlib.Core.List.{[]};
 ghost use Prim.Native.Nat.{_+_, _<_, _≤_};
 ghost use lib.ListN.{length, take};
-ghost use Rattle.metadata_rules.specs.Metadata.{every};
-ghost use Rattle.metadata_gather.specs.Judge.{below};
 ghost use Rattle.metadata_gather.specs.Sets.{IsUnited, AllUnited};
 
 // Numbers that an index finds: the rules' limit of names.
@@ -19,22 +16,6 @@ pub struct United {
     pub count: usize,
 }
 
-// The left entries and then the right ones, each entry once, at the front of `out`; answers how many.
-fn together(
-    left: &[u32],
-    left_count: usize,
-    right: &[u32],
-    right_count: usize,
-    out: &mut [u32],
-) -> usize
-    requires { ⌜ («left_count» ≤ length (now left)) × («right_count» ≤ length (now right)) × («left_count» + «right_count» ≤ length (now out)) × (length (now out) < 4294967296) ⌝ }
-    ensures { λ r. ⌜ AllUnited (take «left_count» (now (left .entry))) (take «right_count» (now (right .entry))) r (now (out .exit)) ⌝ }
-{
-    let mut at = [0u32; NAMES];
-    let count = add_all(out, 0, &mut at, left, left_count);
-    add_all(out, count, &mut at, right, right_count)
-}
-
 // The first `count` entries, each once, at the front of `out`; answers how many.
 pub fn alone(entries: &[u32], count: usize, out: &mut [u32]) -> usize
     requires { ⌜ (count ≤ length (now entries)) × (count ≤ length (now out)) × (length (now out) < 4294967296) ⌝ }
@@ -42,23 +23,6 @@ pub fn alone(entries: &[u32], count: usize, out: &mut [u32]) -> usize
 {
     let mut at = [0u32; NAMES];
     add_all(out, 0, &mut at, entries, count)
-}
-
-// Whether each entry of both sides was handed out.
-fn both_known(
-    left: &[u32],
-    left_count: usize,
-    right: &[u32],
-    right_count: usize,
-    names: usize,
-) -> bool
-    requires { ⌜ («left_count» ≤ length (now left)) × («right_count» ≤ length (now right)) ⌝ }
-    ensures { λ r. ⌜ r ≡ (every (below names) (take «left_count» (now (left .entry))) && every (below names) (take «right_count» (now (right .entry)))) ⌝ }
-{
-    if !entries_known(left, left_count, names) {
-        return false;
-    }
-    entries_known(right, right_count, names)
 }
 
 // The set of both sides at the front of `out`, and whether each of its entries was handed out.
@@ -73,10 +37,11 @@ pub fn unite(
     requires { ⌜ («left_count» ≤ length (now left)) × («right_count» ≤ length (now right)) × («left_count» + «right_count» ≤ length (now out)) × (length (now out) < 4294967296) ⌝ }
     ensures { λ r. ⌜ IsUnited (take «left_count» (now (left .entry))) (take «right_count» (now (right .entry))) names (r .known) (r .count) (now (out .exit)) ⌝ }
 {
-    let known = both_known(left, left_count, right, right_count, names);
-    let count = together(left, left_count, right, right_count, out);
+    let mut at = [0u32; NAMES];
+    let met = add_all(out, 0, &mut at, left, left_count);
+    let count = add_all(out, met, &mut at, right, right_count);
     United {
-        known: known,
+        known: numbers_known(out, 1, count, names),
         count: count,
     }
 }

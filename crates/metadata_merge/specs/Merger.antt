@@ -123,9 +123,6 @@ unfoldable pub finishAnswer : Header → Lists → Answer
 unfolding valuesOf
 finishAnswer h l = cond (metadataFits h (lengthsOf l) (l .mappings)) (answer 0 (valuesOf (metadataOf h l))) (answer 15 [])
 
-abbrev pub lengthsBy : ℕ → ℕ → ℕ → ℕ → ℕ → Lengths
-lengthsBy a b c m v = record { symbols = a; partial = b; «not_found» = c; mappings = m; intervals = v }
-
 -- ---- laws of the merge
 
 module _ (names : ℕ) (h : Header) (l : Lists) (g : Header) (r : Lists) where

@@ -6,7 +6,7 @@ use mathlib.Core.Bool.{Bool, true, false, _&&_, cond}
 use mathlib.Core.List.{List, [], _∷_, _++_}
 use lib.ListN.{length, take}
 use lib.Seq.{take-at}
-use lib.Dec.{leb, ltb, eqb}
+use lib.Dec.{leb, ltb}
 use Rattle.theory.specs.Answer.{answer}
 use Rattle.leaves.specs.Refusal.{refused}
 use Rattle.leaves.specs.declared.refusal.Refusal.{Refusal}
@@ -18,10 +18,11 @@ use Rattle.metadata_rules.specs.Metadata.{refused as stopped}
 use Rattle.metadata_rules.specs.Words.{mappingWords, intervalWords, every-append, mapping-length, interval-length}
 use Rattle.metadata_lists.specs.Names.{placed, layAll}
 use Rattle.metadata_lists.specs.NamesWords.{Stands, stands}
-use Rattle.metadata_gather.specs.Judge.{knownDate, below}
-use Rattle.metadata_plan.specs.Plan.{fault, endPlan, shownMerged, planOn, planOf, faultOf, bothSides}
+use Rattle.metadata_gather.specs.Judge.{knownDate, below, judgedOf, and-assoc}
+use Rattle.metadata_plan.specs.Plan.{endPlan, shownMerged, planOn, planOf, judgedAll, bothSides}
+use Rattle.metadata_plan.specs.Plan.{stopped as halted}
 use Rattle.metadata_plan.specs.declared.plan.Planned.{Planned}
-use Rattle.metadata_plan.specs.declared.plan.Planned.the-variants.{Fault, Laid}
+use Rattle.metadata_plan.specs.declared.plan.Planned.the-variants as plan
 use Rattle.metadata_form.specs.declared.header.Header.{Header}
 use Rattle.metadata_form.specs.declared.header.Lengths.{Lengths}
 use Rattle.metadata_form.specs.declared.header.Counts.{Counts}
@@ -31,10 +32,6 @@ use Rattle.metadata_merge.specs.Room.{merged-few, merged-short}
 use Rattle.metadata_merge.specs.declared.outcome.Verdict.{Verdict}
 use Rattle.metadata_merge.specs.declared.outcome.Verdict.the-variants.{Refused, Fits}
 
--- the refusal of a plan's number
-unfoldable pub refusalOf : ℕ → Refusal
-refusalOf n = cond (eqb n 11) NoDate (cond (eqb n 3) UnknownSymbol (cond (eqb n 1) Reversed Conflict))
-
 -- the name numbers besides the mappings' were handed out: both datasets, the three sets
 unfoldable pub restOf : ℕ → Header → Header → Bool → Bool → Bool → Bool
 restOf names h g a b c = ltb (h .dataset) names && (ltb (g .dataset) names && (a && (b && c)))
@@ -43,9 +40,8 @@ abbrev pub countsOf : ℕ → ℕ → ℕ → ℕ → ℕ → Counts
 countsOf a b c q k = record { symbols = a; partial = b; «not_found» = c; mappings = q; intervals = k }
 
 unfoldable pub decideOf : Planned → ℕ → ℕ → ℕ → Lengths → Verdict
-unfolding refusalOf
-decideOf (Fault n) a b c l = Refused (refusalOf n)
-decideOf (Laid q k) a b c l = cond (outcomeFits (countsOf a b c q k) l) (Fits (countsOf a b c q k)) (Refused NoRoom)
+decideOf (plan.Refused r) a b c l = Refused r
+decideOf (plan.Laid q k) a b c l = cond (outcomeFits (countsOf a b c q k) l) (Fits (countsOf a b c q k)) (Refused NoRoom)
 
 -- the rooms of the lent lists, and what a merge is given
 abbrev pub roomsOf : Lists → Rooms
@@ -68,10 +64,6 @@ swap true true false y = refl
 swap true false false y = refl
 swap false x b y = refl
 
-assoc : (a b c : Bool) → ((a && b) && c) ≡ (a && (b && c))
-assoc true b c = refl
-assoc false b c = refl
-
 -- ---- tests of both sides are tests of all
 
 every-add : (p : ℕ → Bool) (ys : List ℕ) (x : ℕ) → every p (add ys x) ≡ (every p ys && p x)
@@ -84,7 +76,7 @@ every-add p [] x = end (p x)
 every-add p (y ∷ ys) x =
     eqb-case (λ (l : List ℕ). every p l ≡ ((p y && every p ys) && p x)) y x _ _
     (λ e. twice (p y) (every p ys) (p x) (ap p e))
-    (λ d. ap (λ (b : Bool). p y && b) (every-add p ys x) ∙ sym (assoc (p y) (every p ys) (p x)))
+    (λ d. ap (λ (b : Bool). p y && b) (every-add p ys x) ∙ sym (and-assoc (p y) (every p ys) (p x)))
   where
     twice : (a b c : Bool) → a ≡ c → (a && b) ≡ ((a && b) && c)
     twice true true true e = refl
@@ -100,11 +92,7 @@ every-all p [] ys = end (every p ys)
     end true = refl
     end false = refl
 every-all p (x ∷ xs) ys =
-    every-all p xs (add ys x) ∙ ap (λ (b : Bool). b && every p xs) (every-add p ys x) ∙ assoc (every p ys) (p x) (every p xs)
-
-every-once : (p : ℕ → Bool) (xs : List ℕ) → every p (once xs) ≡ every p xs
-unfolding once every
-every-once p xs = every-all p xs []
+    every-all p xs (add ys x) ∙ ap (λ (b : Bool). b && every p xs) (every-add p ys x) ∙ and-assoc (every p ys) (p x) (every p xs)
 
 interval-append : (p : Interval → Bool) (xs ys : List Mapping) → everyInterval p (xs ++ ys) ≡ (everyInterval p xs && everyInterval p ys)
 unfolding everyInterval
@@ -155,20 +143,20 @@ module _ (names : ℕ) (h : Header) (l : Lists) (g : Header) (r : Lists) where
         s .symbols .all-known,
         s .partial .all-known,
         s .not-found .all-known,
-        every-once (below names) (take (h .symbols) (l .symbols)),
-        every-once (below names) (take (h .partial) (l .partial)),
-        every-once (below names) (take (h .«not_found») (l .not-found)),
+        every-all (below names) (take (g .symbols) (r .symbols)) (once (take (h .symbols) (l .symbols))),
+        every-all (below names) (take (g .partial) (r .partial)) (once (take (h .partial) (l .partial))),
+        every-all (below names) (take (g .«not_found») (r .not-found)) (once (take (h .«not_found») (l .not-found))),
       )
       (four (ltb (h .dataset) names) (ltb (g .dataset) names)
-      (every (below names) (take (h .symbols) (l .symbols))) (every (below names) (take (g .symbols) (r .symbols)))
-      (every (below names) (take (h .partial) (l .partial))) (every (below names) (take (g .partial) (r .partial)))
-      (every (below names) (take (h .«not_found») (l .not-found))) (every (below names) (take (g .«not_found») (r .not-found))))
+      (every (below names) (once (take (h .symbols) (l .symbols)))) (every (below names) (take (g .symbols) (r .symbols)))
+      (every (below names) (once (take (h .partial) (l .partial)))) (every (below names) (take (g .partial) (r .partial)))
+      (every (below names) (once (take (h .«not_found») (l .not-found)))) (every (below names) (take (g .«not_found») (r .not-found))))
     where
       four : (a a' b b' c c' d d' : Bool) → (a && (a' && ((b && b') && ((c && c') && (d && d'))))) ≡ ((a && (b && (c && d))) && (a' && (b' && (c' && d'))))
       four a a' b b' c c' d d' =
           sym (swap a (b && (c && d)) a' (b' && (c' && d'))
           ∙ ap (λ (x : Bool). (a && a') && x) (swap b (c && d) b' (c' && d') ∙ ap (λ (x : Bool). (b && b') && x) (swap c d c' d'))
-          ∙ assoc a a' ((b && b') && ((c && c') && (d && d'))))
+          ∙ and-assoc a a' ((b && b') && ((c && c') && (d && d'))))
 
   -- 11, 3, 1 of both sides, in terms of all mappings
   agreed-same : (rest : Bool) → rest ≡ (restKnown names left && restKnown names right)
@@ -247,18 +235,18 @@ module _ (names : ℕ) (h : Header) (l : Lists) (g : Header) (r : Lists) (ka : B
         room = e;
       }
 
-  faulted : (p : Planned) (n : ℕ) → endPlan p om' out' ≡ fault n → (x : Outcome) → x ≡ stopped (refused (refusalOf n))
-      → Decided x (fieldsOf (headerFields h) (headerFields g)) (lengthsOf l) (decideOf p ca cb cd (lengthsOf l)) ta tb tc om' out'
+  halted-case : (p : Planned) (why : Refusal) → endPlan p om' out' ≡ halted why
+      → Decided (stopped (refused why)) (fieldsOf (headerFields h) (headerFields g)) (lengthsOf l) (decideOf p ca cb cd (lengthsOf l)) ta tb tc om' out'
   unfolding endPlan decideOf
-  faulted (Fault m) n e x d = let z : m ≡ n = cc in d ∙ ap (λ (k : ℕ). stopped (refused (refusalOf k))) (sym z)
-  faulted (Laid q k) n e x d = let z : _≡_ {A = ℕ} 0 1 = cc in absurd (omega arith)
+  halted-case (plan.Refused x) why e = let z : x ≡ why = cc in ap (λ (k : Refusal). stopped (refused k)) (sym z)
+  halted-case (plan.Laid q k) why e = let z : _≡_ {A = ℕ} 0 1 = cc in absurd (omega arith)
 
   merged-case : (p : Planned) (m : Merged) → byName (all names h l g r) ≡ m → endPlan p om' out' ≡ shownMerged om out m
       → Decided (ifMerged (roomsOf l) (left names h l g r) (right names h l g r) m) (fieldsOf (headerFields h) (headerFields g)) (lengthsOf l) (decideOf p ca cb cd (lengthsOf l)) ta tb tc om' out'
-  unfolding shownMerged ifMerged ifFits endPlan decideOf refusalOf
-  merged-case p conflicting b e = faulted p 7 e (stopped (answer 7 [])) refl
-  merged-case (Fault n) (merged ms) b e = let z : _≡_ {A = ℕ} 0 1 = cc in absurd (omega arith)
-  merged-case (Laid q k) (merged ms) b e =
+  unfolding shownMerged ifMerged ifFits endPlan decideOf
+  merged-case p conflicting b e = halted-case p Conflict e
+  merged-case (plan.Refused x) (merged ms) b e = let z : _≡_ {A = ℕ} 0 1 = cc in absurd (omega arith)
+  merged-case (plan.Laid q k) (merged ms) b e =
       let f : placed om' q out' k ≡ layAll om 0 out 0 ms = cc in
       let x = merged-few (all names h l g r) ms b in
       let y = merged-short (all names h l g r) ms b in
@@ -267,34 +255,34 @@ module _ (names : ℕ) (h : Header) (l : Lists) (g : Header) (r : Lists) (ka : B
       (sym (counts-same ms q k (d .how-many) (d .how-long)))
       (laid-fits ms q k d (outcomeFits (countsOf ca cb cd q k) (lengthsOf l)) refl)
 
-  cases : (p : Planned) (d n f : Bool) → endPlan p om' out' ≡ planOn (cond d (cond n (cond f 0 1) 3) 11) om out (all names h l g r)
+  cases : (p : Planned) (d n f : Bool) → endPlan p om' out' ≡ planOn (judgedOf d n f) om out (all names h l g r)
       → Decided (cond d (cond n (cond f (ifMerged (roomsOf l) (left names h l g r) (right names h l g r) (byName (all names h l g r))) (stopped (answer 1 []))) (stopped (answer 3 []))) (stopped (answer 11 [])))
       (fieldsOf (headerFields h) (headerFields g)) (lengthsOf l) (decideOf p ca cb cd (lengthsOf l)) ta tb tc om' out'
-  unfolding planOn refusalOf
+  unfolding planOn judgedOf
   cases p true true true e = merged-case p (byName (all names h l g r)) refl e
-  cases p true true false e = faulted p 1 e (stopped (answer 1 [])) refl
-  cases p true false f e = faulted p 3 e (stopped (answer 3 [])) refl
-  cases p false n f e = faulted p 11 e (stopped (answer 11 [])) refl
+  cases p true true false e = halted-case p Reversed e
+  cases p true false f e = halted-case p UnknownSymbol e
+  cases p false n f e = halted-case p NoDate e
 
   pub decided : (rest : Bool) → rest ≡ restOf names h g ka kb kc → (p : Planned) → endPlan p om' out' ≡ planOf names rest (all names h l g r) om out → (v : Verdict) → v ≡ decideOf p ca cb cd (lengthsOf l)
       → Deciding (agreedMerge (given names l) (left names h l g r) (right names h l g r)) (fieldsOf (headerFields h) (headerFields g)) (lengthsOf l) v ta tb tc om' out'
-  unfolding planOf faultOf Deciding
+  unfolding planOf judgedAll Deciding
   decided rest a p e v d =
       subst (λ (w : Verdict). Decided (agreedMerge (given names l) (left names h l g r) (right names h l g r)) (fieldsOf (headerFields h) (headerFields g)) (lengthsOf l) w ta tb tc om' out') (sym d)
       (subst (λ (x : Outcome). Decided x (fieldsOf (headerFields h) (headerFields g)) (lengthsOf l) (decideOf p ca cb cd (lengthsOf l)) ta tb tc om' out')
       (sym (agreed-same names h l g r rest (a ∙ rest-same names h l g r ka ca ta kb cb tb kc cd tc s)))
       (cases p (datesKnown knownDate (all names h l g r)) (rest && mappingsKnown names (all names h l g r)) (forwards (all names h l g r)) e))
 
-pub decide-fault : (p : Planned) (a b c : ℕ) (l : Lengths) (n : ℕ) (r : Refusal) → p ≡ Fault n → r ≡ refusalOf n → Refused r ≡ decideOf p a b c l
+pub decide-refused : (p : Planned) (a b c : ℕ) (l : Lengths) (r : Refusal) → p ≡ plan.Refused r → Refused r ≡ decideOf p a b c l
 unfolding decideOf
-decide-fault p a b c l n r e d = ap (λ (x : Refusal). Refused x) d ∙ ap (λ (x : Planned). decideOf x a b c l) (sym e)
+decide-refused p a b c l r e = ap (λ (x : Planned). decideOf x a b c l) (sym e)
 
-pub decide-fits : (p : Planned) (a b c : ℕ) (l : Lengths) (q k : ℕ) (t : Bool) → p ≡ Laid q k → t ≡ outcomeFits (countsOf a b c q k) l → t ≡ true → Fits (countsOf a b c q k) ≡ decideOf p a b c l
+pub decide-fits : (p : Planned) (a b c : ℕ) (l : Lengths) (q k : ℕ) (t : Bool) → p ≡ plan.Laid q k → t ≡ outcomeFits (countsOf a b c q k) l → t ≡ true → Fits (countsOf a b c q k) ≡ decideOf p a b c l
 unfolding decideOf
 decide-fits p a b c l q k t e d y =
     sym (ap (λ (x : Planned). decideOf x a b c l) e ∙ ap (λ (x : Bool). cond x (Fits (countsOf a b c q k)) (Refused NoRoom)) (sym d ∙ y))
 
-pub decide-short : (p : Planned) (a b c : ℕ) (l : Lengths) (q k : ℕ) (t : Bool) → p ≡ Laid q k → t ≡ outcomeFits (countsOf a b c q k) l → t ≡ false → Refused NoRoom ≡ decideOf p a b c l
+pub decide-short : (p : Planned) (a b c : ℕ) (l : Lengths) (q k : ℕ) (t : Bool) → p ≡ plan.Laid q k → t ≡ outcomeFits (countsOf a b c q k) l → t ≡ false → Refused NoRoom ≡ decideOf p a b c l
 unfolding decideOf
 decide-short p a b c l q k t e d y =
     sym (ap (λ (x : Planned). decideOf x a b c l) e ∙ ap (λ (x : Bool). cond x (Fits (countsOf a b c q k)) (Refused NoRoom)) (sym d ∙ y))

@@ -83,12 +83,14 @@ module _ (names : ℕ) (h : Header) (len : Lengths) (l : Lists) (g : Header) (r 
       let e = a .maps-lent in let f = a .maps-used in let i = a .spans-lent in let j = a .spans-whole in
       let k = b .maps-lent in let m = b .maps-used in let n = b .spans-lent in let o = b .spans-whole in
       record {
-        left-words = f;
-        left-count = omega arith;
-        left-spans = omega arith;
-        right-words = m;
-        right-count = omega arith;
-        right-spans = omega arith;
+        sides = record {
+          left-words = f;
+          left-count = omega arith;
+          left-spans = omega arith;
+          right-words = m;
+          right-count = omega arith;
+          right-spans = omega arith;
+        };
         few-spans = omega arith;
         few-names = p .few-names;
         maps = p .room-m;
@@ -98,7 +100,7 @@ module _ (names : ℕ) (h : Header) (len : Lengths) (l : Lists) (g : Header) (r 
   pub all-few : (om : List ℕ) → sm ≡ length om → 2 * length (bothSides (l .mappings) (h .mappings) (l .intervals) (r .mappings) (g .mappings) (r .intervals)) ≤ length om
   all-few om e =
       let a = both-count (l .mappings) (h .mappings) (l .intervals) (r .mappings) (g .mappings) (r .intervals) in
-      let b = planable .left-count in let c = planable .right-count in let d = p .room-m in
+      let b = planable .sides .left-count in let c = planable .sides .right-count in let d = p .room-m in
       omega arith
 
   pub all-short : (out : List ℕ) → sv ≡ length out → 3 * countIntervals (bothSides (l .mappings) (h .mappings) (l .intervals) (r .mappings) (g .mappings) (r .intervals)) ≤ length out

@@ -10,6 +10,7 @@ use metadata_form::header::Header;
 use metadata_form::header::Lengths;
 use metadata_form::header::counted;
 use metadata_form::header::differs;
+use metadata_form::header::lengths_by;
 use metadata_form::header::merged_header;
 use metadata_form::header::metadata_fits;
 use metadata_form::header::total;
@@ -19,7 +20,7 @@ ghost use mathlib.Core.Path.{_≡_};
 ghost use mathlib.Core.Bool.{_&&_};
 ghost use lib.ListN.{length};
 ghost use Rattle.metadata_form.specs.Header.{lists, lengthsOf};
-ghost use Rattle.metadata_merge.specs.Merger.{finishedOf, finishAnswer, bothFit, lengthsBy, Merge, Open};
+ghost use Rattle.metadata_merge.specs.Merger.{finishedOf, finishAnswer, bothFit, Merge, Open};
 
 // What opening answers: the header with the counts that are left, or 15.
 pub enum OpenedMetadata {
@@ -43,11 +44,11 @@ pub enum FinishedMetadata {
 const NAMES: usize = 4096;
 
 // Scratch for one metadata at the rules' limits: entries of a set, words of its mappings and of its intervals.
-const ENTRIES: usize = 4096;
+const ONE_ENTRIES: usize = 4096;
 
-const MAPPING_WORDS: usize = 8192;
+const ONE_MAPPING_WORDS: usize = 8192;
 
-const INTERVAL_WORDS: usize = 196608;
+const ONE_INTERVAL_WORDS: usize = 196608;
 
 // And for two.
 const BOTH_ENTRIES: usize = 8192;
@@ -55,25 +56,6 @@ const BOTH_ENTRIES: usize = 8192;
 const BOTH_MAPPING_WORDS: usize = 16384;
 
 const BOTH_INTERVAL_WORDS: usize = 393216;
-
-// The lengths of five lists.
-fn lengths_by(
-    symbols: usize,
-    partial: usize,
-    not_found: usize,
-    mappings: usize,
-    intervals: usize,
-) -> Lengths
-    ensures { λ r. ⌜ r ≡ lengthsBy symbols partial «not_found» mappings intervals ⌝ }
-{
-    Lengths {
-        symbols: symbols,
-        partial: partial,
-        not_found: not_found,
-        mappings: mappings,
-        intervals: intervals,
-    }
-}
 
 // Whether the number of names and both sides' memory are of the form.
 fn both_fit(
@@ -88,13 +70,9 @@ fn both_fit(
     requires { ⌜ (lengths .mappings ≡ length (now mappings)) × («added_lengths» .mappings ≡ length (now «added_mappings»)) ⌝ }
     ensures { λ r. ⌜ r ≡ bothFit names header lengths (now (mappings .entry)) added «added_lengths» (now («added_mappings» .entry)) ⌝ }
 {
-    if NAMES < names {
-        return false;
-    }
-    if !metadata_fits(header, lengths, mappings) {
-        return false;
-    }
-    metadata_fits(added, added_lengths, added_mappings)
+    let fits = metadata_fits(header, lengths, mappings);
+    let added_fits = metadata_fits(added, added_lengths, added_mappings);
+    (names <= NAMES) & (fits & added_fits)
 }
 
 // The first metadata loses its repeats: equal entries of a set once, and of two mappings with one name the last, at the place
@@ -121,11 +99,11 @@ pub fn open(
     if !metadata_fits(header, lengths, mappings) {
         return OpenedMetadata::Refused(Refusal::BadMemory);
     }
-    let mut out_symbols = [0u32; ENTRIES];
-    let mut out_partial = [0u32; ENTRIES];
-    let mut out_not_found = [0u32; ENTRIES];
-    let mut out_mappings = [0u32; MAPPING_WORDS];
-    let mut out_intervals = [0u32; INTERVAL_WORDS];
+    let mut out_symbols = [0u32; ONE_ENTRIES];
+    let mut out_partial = [0u32; ONE_ENTRIES];
+    let mut out_not_found = [0u32; ONE_ENTRIES];
+    let mut out_mappings = [0u32; ONE_MAPPING_WORDS];
+    let mut out_intervals = [0u32; ONE_INTERVAL_WORDS];
     let used = total(mappings, header.mappings);
     let a = alone(symbols, header.symbols, &mut out_symbols);
     let b = alone(partial, header.partial, &mut out_partial);

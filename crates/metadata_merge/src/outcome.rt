@@ -8,41 +8,20 @@ use metadata_gather::sets::unite;
 use metadata_plan::plan::Planned;
 use metadata_plan::plan::plan;
 use metadata_words::over::lay_over;
+use metadata_words::words::INTERVAL_WORDS;
+use metadata_words::words::MAPPING_WORDS;
 use metadata_words::words::wide;
 ghost use mathlib.Core.Path.{_≡_};
 ghost use Prim.Native.Nat.{_+_, _*_, _<_, _≤_};
 ghost use lib.ListN.{length};
 ghost use Rattle.metadata_form.specs.Header.{lists};
-ghost use Rattle.metadata_merge.specs.Outcome.{refusalOf, restOf, decideOf};
+ghost use Rattle.metadata_merge.specs.Outcome.{restOf, decideOf};
 ghost use Rattle.metadata_merge.specs.OutcomeCalls.{Plannable, Outcomes, Commit, committed};
 
 // What comes of a merge: a refusal, or how many of each list the outcome has.
 pub enum Verdict {
     Refused(Refusal),
     Fits(Counts),
-}
-
-// The refusals that a plan gives by their numbers.
-const NO_DATE: u32 = 11;
-
-const UNKNOWN_SYMBOL: u32 = 3;
-
-const REVERSED: u32 = 1;
-
-// The refusal of a plan's number: 11, 3, 1 or 7.
-fn refusal_of(number: u32) -> Refusal
-    ensures { λ r. ⌜ r ≡ refusalOf number ⌝ }
-{
-    if number == NO_DATE {
-        return Refusal::NoDate;
-    }
-    if number == UNKNOWN_SYMBOL {
-        return Refusal::UnknownSymbol;
-    }
-    if number == REVERSED {
-        return Refusal::Reversed;
-    }
-    Refusal::Conflict
 }
 
 // Whether the name numbers besides the mappings' were handed out, of both sides.
@@ -56,19 +35,8 @@ fn rest_known(
 ) -> bool
     ensures { λ r. ⌜ r ≡ restOf names header added «symbols_known» «partial_known» «not_found_known» ⌝ }
 {
-    if names <= wide(header.dataset) {
-        return false;
-    }
-    if names <= wide(added.dataset) {
-        return false;
-    }
-    if !symbols_known {
-        return false;
-    }
-    if !partial_known {
-        return false;
-    }
-    not_found_known
+    (wide(header.dataset) < names)
+        & ((wide(added.dataset) < names) & (symbols_known & (partial_known & not_found_known)))
 }
 
 // A plan's refusal, or 2 where the outcome does not fit, or the counts.
@@ -82,10 +50,7 @@ fn decide(
     ensures { λ r. ⌜ r ≡ decideOf planned symbols partial «not_found» lengths ⌝ }
 {
     match planned {
-        Planned::Fault(number) => {
-            let r = refusal_of(number);
-            Verdict::Refused(r)
-        }
+        Planned::Refused(why) => Verdict::Refused(why),
         Planned::Laid(mappings, intervals) => {
             let counts = Counts {
                 symbols: symbols,
@@ -172,11 +137,6 @@ pub fn outcome(
     );
     decide(planned, a.count, b.count, c.count, lengths)
 }
-
-// The words of a mapping and of an interval.
-const MAPPING_WORDS: usize = 2;
-
-const INTERVAL_WORDS: usize = 3;
 
 // The outcome's lists laid over the lent ones, of which the header's counts and `used` intervals were in use.
 pub fn commit(

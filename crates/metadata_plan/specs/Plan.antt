@@ -1,4 +1,4 @@
--- What the mappings of a merge come to: a refusal's number, or the words of the mappings merged by name. Assumes nothing.
+-- What the mappings of a merge come to: a refusal, or the words of the mappings merged by name. Assumes nothing.
 use mathlib.Core.Path.{_≡_, refl, sym, ap, _∙_, subst}
 use mathlib.Core.Logic.{_≢_}
 use Prim.Native.Nat.{ℕ, zero, suc, _+_, _-_, _*_, _≤_, _<_}
@@ -9,6 +9,8 @@ use lib.ListN.{length, getD, replicate, length-replicate, getD-replicate, length
 use lib.Dec.{ltb}
 use borrow.Author.Tests.{ltb-true}
 use Rattle.metadata_rules.specs.declared.Interval.{Interval}
+use Rattle.leaves.specs.declared.refusal.Refusal.{Refusal}
+use Rattle.leaves.specs.declared.refusal.Refusal.the-variants.{Conflict}
 use Rattle.metadata_rules.specs.Metadata.{Mapping, Merged, conflicting, merged, enter, enterAll, byName, every, everyInterval, datesKnown, mappingsKnown, countIntervals}
 use Rattle.metadata_rules.specs.Metadata.{forwards as forwardsOf}
 use Rattle.metadata_rules.specs.Cases.{eqb-case}
@@ -23,9 +25,11 @@ use Rattle.metadata_lists.specs.NamesWords.{Stands, stands}
 use Rattle.metadata_lists.specs.declared.names.NamesLaid.{NamesLaid}
 use Rattle.metadata_lists.specs.declared.names.NamesLaid.the-variants as names-laid
 use Rattle.metadata_gather.specs.Sides.{Sound, Offs, count-all, lay-append, lost-count, within-of, placed-flat}
-use Rattle.metadata_gather.specs.Judge.{knownDate, dated, below, known, forward, namesTo, rest-all, names-all}
+use Rattle.metadata_gather.specs.Judge.{knownDate, dated, below, known, forward, spaced, judgedOf, judgedBy, and-assoc, rest-all, spaced-names}
+use Rattle.metadata_gather.specs.declared.judge.Judged.{Judged}
+use Rattle.metadata_gather.specs.declared.judge.Judged.the-variants as judged
 use Rattle.metadata_plan.specs.declared.plan.Planned.{Planned}
-use Rattle.metadata_plan.specs.declared.plan.Planned.the-variants.{Fault, Laid}
+use Rattle.metadata_plan.specs.declared.plan.Planned.the-variants.{Refused, Laid}
 use Rattle.theory.specs.Bools.{and-left, and-right}
 
 -- the mappings of both sides: the left one's without its repeats, then the right one's
@@ -33,62 +37,55 @@ unfoldable pub bothSides : List ℕ → ℕ → List ℕ → List ℕ → ℕ �
 bothSides left-mappings left-count left-intervals right-mappings right-count right-intervals =
     enterAll [] (mappingsFrom left-mappings left-intervals 0 0 left-count) ++ mappingsFrom right-mappings right-intervals 0 0 right-count
 
--- 11, 3 or 1, over all mappings each before the next; 0 for none (RULES, Merging metadata)
-unfoldable pub faultOf : ℕ → Bool → List Mapping → ℕ
-faultOf names rest ms = cond (datesKnown knownDate ms) (cond (rest && mappingsKnown names ms) (cond (forwardsOf ms) 0 1) 3) 11
-
--- the same over words, with so many mappings and intervals
-unfoldable pub faultFlat : List ℕ → ℕ → List ℕ → ℕ → ℕ → Bool → ℕ
-faultFlat both-mappings mapping-count both-intervals interval-count names known-rest =
-    cond (every dated (rest both-intervals 0 interval-count))
-    (cond (known-rest && (every (below names) (namesTo both-mappings 0 mapping-count) && every (known names) (rest both-intervals 0 interval-count)))
-    (cond (every forward (rest both-intervals 0 interval-count)) 0 1) 3) 11
+-- 11, 3 or 1, over all mappings each before the next (RULES, Merging metadata); known says 3 of what else there is
+unfoldable pub judgedAll : ℕ → Bool → List Mapping → Judged
+unfolding judgedOf datesKnown mappingsKnown forwardsOf
+judgedAll names known ms = judgedOf (datesKnown knownDate ms) (known && mappingsKnown names ms) (forwardsOf ms)
 
 -- what a plan comes to
 pub data Shown : Type 0 where
-  fault : ℕ → Shown
+  stopped : Refusal → Shown
   shown : Final → Shown
 
 unfoldable pub endPlan : Planned → List ℕ → List ℕ → Shown
-endPlan (Fault n) om out = fault n
+endPlan (Refused r) om out = stopped r
 endPlan (Laid q k) om out = shown (placed om q out k)
 
 unfoldable pub shownMerged : List ℕ → List ℕ → Merged → Shown
-shownMerged om out conflicting = fault 7
+shownMerged om out conflicting = stopped Conflict
 shownMerged om out (merged ms) = shown (layAll om 0 out 0 ms)
 
-unfoldable pub planOn : ℕ → List ℕ → List ℕ → List Mapping → Shown
+unfoldable pub planOn : Judged → List ℕ → List ℕ → List Mapping → Shown
 unfolding shownMerged
-planOn zero om out ms = shownMerged om out (byName ms)
-planOn (suc n) om out ms = fault (suc n)
+planOn judged.Passed om out ms = shownMerged om out (byName ms)
+planOn (judged.Refused r) om out ms = stopped r
 
 unfoldable pub planOf : ℕ → Bool → List Mapping → List ℕ → List ℕ → Shown
-unfolding faultOf planOn
-planOf names rest ms om out = planOn (faultOf names rest ms) om out ms
+unfolding judgedAll planOn
+planOf names known ms om out = planOn (judgedAll names known ms) om out ms
 
 -- ---- what the functions ask
 
--- both sides stand in their words, few enough, and fit together
-pub record Gathered (lm : List ℕ) (n : ℕ) (lv rm : List ℕ) (k : ℕ) (rv : List ℕ) (sm sv : ℕ) : Type 0 where
+-- both sides stand in their words, few enough
+pub record Sides (lm : List ℕ) (n : ℕ) (lv rm : List ℕ) (k : ℕ) (rv : List ℕ) : Type 0 where
   pub left-words : 2 * n ≤ length lm
   pub left-count : n ≤ 4096
   pub left-spans : 3 * before lm n ≤ length lv
   pub right-words : 2 * k ≤ length rm
   pub right-count : k ≤ 4096
   pub right-spans : 3 * before rm k ≤ length rv
+
+-- and fit together
+pub record Gathered (lm : List ℕ) (n : ℕ) (lv rm : List ℕ) (k : ℕ) (rv : List ℕ) (sm sv : ℕ) : Type 0 where
+  pub sides : Sides lm n lv rm k rv
   pub maps : 2 * (n + k) ≤ sm
   pub room : 3 * (before lm n + before rm k) ≤ sv
   pub small : sv < 4294967296
   pub few : sm < 4294967296
 
--- both sides stand in their words, few enough, and the scratch holds them together: 8,192 mappings, 131,072 intervals
+-- and the scratch holds them together: 8,192 mappings, 131,072 intervals
 pub record Planable (lm : List ℕ) (n : ℕ) (lv rm : List ℕ) (k : ℕ) (rv : List ℕ) (names sm so : ℕ) : Type 0 where
-  pub left-words : 2 * n ≤ length lm
-  pub left-count : n ≤ 4096
-  pub left-spans : 3 * before lm n ≤ length lv
-  pub right-words : 2 * k ≤ length rm
-  pub right-count : k ≤ 4096
-  pub right-spans : 3 * before rm k ≤ length rv
+  pub sides : Sides lm n lv rm k rv
   pub few-spans : before lm n + before rm k ≤ 131072
   pub few-names : names ≤ 4096
   pub maps : sm ≡ 16384
@@ -151,7 +148,7 @@ module _ (lm : List ℕ) (n : ℕ) (lv rm : List ℕ) (k : ℕ) (rv : List ℕ) 
   left-sound =
       let x = g .maps in
       let y = g .room in
-      record { words = g .left-words; count = g .left-count; spans = g .left-spans; maps = omega arith; room = omega arith; small = g .small; few = g .few }
+      record { words = g .sides .left-words; count = g .sides .left-count; spans = g .sides .left-spans; maps = omega arith; room = omega arith; small = g .small; few = g .few }
 
   module _ (a b : List ℕ) (q o : ℕ) (laid : placed a q b o ≡ layAll gm 0 gv 0 (enterAll [] (mappingsFrom lm lv 0 0 n))) where
     left-stands : Stands (enterAll [] (mappingsFrom lm lv 0 0 n)) a q b o
@@ -163,10 +160,10 @@ module _ (lm : List ℕ) (n : ℕ) (lv rm : List ℕ) (k : ℕ) (rv : List ℕ) 
     right-sound sm sv d e =
         let x = g .maps in let y = g .room in let f = left-few in let h = left-short in
         let i = left-stands .how-many in let j = left-stands .how-long in
-        record { words = g .right-words; count = g .right-count; spans = g .right-spans; maps = omega arith; room = omega arith; small = omega (arith, g .small); few = omega (arith, g .few) }
+        record { words = g .sides .right-words; count = g .sides .right-count; spans = g .sides .right-spans; maps = omega arith; room = omega arith; small = omega (arith, g .small); few = omega (arith, g .few) }
 
     pub q-small : q + k ≤ 8192
-    q-small = let f = left-few in let i = left-stands .how-many in omega (arith, g .left-count, g .right-count)
+    q-small = let f = left-few in let i = left-stands .how-many in omega (arith, g .sides .left-count, g .sides .right-count)
 
     pub both-stand : (a' b' : List ℕ) (e : ℕ) → placed a' (q + k) b' e ≡ layAll a q b o (mappingsFrom rm rv 0 0 k) → Stands (bothSides lm n lv rm k rv) a' (q + k) b' e
     unfolding bothSides
@@ -200,6 +197,10 @@ both-count lm n lv rm k rv =
 
 -- ---- mappings that stand in words
 
+-- what is at the front of a list is no longer than it
+at-least : (a b r : List ℕ) (n : ℕ) → a ≡ b ++ r → length b ≡ n → n ≤ length a
+at-least a b r n e h = let l = ap length e ∙ length-append b r in omega arith
+
 module _ (ms : List Mapping) (gm : List ℕ) (q : ℕ) (gv : List ℕ) (e : ℕ) (s : Stands ms gm q gv e) where
   pub stands-read : mappingsFrom gm gv 0 0 q ≡ ms
   stands-read = rw (s .maps, s .spans, s .how-many) (read-back ms (s .rest-m) (s .rest-v))
@@ -208,42 +209,41 @@ module _ (ms : List Mapping) (gm : List ℕ) (q : ℕ) (gv : List ℕ) (e : ℕ)
   stands-before = sym (count-all gm gv q) ∙ ap countIntervals stands-read
 
   pub stands-words : 2 * q ≤ length gm
-  stands-words =
-      let a = ap length (s .maps) ∙ length-append (mappingWords ms) (s .rest-m) in
-      let b = mapping-length ms in
-      let c = s .how-many in
-      omega arith
+  stands-words = at-least gm (mappingWords ms) (s .rest-m) (2 * q) (s .maps) (let c = s .how-many in omega (arith, mapping-length ms))
 
   pub stands-spans : 3 * e ≤ length gv
-  stands-spans =
-      let a = ap length (s .spans) ∙ length-append (intervalWords ms) (s .rest-v) in
-      let b = interval-length ms in
-      let c = s .how-long in
-      omega arith
+  stands-spans = at-least gv (intervalWords ms) (s .rest-v) (3 * e) (s .spans) (let c = s .how-long in omega (arith, interval-length ms))
 
   spans-test : (p : Interval → Bool) → every p (rest gv 0 e) ≡ everyInterval p ms
   spans-test p = ap (every p) (rest-all gv e) ∙ rw (s .spans, s .how-long) (sym (intervals-test p ms (s .rest-v)))
 
-  names-tested : (p : ℕ → Bool) → every p (namesTo gm 0 q) ≡ every (λ (m : Mapping). p (m .name)) ms
-  names-tested p = ap (every p) (names-all gm q) ∙ rw (s .maps, s .how-many) (sym (names-test p ms (s .rest-m)))
+  names-tested : (p : ℕ → Bool) → every p (spaced gm 2 0 q) ≡ every (λ (m : Mapping). p (m .name)) ms
+  names-tested p = ap (every p) (spaced-names gm q) ∙ rw (s .maps, s .how-many) (sym (names-test p ms (s .rest-m)))
 
-  -- tested over words or over mappings: the same fault
-  pub fault-same : (names : ℕ) (known-rest : Bool) → faultFlat gm q gv e names known-rest ≡ faultOf names known-rest ms
-  unfolding faultFlat faultOf datesKnown mappingsKnown forwardsOf dated known forward below
-  fault-same names known-rest =
-      rw (spans-test dated, names-tested (below names), spans-test (known names), spans-test forward) refl
+  -- judged over words or over mappings: the same
+  pub judged-same : (names : ℕ) (r : Bool) → judgedBy names (r && every (below names) (spaced gm 2 0 q)) true (rest gv 0 e) ≡ judgedAll names r ms
+  unfolding judgedBy judgedAll datesKnown mappingsKnown forwardsOf dated known forward below
+  judged-same names r =
+      rw (
+        and-assoc r (every (below names) (spaced gm 2 0 q)) (every (known names) (rest gv 0 e)),
+        spans-test dated,
+        names-tested (below names),
+        spans-test (known names),
+        spans-test forward,
+      ) refl
 
-  -- no fault: each name was handed out
-  pub names-below : (names : ℕ) (known-rest : Bool) → faultFlat gm q gv e names known-rest ≡ 0 → (t : ℕ) → t < q → nameAt gm t < names
-  unfolding faultFlat
-  names-below names known-rest z t h =
-      go (every dated (rest gv 0 e)) known-rest (every (below names) (namesTo gm 0 q)) refl (every (known names) (rest gv 0 e)) (every forward (rest gv 0 e)) z
+  -- all passed: each name was handed out
+  pub names-below : (names : ℕ) (r : Bool) → judgedBy names (r && every (below names) (spaced gm 2 0 q)) true (rest gv 0 e) ≡ judged.Passed
+      → (t : ℕ) → t < q → nameAt gm t < names
+  unfolding judgedBy judgedOf
+  names-below names r z t h =
+      go (every dated (rest gv 0 e)) r (every (below names) (spaced gm 2 0 q)) refl (every (known names) (rest gv 0 e)) (every forward (rest gv 0 e)) z
     where
-      go : (a b c : Bool) → every (below names) (namesTo gm 0 q) ≡ c → (d f : Bool) → _≡_ {A = ℕ} (cond a (cond (b && (c && d)) (cond f 0 1) 3) 11) 0 → nameAt gm t < names
-      go true true true w d f y = subst (λ (u : ℕ). nameAt gm u < names) (zero-plus t) (names-each names gm q 0 (sym (ap (every (below names)) (names-all gm q)) ∙ w) t h)
-      go true true false w d f y = absurd (omega arith)
-      go true false c w d f y = absurd (omega arith)
-      go false b c w d f y = absurd (omega arith)
+      go : (a b c : Bool) → every (below names) (spaced gm 2 0 q) ≡ c → (d f : Bool) → judgedOf a ((b && c) && d) (true && f) ≡ judged.Passed → nameAt gm t < names
+      go true true true w d f y = subst (λ (u : ℕ). nameAt gm u < names) (zero-plus t) (names-each names gm q 0 (sym (ap (every (below names)) (spaced-names gm q)) ∙ w) t h)
+      go true true false w d f y = let x : _≡_ {A = ℕ} 0 1 = cc in absurd (omega arith)
+      go true false c w d f y = let x : _≡_ {A = ℕ} 0 1 = cc in absurd (omega arith)
+      go false b c w d f y = let x : _≡_ {A = ℕ} 0 1 = cc in absurd (omega arith)
 
 -- ---- linking and laying
 
@@ -291,12 +291,8 @@ not-laid [] om q out k e = let z : _≡_ {A = ℕ} 0 1 = cc in omega arith
 not-laid (m ∷ ms) om q out k e = not-laid ms _ _ _ _ e
 
 unfoldable pub shownNames : NamesLaid → List ℕ → List ℕ → Shown
-shownNames names-laid.Conflict om out = fault 7
+shownNames names-laid.Conflict om out = stopped Conflict
 shownNames (names-laid.Done q k) om out = shown (placed om q out k)
-
-at-zero : (om out : List ℕ) (ms : List Mapping) → planOn 0 om out ms ≡ shownMerged om out (byName ms)
-unfolding planOn
-at-zero om out ms = refl
 
 shown-end : (r : NamesLaid) (om om' out out' : List ℕ) (g : Merged) → endNames r om' out' ≡ finishNames om 0 out 0 g → shownNames r om' out' ≡ shownMerged om out g
 unfolding endNames finishNames shownNames shownMerged
@@ -308,70 +304,70 @@ shown-end (names-laid.Done q k) om om' out out' (merged ms) e = ap shown e
 pub full : (n k : ℕ) (a : List ℕ) → a ≡ replicate k n → (t : ℕ) → t < length a → getD a t 0 ≡ n
 full n k a e t h = let l = ap length e ∙ length-replicate {A = ℕ} k n in ap (λ (r : List ℕ). getD r t 0) e ∙ getD-replicate k t n 0 (omega arith)
 
-pub linkable : (ms : List Mapping) (gm : List ℕ) (q : ℕ) (gv : List ℕ) (e : ℕ) → Stands ms gm q gv e → (names : ℕ) (known-rest : Bool) → names ≤ 4096
-    → faultFlat gm q gv e names known-rest ≡ 0 → (st sm so : ℕ) → q ≤ 8192 → 2 * q ≤ sm → 3 * e ≤ so → 3 * e ≤ st → so < 4294967296 → Linkable gm q gv st sm so
-linkable ms gm q gv e s names known-rest h z st sm so c i j k m =
-    let a = stands-before ms gm q gv e s in
-    let b = s .how-long in
-    let d = stands-spans ms gm q gv e s in
-    record {
-      words = stands-words ms gm q gv e s;
-      count = c;
-      spans = omega arith;
-      names = λ t y. let w = names-below ms gm q gv e s names known-rest z t y in omega arith;
-      maps = i;
-      room = omega arith;
-      space = omega arith;
-      small = m;
-    }
+-- mappings that stand in words, and what their judge said
+module _ (ms : List Mapping) (gm : List ℕ) (q : ℕ) (gv : List ℕ) (e : ℕ) (s : Stands ms gm q gv e) (names : ℕ) (r nm : Bool) (a : nm ≡ every (below names) (spaced gm 2 0 q))
+    (j : Judged) (b : j ≡ judgedBy names (r && nm) true (rest gv 0 e)) where
+  said : j ≡ judgedBy names (r && every (below names) (spaced gm 2 0 q)) true (rest gv 0 e)
+  said = b ∙ ap (λ (c : Bool). judgedBy names (r && c) true (rest gv 0 e)) a
 
-pub plan-fault : (ms : List Mapping) (gm : List ℕ) (q : ℕ) (gv : List ℕ) (e : ℕ) → Stands ms gm q gv e → (names : ℕ) (known-rest : Bool) (om out : List ℕ) (n : ℕ)
-    → n ≡ faultFlat gm q gv e names known-rest → n ≢ 0 → fault n ≡ planOf names known-rest ms om out
-unfolding planOf planOn
-plan-fault ms gm q gv e s names known-rest om out n a d = go n (a ∙ fault-same ms gm q gv e s names known-rest) d
-  where
-    go : (k : ℕ) → k ≡ faultOf names known-rest ms → k ≢ 0 → fault k ≡ planOn (faultOf names known-rest ms) om out ms
-    go zero x y = absurd (y refl)
-    go (suc k) x y = ap (λ (j : ℕ). planOn j om out ms) x
+  pub linkable : names ≤ 4096 → j ≡ judged.Passed → (st sm so : ℕ) → q ≤ 8192 → 2 * q ≤ sm → 3 * e ≤ so → 3 * e ≤ st → so < 4294967296 → Linkable gm q gv st sm so
+  linkable h z st sm so c i k l m =
+      let f = stands-before ms gm q gv e s in
+      let g = s .how-long in
+      let d = stands-spans ms gm q gv e s in
+      record {
+        words = stands-words ms gm q gv e s;
+        count = c;
+        spans = omega arith;
+        names = λ t y. let w = names-below ms gm q gv e s names r (sym said ∙ z) t y in omega arith;
+        maps = i;
+        room = omega arith;
+        space = omega arith;
+        small = m;
+      }
 
-pub plan-laid : (ms : List Mapping) (gm : List ℕ) (q : ℕ) (gv : List ℕ) (e : ℕ) → Stands ms gm q gv e → (names : ℕ) (known-rest : Bool) (om out om' out' : List ℕ) (n : ℕ) (r x : NamesLaid)
-    → n ≡ faultFlat gm q gv e names known-rest → n ≡ 0 → endNames r om' out' ≡ finishNames om 0 out 0 (byName (mappingsFrom gm gv 0 0 q)) → r ≡ x
-    → shownNames x om' out' ≡ planOf names known-rest ms om out
-unfolding planOf
-plan-laid ms gm q gv e s names known-rest om out om' out' n r x a z h d =
-    ap (λ (y : NamesLaid). shownNames y om' out') (sym d)
-    ∙ shown-end r om om' out out' (byName ms) (h ∙ ap (λ (l : List Mapping). finishNames om 0 out 0 (byName l)) (stands-read ms gm q gv e s))
-    ∙ sym (ap (λ (j : ℕ). planOn j om out ms) (sym (fault-same ms gm q gv e s names known-rest) ∙ sym a ∙ z) ∙ at-zero om out ms)
+  module _ (om out : List ℕ) where
+    as-judged : planOn j om out ms ≡ planOf names r ms om out
+    unfolding planOf
+    as-judged = ap (λ (x : Judged). planOn x om out ms) (said ∙ judged-same ms gm q gv e s names r)
+
+    pub plan-stopped : (why : Refusal) → j ≡ judged.Refused why → stopped why ≡ planOf names r ms om out
+    unfolding planOn
+    plan-stopped why z = ap (λ (x : Judged). planOn x om out ms) (sym z) ∙ as-judged
+
+    pub plan-laid : (om' out' : List ℕ) (l x : NamesLaid) → j ≡ judged.Passed → endNames l om' out' ≡ finishNames om 0 out 0 (byName (mappingsFrom gm gv 0 0 q)) → l ≡ x
+        → shownNames x om' out' ≡ planOf names r ms om out
+    unfolding planOn
+    plan-laid om' out' l x z h d =
+        ap (λ (y : NamesLaid). shownNames y om' out') (sym d)
+        ∙ shown-end l om om' out out' (byName ms) (h ∙ ap (λ (y : List Mapping). finishNames om 0 out 0 (byName y)) (stands-read ms gm q gv e s))
+        ∙ ap (λ (y : Judged). planOn y om out ms) (sym z) ∙ as-judged
 
 module _ (lm : List ℕ) (n : ℕ) (lv rm : List ℕ) (k : ℕ) (rv : List ℕ) (names sm so : ℕ) (p : Planable lm n lv rm k rv names sm so) where
   pub plan-gathered : (a b : ℕ) → a ≡ 16384 → b ≡ 393216 → Gathered lm n lv rm k rv a b
   plan-gathered a b x y =
-      let c = p .left-count in
-      let d = p .right-count in
+      let c = p .sides .left-count in
+      let d = p .sides .right-count in
       let e = p .few-spans in
       record {
-        left-words = p .left-words;
-        left-count = c;
-        left-spans = p .left-spans;
-        right-words = p .right-words;
-        right-count = d;
-        right-spans = p .right-spans;
+        sides = p .sides;
         maps = omega arith;
         room = omega arith;
         small = omega arith;
         few = omega arith;
       }
 
-  pub plan-linkable : (gm : List ℕ) (q : ℕ) (gv : List ℕ) (e : ℕ) → Stands (bothSides lm n lv rm k rv) gm q gv e → (known-rest : Bool) (f : ℕ)
-      → f ≡ faultFlat gm q gv e names known-rest → f ≡ 0 → (st : ℕ) → st ≡ 393216 → Linkable gm q gv st sm so
-  plan-linkable gm q gv e s known-rest f a z st x =
-      let c = p .left-count in
-      let d = p .right-count in
+  pub plan-linkable : (gm : List ℕ) (q : ℕ) (gv : List ℕ) (e : ℕ) → Stands (bothSides lm n lv rm k rv) gm q gv e → (r nm : Bool)
+      → nm ≡ every (below names) (spaced gm 2 0 q) → (j : Judged) → j ≡ judgedBy names (r && nm) true (rest gv 0 e) → j ≡ judged.Passed
+      → (st : ℕ) → st ≡ 393216 → Linkable gm q gv st sm so
+  plan-linkable gm q gv e s r nm a j b z st x =
+      let c = p .sides .left-count in
+      let d = p .sides .right-count in
       let g = p .few-spans in
       let i = both-size lm n lv rm k rv in
-      let j = both-count lm n lv rm k rv in
+      let f = both-count lm n lv rm k rv in
       let y = s .how-many in
       let w = s .how-long in
       let u = p .maps in
       let v = p .room in
-      linkable (bothSides lm n lv rm k rv) gm q gv e s names known-rest (p .few-names) (sym a ∙ z) st sm so (omega arith) (omega arith) (omega arith) (omega arith) (omega arith)
+      linkable (bothSides lm n lv rm k rv) gm q gv e s names r nm a j b (p .few-names) z st sm so (omega arith) (omega arith) (omega arith) (omega arith) (omega arith)

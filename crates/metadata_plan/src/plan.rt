@@ -1,9 +1,9 @@
 // The mappings of a merge: both sides gathered, tested whole in the rules' order (11, 3, 1), then merged by name (7), all in
 // scratch. Helpers: the memory was tested before.
-use metadata_gather::judge::dates_known;
-use metadata_gather::judge::forwards;
-use metadata_gather::judge::names_known;
-use metadata_gather::judge::symbols_known;
+use leaves::refusal::Refusal;
+use metadata_gather::judge::Judged;
+use metadata_gather::judge::judge;
+use metadata_gather::judge::numbers_known;
 use metadata_gather::sides::Laid;
 use metadata_gather::sides::follow;
 use metadata_gather::sides::lose_repeats;
@@ -11,6 +11,7 @@ use metadata_lists::link::link;
 use metadata_lists::link::offsets;
 use metadata_lists::names::NamesLaid;
 use metadata_lists::names::lay_names;
+use metadata_words::words::MAPPING_WORDS;
 ghost use mathlib.Core.Path.{_≡_};
 ghost use Prim.Native.Nat.{ℕ, _+_, _-_, _*_, _<_, _≤_};
 ghost use mathlib.Core.List.{List, [], _++_};
@@ -20,16 +21,7 @@ ghost use Rattle.metadata_rules.specs.Words.{mappingsFrom};
 ghost use Rattle.metadata_lists.specs.Names.{endNames, finishNames};
 ghost use Rattle.metadata_lists.specs.NamesWords.{Stands};
 ghost use Rattle.metadata_gather.specs.Sides.{Sound};
-ghost use Rattle.metadata_plan.specs.Plan.{faultFlat, Gathered, Linkable, Planable, endPlan, planOf, bothSides};
-
-// The refusals that a plan can give.
-const NO_DATE: u32 = 11;
-
-const UNKNOWN_SYMBOL: u32 = 3;
-
-const REVERSED: u32 = 1;
-
-const CONFLICT: u32 = 7;
+ghost use Rattle.metadata_plan.specs.Plan.{Gathered, Linkable, Planable, endPlan, planOf, bothSides};
 
 // Scratch holds both sides together: twice 4,096 mappings of two words, twice 65,536 intervals of three.
 const NAMES: usize = 4096;
@@ -40,9 +32,9 @@ const BOTH_MAPPING_WORDS: usize = 16384;
 
 const BOTH_INTERVAL_WORDS: usize = 393216;
 
-// What comes of a plan: a refusal's number, or the mappings and the intervals laid.
+// What comes of a plan: 11, 3, 1 or 7, or the mappings and the intervals laid.
 pub enum Planned {
-    Fault(u32),
+    Refused(Refusal),
     Laid(usize, usize),
 }
 
@@ -83,37 +75,6 @@ fn gather_sides(
         mappings: laid_mappings + right_count,
         intervals: intervals,
     }
-}
-
-// 11, 3 or 1 over both sides whole, each before the next; 0 for none. `rest` says whether the name numbers besides the
-// mappings' were handed out.
-fn judge_sides(
-    both_mappings: &[u32],
-    mapping_count: usize,
-    both_intervals: &[u32],
-    interval_count: usize,
-    names: usize,
-    rest: bool,
-) -> u32
-    requires { ⌜ (2 * «mapping_count» ≤ length (now «both_mappings»)) × (3 * «interval_count» ≤ length (now «both_intervals»)) ⌝ }
-    ensures { λ r. ⌜ r ≡ faultFlat (now («both_mappings» .entry)) «mapping_count» (now («both_intervals» .entry)) «interval_count» names rest ⌝ }
-{
-    if !dates_known(both_intervals, interval_count) {
-        return NO_DATE;
-    }
-    if !rest {
-        return UNKNOWN_SYMBOL;
-    }
-    if !names_known(both_mappings, mapping_count, names) {
-        return UNKNOWN_SYMBOL;
-    }
-    if !symbols_known(both_intervals, interval_count, names) {
-        return UNKNOWN_SYMBOL;
-    }
-    if !forwards(both_intervals, interval_count) {
-        return REVERSED;
-    }
-    0
 }
 
 // The mappings of both sides merged by name, in `out_mappings` and `out_intervals`.
@@ -180,28 +141,24 @@ pub fn plan(
     );
     let mapping_count = gathered.mappings;
     let interval_count = gathered.intervals;
-    let fault = judge_sides(
-        &both_mappings,
-        mapping_count,
-        &both_intervals,
-        interval_count,
-        names,
-        rest,
-    );
-    if fault != 0 {
-        return Planned::Fault(fault);
-    }
-    let mut temp = [0u32; BOTH_INTERVAL_WORDS];
-    let merged = merge_names(
-        &both_mappings,
-        mapping_count,
-        &both_intervals,
-        &mut temp,
-        out_mappings,
-        out_intervals,
-    );
-    match merged {
-        NamesLaid::Conflict => Planned::Fault(CONFLICT),
-        NamesLaid::Done(mappings, intervals) => Planned::Laid(mappings, intervals),
+    let named = numbers_known(&both_mappings, MAPPING_WORDS, mapping_count, names);
+    let judged = judge(&both_intervals, interval_count, names, rest & named);
+    match judged {
+        Judged::Refused(why) => Planned::Refused(why),
+        Judged::Passed => {
+            let mut temp = [0u32; BOTH_INTERVAL_WORDS];
+            let merged = merge_names(
+                &both_mappings,
+                mapping_count,
+                &both_intervals,
+                &mut temp,
+                out_mappings,
+                out_intervals,
+            );
+            match merged {
+                NamesLaid::Conflict => Planned::Refused(Refusal::Conflict),
+                NamesLaid::Done(mappings, intervals) => Planned::Laid(mappings, intervals),
+            }
+        }
     }
 }

@@ -7,6 +7,11 @@ ghost use lib.ListN.{length};
 ghost use Rattle.metadata_rules.specs.Words.{intervalAt, nameAt, countAt};
 ghost use Rattle.metadata_words.specs.Words.{putAt, putMapping, layIntervals, rest};
 
+// The words of a mapping and of an interval.
+pub const MAPPING_WORDS: usize = 2;
+
+pub const INTERVAL_WORDS: usize = 3;
+
 // The same number, as a place.
 pub fn wide(x: u32) -> usize
     ensures { λ r. ⌜ r ≡ x ⌝ }
@@ -19,7 +24,7 @@ pub fn interval_at(intervals: &[u32], i: usize) -> Interval
     requires { ⌜ 3 * i + 3 ≤ length (now intervals) ⌝ }
     ensures { λ r. ⌜ r ≡ intervalAt (now (intervals .entry)) i ⌝ }
 {
-    let o = 3 * i;
+    let o = INTERVAL_WORDS * i;
     Interval {
         start: intervals[o],
         end: intervals[o + 1],
@@ -32,7 +37,7 @@ pub fn put_interval(intervals: &mut [u32], i: usize, x: Interval)
     requires { ⌜ 3 * i + 3 ≤ length (now intervals) ⌝ }
     ensures { λ _. ⌜ now (intervals .exit) ≡ putAt (now (intervals .entry)) i x ⌝ }
 {
-    let o = 3 * i;
+    let o = INTERVAL_WORDS * i;
     intervals[o] = x.start;
     intervals[o + 1] = x.end;
     intervals[o + 2] = x.symbol;
@@ -58,7 +63,7 @@ pub fn name_at(mappings: &[u32], i: usize) -> u32
     requires { ⌜ 2 * i + 2 ≤ length (now mappings) ⌝ }
     ensures { λ r. ⌜ r ≡ nameAt (now (mappings .entry)) i ⌝ }
 {
-    let o = 2 * i;
+    let o = MAPPING_WORDS * i;
     mappings[o]
 }
 
@@ -67,7 +72,7 @@ pub fn count_at(mappings: &[u32], i: usize) -> usize
     requires { ⌜ 2 * i + 2 ≤ length (now mappings) ⌝ }
     ensures { λ r. ⌜ r ≡ countAt (now (mappings .entry)) i ⌝ }
 {
-    let o = 2 * i;
+    let o = MAPPING_WORDS * i;
     wide(mappings[o + 1])
 }
 
@@ -76,7 +81,7 @@ pub fn put_mapping(mappings: &mut [u32], i: usize, name: u32, count: usize)
     requires { ⌜ (2 * i + 2 ≤ length (now mappings)) × (count < 4294967296) ⌝ }
     ensures { λ _. ⌜ now (mappings .exit) ≡ putMapping (now (mappings .entry)) i name count ⌝ }
 {
-    let o = 2 * i;
+    let o = MAPPING_WORDS * i;
     mappings[o] = name;
     mappings[o + 1] = count as u32;
 }

@@ -43,19 +43,19 @@ returns-2 c =
     (c .if2 .taken)
 
 slice-aggregate-outcome : tie.Need-slice-aggregate-outcome
-slice-aggregate-outcome c = search needs
+slice-aggregate-outcome c = sym (length-replicate {A = ℕ} 8192 0)
 
 slice-aggregate-outcome-2 : tie.Need-slice-aggregate-outcome-2
-slice-aggregate-outcome-2 c = search needs
+slice-aggregate-outcome-2 c = sym (length-replicate {A = ℕ} 8192 0)
 
 slice-aggregate-outcome-3 : tie.Need-slice-aggregate-outcome-3
-slice-aggregate-outcome-3 c = search needs
+slice-aggregate-outcome-3 c = sym (length-replicate {A = ℕ} 8192 0)
 
 slice-aggregate-outcome-4 : tie.Need-slice-aggregate-outcome-4
-slice-aggregate-outcome-4 c = search needs
+slice-aggregate-outcome-4 c = sym (length-replicate {A = ℕ} 16384 0)
 
 slice-aggregate-outcome-5 : tie.Need-slice-aggregate-outcome-5
-slice-aggregate-outcome-5 c = search needs
+slice-aggregate-outcome-5 c = sym (length-replicate {A = ℕ} 393216 0)
 
 outcome-requires : tie.Need-outcome-requires
 outcome-requires c κs =
@@ -87,19 +87,29 @@ total-requires c κs =
     (not-false _ (c22 .if1 .left)) .fit in let a = f .maps-lent in let b = f .maps-used in (b, omega arith)
 
 slice-aggregate-commit : tie.Need-slice-aggregate-commit
-slice-aggregate-commit c = search needs
+slice-aggregate-commit c =
+    let o = c .before .before .before .before .before .before .before .before .before .before .before .before .before .before .before .before in
+    sym (o .outcome .kept .1 .1 .1 .1 .1 .1 .1 .1 .1 .1 .1 .1 .1 .1 .0 ∙ length-replicate {A = ℕ} 8192 0)
 
 slice-aggregate-commit-2 : tie.Need-slice-aggregate-commit-2
-slice-aggregate-commit-2 c = search needs
+slice-aggregate-commit-2 c =
+    let o = c .before .before .before .before .before .before .before .before .before .before .before .before .before .before .before .before .before in
+    sym (o .outcome .kept .1 .1 .1 .1 .1 .1 .1 .1 .1 .1 .1 .1 .1 .1 .1 .0 ∙ length-replicate {A = ℕ} 8192 0)
 
 slice-aggregate-commit-3 : tie.Need-slice-aggregate-commit-3
-slice-aggregate-commit-3 c = search needs
+slice-aggregate-commit-3 c =
+    let o = c .before .before .before .before .before .before .before .before .before .before .before .before .before .before .before .before .before .before in
+    sym (o .outcome .kept .1 .1 .1 .1 .1 .1 .1 .1 .1 .1 .1 .1 .1 .1 .1 .1 .0 ∙ length-replicate {A = ℕ} 8192 0)
 
 slice-aggregate-commit-4 : tie.Need-slice-aggregate-commit-4
-slice-aggregate-commit-4 c = search needs
+slice-aggregate-commit-4 c =
+    let o = c .before .before .before .before .before .before .before .before .before .before .before .before .before .before .before .before .before .before .before in
+    sym (o .outcome .kept .1 .1 .1 .1 .1 .1 .1 .1 .1 .1 .1 .1 .1 .1 .1 .1 .1 .0 ∙ length-replicate {A = ℕ} 16384 0)
 
 slice-aggregate-commit-5 : tie.Need-slice-aggregate-commit-5
-slice-aggregate-commit-5 c = search needs
+slice-aggregate-commit-5 c =
+    let o = c .before .before .before .before .before .before .before .before .before .before .before .before .before .before .before .before .before .before .before .before in
+    sym (o .outcome .kept .1 .1 .1 .1 .1 .1 .1 .1 .1 .1 .1 .1 .1 .1 .1 .1 .1 .1 .0 ∙ length-replicate {A = ℕ} 393216 0)
 
 commit-requires : tie.Need-commit-requires
 commit-requires c κs =

@@ -32,7 +32,7 @@ total-requires c κs =
     (not-false _ (c .before .if1 .left)) .fit in let a = f .maps-lent in let b = f .maps-used in (b, omega arith)
 
 slice-aggregate-alone : tie.Need-slice-aggregate-alone
-slice-aggregate-alone c = search needs
+slice-aggregate-alone c = sym (length-replicate {A = ℕ} 4096 0)
 
 alone-requires : tie.Need-alone-requires
 alone-requires c κs =
@@ -44,7 +44,7 @@ alone-requires c κs =
     {A = ℕ} 4096 0 in (b, omega arith, omega arith)
 
 slice-aggregate-alone-2 : tie.Need-slice-aggregate-alone-2
-slice-aggregate-alone-2 c = search needs
+slice-aggregate-alone-2 c = sym (length-replicate {A = ℕ} 4096 0)
 
 alone-requires-2 : tie.Need-alone-requires-2
 alone-requires-2 c κs =
@@ -57,7 +57,7 @@ alone-requires-2 c κs =
     let b = f .partial-used in let e = length-replicate {A = ℕ} 4096 0 in (b, omega arith, omega arith)
 
 slice-aggregate-alone-3 : tie.Need-slice-aggregate-alone-3
-slice-aggregate-alone-3 c = search needs
+slice-aggregate-alone-3 c = sym (length-replicate {A = ℕ} 4096 0)
 
 alone-requires-3 : tie.Need-alone-requires-3
 alone-requires-3 c κs =
@@ -69,10 +69,10 @@ alone-requires-3 c κs =
     let a = f .not-found-lent in let b = f .not-found-used in let e = length-replicate {A = ℕ} 4096 0 in (b, omega arith, omega arith)
 
 slice-aggregate-lose-repeats : tie.Need-slice-aggregate-lose-repeats
-slice-aggregate-lose-repeats c = search needs
+slice-aggregate-lose-repeats c = sym (length-replicate {A = ℕ} 8192 0)
 
 slice-aggregate-lose-repeats-2 : tie.Need-slice-aggregate-lose-repeats-2
-slice-aggregate-lose-repeats-2 c = search needs
+slice-aggregate-lose-repeats-2 c = sym (length-replicate {A = ℕ} 196608 0)
 
 lose-repeats-requires : tie.Need-lose-repeats-requires
 lose-repeats-requires c κs =
@@ -85,19 +85,29 @@ lose-repeats-requires c κs =
     (length-replicate {A = ℕ} 196608 0)
 
 slice-aggregate-commit : tie.Need-slice-aggregate-commit
-slice-aggregate-commit c = search needs
+slice-aggregate-commit c =
+    let o = c .before .before .before .before .before .before .before .before .before .before .before .before .before .before .before .before .before .before .before .before .before .before in
+    sym (o .alone .kept .1 .1 .0 ∙ length-replicate {A = ℕ} 4096 0)
 
 slice-aggregate-commit-2 : tie.Need-slice-aggregate-commit-2
-slice-aggregate-commit-2 c = search needs
+slice-aggregate-commit-2 c =
+    let o = c .before .before .before .before .before .before .before .before .before .before .before .before .before .before .before .before .before .before .before in
+    sym (o .alone2 .kept .1 .1 .0 ∙ length-replicate {A = ℕ} 4096 0)
 
 slice-aggregate-commit-3 : tie.Need-slice-aggregate-commit-3
-slice-aggregate-commit-3 c = search needs
+slice-aggregate-commit-3 c =
+    let o = c .before .before .before .before .before .before .before .before .before .before .before .before .before .before .before .before in
+    sym (o .alone3 .kept .1 .1 .0 ∙ length-replicate {A = ℕ} 4096 0)
 
 slice-aggregate-commit-4 : tie.Need-slice-aggregate-commit-4
-slice-aggregate-commit-4 c = search needs
+slice-aggregate-commit-4 c =
+    let o = c .before .before .before .before .before .before .before .before .before .before .before in
+    sym (o .lose-repeats .kept .1 .1 .1 .0 ∙ length-replicate {A = ℕ} 8192 0)
 
 slice-aggregate-commit-5 : tie.Need-slice-aggregate-commit-5
-slice-aggregate-commit-5 c = search needs
+slice-aggregate-commit-5 c =
+    let o = c .before .before .before .before .before .before .before .before .before .before .before .before in
+    sym (o .lose-repeats .kept .1 .1 .1 .1 .0 ∙ length-replicate {A = ℕ} 196608 0)
 
 commit-requires : tie.Need-commit-requires
 commit-requires c κs =
