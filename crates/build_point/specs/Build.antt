@@ -1,37 +1,25 @@
 -- The point-in-time build on lent memory: what it answers, and what the table then holds (RULES, The map over time).
 use Prim.Native.Nat.{ℕ, _/_}
-use mathlib.Core.Bool.{Bool, _&&_, cond}
-use mathlib.Core.List.{List, [], _∷_}
+use mathlib.Core.Bool.{cond}
+use mathlib.Core.List.{List}
 use lib.ListN.{length, replicate}
-use Rattle.theory.specs.Answer.{Answer, answer}
-use Rattle.leaves.specs.Refusal.{refused}
-use Rattle.leaves_names.specs.Names.{namesOf, wellFormed, listFits}
+use Rattle.theory.specs.Answer.{Answer}
+use Rattle.leaves_names.specs.Names.{namesOf, wellFormed}
 use Rattle.map_point.specs.declared.entries.Entry.{Entry}
 use Rattle.map_point.specs.Entries.{putEntries}
 use Rattle.map_point.specs.Points.{pointsFit}
 use Rattle.metadata_form.specs.declared.header.Header.{Header}
-use Rattle.metadata_form.specs.declared.header.Lengths.{Lengths}
-use Rattle.metadata_form.specs.Header.{Lists, lengthsOf, metadataOf, metadataFits}
+use Rattle.metadata_form.specs.Header.{Lists, lengthsOf, metadataOf}
 use Rattle.build_rules.specs.OverTime.{Build, stopped, built, buildAnswer}
 use Rattle.build_rules.specs.PointInTime.{pointInTime}
-use Rattle.build_point.specs.declared.build.Built.{Built}
-use Rattle.build_point.specs.declared.build.Built.the-variants.{Done, Refused}
-
--- what each answer says: the entries in use, or the refusal
-abbrev pub builtOf : Built → Answer
-builtOf (Done used) = answer 0 (used ∷ [])
-builtOf (Refused r) = refused r
-
--- a table of so many bytes, a metadata and a name list of so many bytes and places are of their forms; where not, 15
-unfoldable pub buildFits : ℕ → Header → Lengths → List ℕ → ℕ → ℕ → ℕ → ℕ → Bool
-buildFits size h l m bytes places names name-bytes = pointsFit size 0 && (metadataFits h l m && listFits bytes places names name-bytes)
+use Rattle.build_rules.specs.Call.{buildFits}
 
 -- the build: 15, 14 for the name list, then the metadata's for the asked date. Of the table only its size counts: "a build discards what
 -- the table held and never gives 14 for it"
 unfoldable pub pointBuild : ℕ → Header → Lists → List ℕ → List ℕ → ℕ → ℕ → ℕ → Build Entry
 unfolding buildFits pointInTime
 pointBuild size h l bytes ends names name-bytes date =
-    cond (buildFits size h (lengthsOf l) (l .mappings) (length bytes) (length ends) names name-bytes)
+    cond (buildFits (pointsFit size 0) h (lengthsOf l) (l .mappings) (length bytes) (length ends) names name-bytes)
     (cond (wellFormed bytes ends names name-bytes) (pointInTime (size / 8) (namesOf bytes ends names) (metadataOf h l) date) (stopped 14 0 0))
     (stopped 15 0 0)
 

@@ -2,13 +2,13 @@
 use mathlib.Core.Path.{_≡_, refl, sym, ap, _∙_, subst}
 use Prim.Native.Nat.{ℕ, _*_, _/_, _≤_}
 use native.Mathlib.Omega.{arith}
-use mathlib.Core.Bool.{Bool, true, false, not, _&&_, and-eq-true-iff}
+use mathlib.Core.Bool.{Bool, true, false, not}
 use mathlib.Core.List.{List, [], _∷_}
 use lib.ListN.{length, replicate, length-replicate}
 use lib.Dec.{T}
 use Rattle.theory.specs.Answer.{answer}
 use Rattle.leaves.specs.Refusal.{numberOf, refused}
-use Rattle.leaves_names.specs.Names.{namesOf, wellFormed, listFits}
+use Rattle.leaves_names.specs.Names.{namesOf, wellFormed}
 use Rattle.theory.specs.Bools.{fails, holds}
 use Rattle.leaves_names.specs.NamesLaws.{Memory, memory, Ordered, formed, ordered}
 use Rattle.leaves.specs.declared.refusal.Refusal.{Refusal}
@@ -22,8 +22,7 @@ use Rattle.map_point.specs.EntriesLaws.{length-entries}
 use Rattle.map_point.specs.Points.{rising, pointsFit}
 use Rattle.metadata_rules.specs.Words.{mappingsFrom, before}
 use Rattle.metadata_form.specs.declared.header.Header.{Header}
-use Rattle.metadata_form.specs.declared.header.Lengths.{Lengths}
-use Rattle.metadata_form.specs.Header.{headerFields, Lists, lengthsOf, metadataOf, metadataFits, MetadataFitting, metadata-fitting}
+use Rattle.metadata_form.specs.Header.{headerFields, Lists, lengthsOf, metadataOf, MetadataFitting, metadata-fitting}
 use Rattle.build_rules.specs.declared.reading.Direction.{Direction}
 use Rattle.build_rules.specs.Reading.{Read}
 use Rattle.build_rules.specs.OverTime.{Build, stopped, built, buildAnswer}
@@ -31,27 +30,13 @@ use Rattle.build_rules.specs.PointInTime.{pickMappings, pointInTime}
 use Rattle.build_rules.specs.PointInTimeLaws.{pointRefusal, Sound, point-sound}
 use Rattle.build_point.specs.declared.begin.Begun.{Begun}
 use Rattle.build_point.specs.declared.begin.Begun.the-variants as begun
-use Rattle.build_point.specs.declared.build.Built.{Built}
-use Rattle.build_point.specs.declared.build.Built.the-variants.{Done, Refused}
+use Rattle.build_rules.specs.declared.call.Built.{Built}
+use Rattle.build_rules.specs.declared.call.Built.the-variants.{Done, Refused}
 use Rattle.build_point.specs.Begin.{Start, begunRead, startFor, buildFrom, begin-build}
 use Rattle.build_point.specs.Mappings.{Clean, Laid}
-use Rattle.build_point.specs.Build.{builtOf, buildFits, pointBuild, pointInTimeAnswer, builtMemory, pointInTimeMemory}
-
--- ---- the test for 15
-
-module _ (size : ℕ) (h : Header) (l : Lengths) (m : List ℕ) (bytes places names name-bytes : ℕ) {f : Bool} (p : f ≡ pointsFit size 0) where
-  pub fits-table : not f ≡ true → false ≡ buildFits size h l m bytes places names name-bytes
-  unfolding buildFits
-  fits-table t = rw (fails p t) refl
-
-  module _ (t : not f ≡ false) {g : Bool} (q : g ≡ metadataFits h l m) where
-    pub fits-metadata : not g ≡ true → false ≡ buildFits size h l m bytes places names name-bytes
-    unfolding buildFits
-    fits-metadata u = rw (holds p t, fails q u) refl
-
-    pub fits-list : not g ≡ false → {r : Bool} → r ≡ listFits bytes places names name-bytes → r ≡ buildFits size h l m bytes places names name-bytes
-    unfolding buildFits
-    fits-list u e = rw (holds p t, holds q u) e
+use Rattle.build_rules.specs.Call.{builtOf, buildFits}
+use Rattle.build_rules.specs.CallLaws.{fits-facts}
+use Rattle.build_point.specs.Build.{pointBuild, pointInTimeAnswer, builtMemory, pointInTimeMemory}
 
 -- ---- refusals
 
@@ -76,7 +61,7 @@ module _ (size : ℕ) (h : Header) (l : Lists) (bytes ends : List ℕ) (names na
   Ends r t = (builtOf r ≡ pointInTimeAnswer size h l bytes ends names name-bytes date) × (t ≡ pointInTimeMemory size h l bytes ends names name-bytes date)
 
   abbrev fit : Bool
-  fit = buildFits size h (lengthsOf l) (l .mappings) (length bytes) (length ends) names name-bytes
+  fit = buildFits (pointsFit size 0) h (lengthsOf l) (l .mappings) (length bytes) (length ends) names name-bytes
 
   abbrev texts : List (List ℕ)
   texts = namesOf bytes ends names
@@ -91,18 +76,19 @@ module _ (size : ℕ) (h : Header) (l : Lists) (bytes ends : List ℕ) (names na
     pub sizes : MetadataFitting h (lengthsOf l) (l .mappings)
     pub list : Memory (length bytes) (length ends) names name-bytes
 
-  module _ {f : Bool} (p : f ≡ fit) where
+  module _ {f of-form : Bool} (i : of-form ≡ pointsFit size 0) (y : f ≡ buildFits of-form h (lengthsOf l) (l .mappings) (length bytes) (length ends) names name-bytes) where
+    p : f ≡ fit
+    p = y ∙ ap (λ (b : Bool). buildFits b h (lengthsOf l) (l .mappings) (length bytes) (length ends) names name-bytes) i
+
     pub ends-15 : {t : List ℕ} → not f ≡ true → t ≡ replicate size 0 → Ends (Refused BadMemory) t
     unfolding pointBuild buildAnswer builtMemory
     ends-15 u e = ends-by {b = stopped 15 0 0} (rw (fails p u) refl) (Refused BadMemory) refl e
 
     module _ (u : not f ≡ false) where
       good : Good
-      unfolding buildFits
       good =
-          let a = and-eq-true-iff (pointsFit size 0) (metadataFits h (lengthsOf l) (l .mappings) && listFits (length bytes) (length ends) names name-bytes) .0 (holds p u) in
-          let b = and-eq-true-iff (metadataFits h (lengthsOf l) (l .mappings)) (listFits (length bytes) (length ends) names name-bytes) .0 (a .1) in
-          record { sizes = metadata-fitting h (lengthsOf l) (l .mappings) (b .0); list = memory (length bytes) (length ends) names name-bytes (b .1) }
+          let b = fits-facts (pointsFit size 0) h (lengthsOf l) (l .mappings) (length bytes) (length ends) names name-bytes (holds p u) in
+          record { sizes = metadata-fitting h (lengthsOf l) (l .mappings) (b .1); list = memory (length bytes) (length ends) names name-bytes (b .2) }
 
       pub ends-memory : (names ≤ length ends) × (name-bytes ≤ length bytes)
       ends-memory = let m = good .list in (m .held, m .room)

@@ -11,7 +11,7 @@ use borrow.Author.Tests.{le-leb}
 use mir.Facts.{ltb-yes}
 use Rattle.theory.specs.Answer.{Answer, answer}
 use Rattle.theory.specs.RunsTools.{T-fst, T-snd}
-use Rattle.leaves_names.specs.Names.{namesOf, wellFormed as wellFormedNames, listFits}
+use Rattle.leaves_names.specs.Names.{namesOf, wellFormed as wellFormedNames}
 use Rattle.leaves_names.specs.NamesLaws.{memory}
 use Rattle.leaves_names.specs.NamesList.{names-length}
 use Rattle.map_rules.specs.Table.{roomFits}
@@ -20,14 +20,16 @@ use Rattle.map_point.specs.Entries.{entries, putEntries}
 use Rattle.map_point.specs.EntriesLaws.{AllSmall, entries-put, length-putEntries}
 use Rattle.map_point.specs.Points.{rising, allKnown, wellFormed, symbolFor, pointsFit, symbolAnswer, pointFound}
 use Rattle.metadata_form.specs.declared.header.Header.{Header}
-use Rattle.metadata_form.specs.Header.{Lists, lengthsOf, metadataOf, metadataFits}
+use Rattle.metadata_form.specs.Header.{Lists, lengthsOf, metadataOf}
 use Rattle.build_rules.specs.declared.reading.Direction.{Direction}
 use Rattle.build_rules.specs.Reading.{value, dayIn, directionOf}
 use Rattle.build_rules.specs.OverTime.{Build, stopped, built, buildAnswer}
 use Rattle.build_rules.specs.PointInTime.{pointInTime}
 use Rattle.build_rules.specs.PointInTimeLaws.{AllNarrow, Sorted, Sound, point-sound}
 use Rattle.build_rules.specs.PointInTimeLatest.{settings, point-latest}
-use Rattle.build_point.specs.Build.{buildFits, pointBuild, pointInTimeAnswer, builtMemory, pointInTimeMemory}
+use Rattle.build_rules.specs.Call.{buildFits}
+use Rattle.build_rules.specs.CallLaws.{fits-facts}
+use Rattle.build_point.specs.Build.{pointBuild, pointInTimeAnswer, builtMemory, pointInTimeMemory}
 
 -- entries with known symbols, of instruments of 32 bits, can be read back
 all-small : (names : ℕ) (es : List Entry) → names ≤ 4096 → T (allKnown names es) → AllNarrow es → AllSmall es
@@ -72,7 +74,7 @@ module _ (size : ℕ) (h : Header) (l : Lists) (bytes ends : List ℕ) (names na
       → t ≡ pointInTimeMemory size h l bytes ends names name-bytes date → BuiltThere u t
   unfolding pointInTimeAnswer pointInTimeMemory pointBuild buildAnswer builtMemory
   built-there u t =
-      go (buildFits size h (lengthsOf l) (l .mappings) (length bytes) (length ends) names name-bytes) refl (wellFormedNames bytes ends names name-bytes)
+      go (buildFits (pointsFit size 0) h (lengthsOf l) (l .mappings) (length bytes) (length ends) names name-bytes) refl (wellFormedNames bytes ends names name-bytes)
       (pointInTime (size / 8) (namesOf bytes ends names) (metadataOf h l) date) refl
     where
       there : (es : List Entry) → pointsFit size 0 ≡ true → names ≤ 4096 → pointInTime (size / 8) (namesOf bytes ends names) (metadataOf h l) date ≡ built es
@@ -95,7 +97,7 @@ module _ (size : ℕ) (h : Header) (l : Lists) (bytes ends : List ℕ) (names na
             sorted = subst (λ (x : List Entry). T (rising x)) (sym back) (s .sorted);
           }
 
-      go : (f : Bool) → buildFits size h (lengthsOf l) (l .mappings) (length bytes) (length ends) names name-bytes ≡ f → (w : Bool) (b : Build Entry)
+      go : (f : Bool) → buildFits (pointsFit size 0) h (lengthsOf l) (l .mappings) (length bytes) (length ends) names name-bytes ≡ f → (w : Bool) (b : Build Entry)
           → pointInTime (size / 8) (namesOf bytes ends names) (metadataOf h l) date ≡ b
           → buildAnswer (cond f (cond w b (stopped 14 0 0)) (stopped 15 0 0)) ≡ answer 0 (u ∷ [])
           → t ≡ builtMemory size (cond f (cond w b (stopped 14 0 0)) (stopped 15 0 0)) → BuiltThere u t
@@ -103,9 +105,8 @@ module _ (size : ℕ) (h : Header) (l : Lists) (bytes ends : List ℕ) (names na
       go true y false b z e m = absurd (let q : _≡_ {A = ℕ} 14 0 = cc in omega arith)
       go true y true (stopped c s k) z e m = absurd (let q : _≡_ {A = ℕ} 0 1 = cc in omega arith)
       go true y true (built es) z e m =
-          let a = and-eq-true-iff (pointsFit size 0) (metadataFits h (lengthsOf l) (l .mappings) && listFits (length bytes) (length ends) names name-bytes) .0 y in
-          let b = and-eq-true-iff (metadataFits h (lengthsOf l) (l .mappings)) (listFits (length bytes) (length ends) names name-bytes) .0 (a .1) in
-          let m′ = memory (length bytes) (length ends) names name-bytes (b .1) in
+          let a = fits-facts (pointsFit size 0) h (lengthsOf l) (l .mappings) (length bytes) (length ends) names name-bytes y in
+          let m′ = memory (length bytes) (length ends) names name-bytes (a .2) in
           let q : length es ≡ u = cc in
           there es (a .0) (omega (arith, m′ .held, m′ .few)) z q m
 

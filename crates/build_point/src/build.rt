@@ -4,48 +4,20 @@
 use crate::begin::Begun;
 use crate::begin::begin;
 use crate::mappings::lay_mappings;
+use build_rules::call::Built;
+use build_rules::call::build_fits;
 use build_rules::reading::clear;
 use leaves::refusal::Refusal;
 use leaves_names::names::is_list;
-use leaves_names::names::list_fits;
 use map_point::points::Stored;
 use map_point::points::points_fit;
 use metadata_form::header::Header;
 use metadata_form::header::Lengths;
-use metadata_form::header::metadata_fits;
 ghost use mathlib.Core.Path.{_≡_};
 ghost use lib.ListN.{length};
 ghost use Rattle.metadata_form.specs.Header.{lists};
-ghost use Rattle.build_point.specs.Build.{builtOf, buildFits, pointInTimeAnswer, pointInTimeMemory};
-
-// What a build answers: how many entries the table has, or a refusal.
-pub enum Built {
-    Done(usize),
-    Refused(Refusal),
-}
-
-// Whether a table, a metadata and a name list of these sizes are of their forms; where not, 15.
-fn build_fits(
-    size: usize,
-    header: Header,
-    lengths: Lengths,
-    mappings: &[u32],
-    bytes: usize,
-    places: usize,
-    names: usize,
-    name_bytes: usize,
-) -> bool
-    requires { ⌜ lengths .mappings ≡ length (now mappings) ⌝ }
-    ensures { λ r. ⌜ r ≡ buildFits size header lengths (now (mappings .entry)) bytes places names «name_bytes» ⌝ }
-{
-    if !points_fit(size, 0) {
-        return false;
-    }
-    if !metadata_fits(header, lengths, mappings) {
-        return false;
-    }
-    list_fits(bytes, places, names, name_bytes)
-}
+ghost use Rattle.build_rules.specs.Call.{builtOf};
+ghost use Rattle.build_point.specs.Build.{pointInTimeAnswer, pointInTimeMemory};
 
 // The point-in-time table of a metadata for a date: 15; 14 for the name list; 11 for the date, 9, 10; then the mappings in order, each
 // 11, 3, the skip, 3, 8, 2. A refused build leaves 0 in every place.
@@ -77,10 +49,10 @@ pub fn point_in_time(
         mappings: mappings.len(),
         intervals: intervals.len(),
     };
-    let size = table.len();
+    let of_form = points_fit(table.len(), 0);
     clear(table);
     if !build_fits(
-        size,
+        of_form,
         header,
         l,
         mappings,

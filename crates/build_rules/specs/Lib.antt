@@ -8,3 +8,5 @@ pub mod Examples
 pub mod PointInTimeLaws
 pub mod PointInTimeLatest
 pub mod Fitting
+pub mod Call
+pub mod CallLaws

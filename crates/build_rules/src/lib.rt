@@ -1,2 +1,3 @@
 // Both builds from metadata: definitions and laws stand in specs/; here is what both read.
+pub mod call;
 pub mod reading;

@@ -1,41 +1,27 @@
 -- The build over time in lent memory (RULES, The map over time): what it answers, and what the table then holds. Refusals in order: 15
 -- for table, metadata and list, 14 for the list alone, then as the build.
 use Prim.Native.Nat.{ℕ}
-use mathlib.Core.Bool.{Bool, true, false, _&&_, cond}
-use mathlib.Core.List.{List, [], _∷_}
+use mathlib.Core.Bool.{cond}
+use mathlib.Core.List.{List, []}
 use lib.ListN.{length, replicate}
-use Rattle.theory.specs.Answer.{Answer, answer}
-use Rattle.leaves.specs.Refusal.{numberOf, refused}
-use Rattle.leaves_names.specs.Names.{namesOf, listFits, wellFormed}
+use Rattle.theory.specs.Answer.{Answer}
+use Rattle.leaves.specs.Refusal.{numberOf}
+use Rattle.leaves_names.specs.Names.{namesOf, wellFormed}
 use Rattle.map_table.specs.Interval.{rowOf}
 use Rattle.metadata_rules.specs.declared.Interval.{Interval}
 use Rattle.map_rules.specs.Table.{Row}
 use Rattle.map_rules.specs.Memory.{roomOf, tableFits, rowsWritten}
 use Rattle.metadata_form.specs.declared.header.Header.{Header}
 use Rattle.metadata_form.specs.declared.header.Lengths.{Lengths}
-use Rattle.metadata_form.specs.Header.{Lists, lengthsOf, metadataOf, metadataFits}
+use Rattle.metadata_form.specs.Header.{Lists, lengthsOf, metadataOf}
 use Rattle.build_rules.specs.OverTime.{Step, stop, skip, give, forwardStep, inverseStep, Build, stopped, built, overTime, buildAnswer}
-use Rattle.build_time.specs.declared.over_time.Built.{Built}
-use Rattle.build_time.specs.declared.over_time.Built.the-variants.{Done, Refused}
+use Rattle.build_rules.specs.Call.{buildFits}
 use Rattle.build_time.specs.declared.over_time.Way.{Way}
 use Rattle.build_time.specs.declared.over_time.Way.the-variants.{Forward, Inverse}
 use Rattle.build_time.specs.declared.over_time.Asked.{Asked}
 use Rattle.build_time.specs.declared.over_time.Asked.the-variants.{Refuse, Nothing, Insert}
 
--- ---- answers
-
--- 0 with how many intervals the table has, or the refusal
-abbrev pub builtOf : Built → Answer
-builtOf (Done used) = answer 0 (used ∷ [])
-builtOf (Refused r) = refused r
-
-abbrev pub isDone : Built → Bool
-isDone (Done used) = true
-isDone (Refused r) = false
-
-abbrev pub usedOf : Built → ℕ
-usedOf (Done used) = used
-usedOf (Refused r) = 0
+-- ---- steps
 
 -- what an interval asks for, as a step of the build
 abbrev pub askedOf : Asked → Step (Row ℕ)
@@ -53,15 +39,11 @@ wayStep texts (Inverse instrument) = inverseStep texts instrument
 abbrev pub lengthsBy : ℕ → ℕ → ℕ → ℕ → ℕ → Lengths
 lengthsBy a b c m v = record { symbols = a; partial = b; «not_found» = c; mappings = m; intervals = v }
 
--- the table's length is a multiple of 24 and its room within the limit, the metadata and the list are of their forms; where not, 15
-unfoldable pub buildFits : ℕ → Header → Lengths → List ℕ → ℕ → ℕ → ℕ → ℕ → Bool
-buildFits long h l m bytes places names name-bytes = tableFits long 0 && (metadataFits h l m && listFits bytes places names name-bytes)
-
 -- the build: 15, 14, then as its metadata says
 unfoldable pub overTimeBuild : List ℕ → Header → Lists → List ℕ → List ℕ → ℕ → ℕ → Build (Row ℕ)
 unfolding buildFits
 overTimeBuild table h l bytes ends names name-bytes =
-    cond (buildFits (length table) h (lengthsOf l) (l .mappings) (length bytes) (length ends) names name-bytes)
+    cond (buildFits (tableFits (length table) 0) h (lengthsOf l) (l .mappings) (length bytes) (length ends) names name-bytes)
     (cond (wellFormed bytes ends names name-bytes) (overTime (roomOf table) (namesOf bytes ends names) (metadataOf h l)) (stopped 14 0 0))
     (stopped 15 0 0)
 

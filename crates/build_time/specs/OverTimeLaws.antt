@@ -37,13 +37,14 @@ use Rattle.build_rules.specs.declared.reading.Instrument.the-variants as instru
 use Rattle.build_rules.specs.Reading.{Read, fault, andThen, textOf, numberIn, momentIn, symbolIn, instrumentRead, momentRead}
 use Rattle.build_rules.specs.OverTime.{Step, stop, skip, give, reading, dated, forwardStep, inverseStep, taken, Build, stopped, built, layIntervals, buildAnswer}
 use Rattle.build_rules.specs.OverTimeLaws.{unknown-stops, empty-skips, filled-known, filled-reads, dated-start, dated-end, dated-row, name-unknown, name-known, Plain, PlainStep, forward-plain, inverse-plain, intervals-end, intervals-turn, intervals-stop, written-again}
-use Rattle.build_time.specs.declared.over_time.Built.{Built}
-use Rattle.build_time.specs.declared.over_time.Built.the-variants.{Done, Refused}
+use Rattle.build_rules.specs.declared.call.Built.{Built}
+use Rattle.build_rules.specs.declared.call.Built.the-variants.{Done, Refused}
 use Rattle.build_time.specs.declared.over_time.Way.{Way}
 use Rattle.build_time.specs.declared.over_time.Way.the-variants.{Forward, Inverse}
 use Rattle.build_time.specs.declared.over_time.Asked.{Asked}
 use Rattle.build_time.specs.declared.over_time.Asked.the-variants.{Refuse, Nothing, Insert}
-use Rattle.build_time.specs.OverTime.{builtOf, isDone, usedOf, askedOf, wayStep, builtMemory, builtRows}
+use Rattle.build_rules.specs.Call.{builtOf, isDone, usedOf}
+use Rattle.build_time.specs.OverTime.{askedOf, wayStep, builtMemory, builtRows}
 
 -- ---- what holds between two steps
 

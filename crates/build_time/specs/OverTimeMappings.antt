@@ -39,10 +39,12 @@ use Rattle.build_rules.specs.OverTimeLaws.{Plain, text-plain, number-plain, dir
 use Rattle.map_rules.specs.Trace.{Comes, Trace, build}
 use Rattle.build_rules.specs.OverTimeHistory.{insertsAsked, built-history}
 use Rattle.build_rules.specs.Fitting.{comes-fit, asked-bounded}
-use Rattle.build_time.specs.declared.over_time.Built.{Built}
-use Rattle.build_time.specs.declared.over_time.Built.the-variants.{Done, Refused}
+use Rattle.build_rules.specs.declared.call.Built.{Built}
+use Rattle.build_rules.specs.declared.call.Built.the-variants.{Done, Refused}
 use Rattle.build_time.specs.declared.over_time.Way.the-variants.{Forward, Inverse}
-use Rattle.build_time.specs.OverTime.{builtOf, isDone, usedOf, wayStep, buildFits, overTimeBuild, overTimeAnswer, builtMemory, overTimeMemory, builtRows, overTimeRows}
+use Rattle.build_rules.specs.Call.{builtOf, isDone, usedOf, buildFits}
+use Rattle.build_rules.specs.CallLaws.{fits-facts}
+use Rattle.build_time.specs.OverTime.{wayStep, overTimeBuild, overTimeAnswer, builtMemory, overTimeMemory, builtRows, overTimeRows}
 use Rattle.build_time.specs.OverTimeLaws.{Holds, Lays, Leaves, plain-stopped, done-is, not-done, no-refusal, stretch-stops}
 
 -- ---- one mapping
@@ -208,37 +210,6 @@ module _ (names : ℕ) (t : List ℕ) (texts : List (List ℕ)) (ms : List Mappi
 
 -- ---- the lent memory
 
-and-parts : (a b : Bool) → a && b ≡ true → (a ≡ true) × (b ≡ true)
-and-parts true b e = (refl, e)
-and-parts false b e = absurd (let z : _≡_ {A = ℕ} 0 1 = cc in omega arith)
-
-module _ (long : ℕ) (h : Header) (l : Lengths) (m : List ℕ) (bytes places names name-bytes : ℕ) where
-  pub fits-table : {b : Bool} → b ≡ tableFits long 0 → not b ≡ true → false ≡ buildFits long h l m bytes places names name-bytes
-  unfolding buildFits
-  fits-table e d = let f : tableFits long 0 ≡ false = fails e d in rw f refl
-
-  pub fits-metadata : {b s : Bool} → b ≡ tableFits long 0 → not b ≡ false → s ≡ metadataFits h l m → not s ≡ true → false ≡ buildFits long h l m bytes places names name-bytes
-  unfolding buildFits
-  fits-metadata e d f g =
-      let i : tableFits long 0 ≡ true = holds e d in
-      let j : metadataFits h l m ≡ false = fails f g in
-      rw (i, j) refl
-
-  pub fits-list : {b s r : Bool} → b ≡ tableFits long 0 → not b ≡ false → s ≡ metadataFits h l m → not s ≡ false → r ≡ listFits bytes places names name-bytes
-      → r ≡ buildFits long h l m bytes places names name-bytes
-  unfolding buildFits
-  fits-list e d f g k =
-      let i : tableFits long 0 ≡ true = holds e d in
-      let j : metadataFits h l m ≡ true = holds f g in
-      k ∙ rw (i, j) refl
-
-  fits-facts : buildFits long h l m bytes places names name-bytes ≡ true → (tableFits long 0 ≡ true) × (metadataFits h l m ≡ true) × (listFits bytes places names name-bytes ≡ true)
-  unfolding buildFits
-  fits-facts e =
-      let p = and-parts (tableFits long 0) _ e in
-      let r = and-parts (metadataFits h l m) _ (p .1) in
-      (p .0, r .0, r .1)
-
 -- an emptied table
 pub empty-holds : (long names : ℕ) (z : List ℕ) → z ≡ replicate long 0 → tableFits long 0 ≡ true → Holds names z 0
 unfolding wellFormed ordered allKnown rowsFrom rowsBytes
@@ -268,24 +239,24 @@ module _ (t : List ℕ) (h : Header) (l : Lists) (bytes ends : List ℕ) (names 
   owed b r t′ e f g k =
       (f ∙ sym (ap buildAnswer e), (g ∙ sym (ap (builtMemory (length t)) e), subst (λ (b : Build (Row ℕ)). rows t′ (length (builtRows b)) ≡ builtRows b) (sym e) k))
 
-  module _ {f : Bool} {q : Lengths} {z : List ℕ} (e : z ≡ replicate (length t) 0) (d : q ≡ lengthsOf l)
-      (y : f ≡ buildFits (length z) h q (l .mappings) (length bytes) (length ends) names name-bytes) where
+  module _ {f of-form : Bool} {q : Lengths} {z : List ℕ} (e : z ≡ replicate (length t) 0) (d : q ≡ lengthsOf l) (i : of-form ≡ tableFits (length t) 0)
+      (y : f ≡ buildFits of-form h q (l .mappings) (length bytes) (length ends) names name-bytes) where
     long : length z ≡ length t
     long = ap length e ∙ length-replicate (length t) 0
 
-    fit : f ≡ buildFits (length t) h (lengthsOf l) (l .mappings) (length bytes) (length ends) names name-bytes
-    fit = y ∙ (λ i. buildFits (long i) h (d i) (l .mappings) (length bytes) (length ends) names name-bytes)
+    fit : f ≡ buildFits (tableFits (length t) 0) h (lengthsOf l) (l .mappings) (length bytes) (length ends) names name-bytes
+    fit = y ∙ (λ k. buildFits (i k) h (d k) (l .mappings) (length bytes) (length ends) names name-bytes)
 
     pub over-15 : not f ≡ true → Owed (Refused BadMemory) z
     unfolding overTimeBuild buildAnswer builtMemory builtRows rowsFrom
     over-15 g = let j = fails fit g in owed (stopped 15 0 0) (Refused BadMemory) z (rw j refl) refl e refl
 
     module _ (g : not f ≡ false) where
-      good : buildFits (length t) h (lengthsOf l) (l .mappings) (length bytes) (length ends) names name-bytes ≡ true
+      good : buildFits (tableFits (length t) 0) h (lengthsOf l) (l .mappings) (length bytes) (length ends) names name-bytes ≡ true
       good = holds fit g
 
       parts : (tableFits (length t) 0 ≡ true) × (metadataFits h (lengthsOf l) (l .mappings) ≡ true) × (listFits (length bytes) (length ends) names name-bytes ≡ true)
-      parts = fits-facts (length t) h (lengthsOf l) (l .mappings) (length bytes) (length ends) names name-bytes good
+      parts = fits-facts (tableFits (length t) 0) h (lengthsOf l) (l .mappings) (length bytes) (length ends) names name-bytes good
 
       pub over-list : (names ≤ length ends) × (name-bytes ≤ length bytes)
       over-list = let m = memory (length bytes) (length ends) names name-bytes (parts .2) in (m .held, m .room)
@@ -330,10 +301,10 @@ module _ (t : List ℕ) (h : Header) (l : Lists) (bytes ends : List ℕ) (names 
       × (length (namesOf bytes ends names) ≤ 4096) × Comes (length (namesOf bytes ends names)) (roomOf t) (insertsAsked (namesOf bytes ends names) (metadataOf h l)) (overTimeRows t h l bytes ends names name-bytes)
   unfolding overTimeAnswer overTimeRows overTimeBuild buildAnswer builtRows
   over-comes u =
-      go (buildFits (length t) h (lengthsOf l) (l .mappings) (length bytes) (length ends) names name-bytes) refl (wellFormedNames bytes ends names name-bytes)
+      go (buildFits (tableFits (length t) 0) h (lengthsOf l) (l .mappings) (length bytes) (length ends) names name-bytes) refl (wellFormedNames bytes ends names name-bytes)
       (overTime (roomOf t) (namesOf bytes ends names) (metadataOf h l)) refl
     where
-      go : (f : Bool) → buildFits (length t) h (lengthsOf l) (l .mappings) (length bytes) (length ends) names name-bytes ≡ f → (w : Bool) (b : Build (Row ℕ))
+      go : (f : Bool) → buildFits (tableFits (length t) 0) h (lengthsOf l) (l .mappings) (length bytes) (length ends) names name-bytes ≡ f → (w : Bool) (b : Build (Row ℕ))
           → overTime (roomOf t) (namesOf bytes ends names) (metadataOf h l) ≡ b
           → buildAnswer (cond f (cond w b (stopped 14 0 0)) (stopped 15 0 0)) ≡ answer 0 (u ∷ [])
           → (u ≡ length (builtRows (cond f (cond w b (stopped 14 0 0)) (stopped 15 0 0))))
@@ -342,7 +313,7 @@ module _ (t : List ℕ) (h : Header) (l : Lists) (bytes ends : List ℕ) (names 
       go true y false b z e = absurd (let q : _≡_ {A = ℕ} 14 0 = cc in omega arith)
       go true y true (stopped c s k) z e = absurd (let q : _≡_ {A = ℕ} 0 1 = cc in omega arith)
       go true y true (built ys) z e =
-          let p = fits-facts (length t) h (lengthsOf l) (l .mappings) (length bytes) (length ends) names name-bytes y in
+          let p = fits-facts (tableFits (length t) 0) h (lengthsOf l) (l .mappings) (length bytes) (length ends) names name-bytes y in
           let m = memory (length bytes) (length ends) names name-bytes (p .2) in
           let a : names ≤ length ends = m .held in
           let b : length ends ≤ 4096 = m .few in

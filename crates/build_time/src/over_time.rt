@@ -1,5 +1,9 @@
 // The build over time from metadata (RULES, The map over time): mappings and intervals in order, each interval an insert into a table
 // that was emptied. The table stays in order, so no insert pays a check.
+use build_rules::call::Built;
+use build_rules::call::build_fits;
+use build_rules::call::is_done;
+use build_rules::call::used_of;
 use build_rules::reading::Direction;
 use build_rules::reading::Heading;
 use build_rules::reading::Instrument;
@@ -12,13 +16,11 @@ use build_rules::reading::number_named;
 use leaves::refusal::Refusal;
 use leaves_days::days::Moment;
 use leaves_names::names::is_list;
-use leaves_names::names::list_fits;
 use map_table::table::table_fits;
 use map_time::insert::Inserted;
 use map_time::insert::enter;
 use metadata_form::header::Header;
 use metadata_form::header::Lengths;
-use metadata_form::header::metadata_fits;
 use metadata_words::words::count_at;
 use metadata_words::words::interval_at;
 use metadata_words::words::name_at;
@@ -34,14 +36,9 @@ ghost use Rattle.metadata_form.specs.Header.{lists};
 ghost use Rattle.map_rules.specs.Memory.{rows, roomOf};
 ghost use Rattle.build_rules.specs.Reading.{andThen, textOf, numberIn, directionBy, instrumentRead};
 ghost use Rattle.build_rules.specs.OverTime.{dated, taken, layIntervals, layMapping, layMappings, directed};
-ghost use Rattle.build_time.specs.OverTime.{askedOf, wayStep, isDone, usedOf, builtOf, lengthsBy, buildFits, overTimeAnswer, overTimeMemory, overTimeRows};
+ghost use Rattle.build_rules.specs.Call.{builtOf};
+ghost use Rattle.build_time.specs.OverTime.{askedOf, wayStep, lengthsBy, overTimeAnswer, overTimeMemory, overTimeRows};
 ghost use Rattle.build_time.specs.OverTimeLaws.{Holds, Took, Lays, Leaves};
-
-// What a build answers: done, with how many intervals the table has, or refused.
-pub enum Built {
-    Done(usize),
-    Refused(Refusal),
-}
 
 // How a mapping's intervals are read: its name is their symbol, or says their instrument's number.
 pub enum Way {
@@ -54,26 +51,6 @@ pub enum Asked {
     Refuse(Refusal),
     Nothing,
     Insert(map_table::interval::Interval),
-}
-
-// Whether a build goes on.
-fn is_done(b: Built) -> bool
-    ensures { λ r. ⌜ r ≡ isDone b ⌝ }
-{
-    match b {
-        Built::Done(_) => true,
-        Built::Refused(_) => false,
-    }
-}
-
-// How many intervals the table has then.
-fn used_of(b: Built) -> usize
-    ensures { λ r. ⌜ r ≡ usedOf b ⌝ }
-{
-    match b {
-        Built::Done(used) => used,
-        Built::Refused(_) => 0,
-    }
 }
 
 // An interval's insert, with its dates read: 11 for its start, then for its end.
@@ -343,29 +320,6 @@ fn lengths(
     }
 }
 
-// Whether the lent memory of table, metadata and list is of its form; where it is not, 15.
-fn build_fits(
-    long: usize,
-    header: Header,
-    lengths: Lengths,
-    mappings: &[u32],
-    bytes: usize,
-    places: usize,
-    names: usize,
-    name_bytes: usize,
-) -> bool
-    requires { ⌜ lengths .mappings ≡ length (now mappings) ⌝ }
-    ensures { λ r. ⌜ r ≡ buildFits long header lengths (now (mappings .entry)) bytes places names «name_bytes» ⌝ }
-{
-    if !table_fits(long, 0) {
-        return false;
-    }
-    if !metadata_fits(header, lengths, mappings) {
-        return false;
-    }
-    list_fits(bytes, places, names, name_bytes)
-}
-
 // Builds the table over time from a metadata and a name list: 15 for all lent memory, 14 for the list, then 9, and per interval 3, the
 // skip, 8, 11, 1, (start = end is done), 3, 2. What the table held is discarded; a refusal leaves an empty table with every place 0.
 pub fn over_time(
@@ -393,6 +347,7 @@ pub fn over_time(
         (lists (now (symbols .entry)) (now (partial .entry)) (now («not_found» .entry)) (now (mappings .entry)) (now (intervals .entry))) (now (bytes .entry))
         (now (ends .entry)) names «name_bytes» ⌝ }
 {
+    let of_form = table_fits(table.len(), 0);
     clear(table);
     let l = lengths(
         symbols.len(),
@@ -402,7 +357,7 @@ pub fn over_time(
         intervals.len(),
     );
     if !build_fits(
-        table.len(),
+        of_form,
         header,
         l,
         mappings,

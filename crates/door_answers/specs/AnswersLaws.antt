@@ -15,21 +15,20 @@ use Rattle.door_answers.specs.Answers.{numberIn, valueIn, givenIn, damag
 -- ---- a refusal
 
 -- every refusal has a number of its own, so what was held stays
+pub refused-keeps : {X : Type 0} (f : Answer → X) (held : X) → ((n : ℕ) (values : List ℕ) → f (answer (suc n) values) ≡ held) → (r : Refusal) → f (refused r) ≡ held
+refused-keeps f held same r = go (numberOf r) (valuesOf r) (refused-not-done r)
+  where
+    go : (n : ℕ) (values : List ℕ) → n ≢ 0 → f (answer n values) ≡ held
+    go zero values h = absurd (h refl)
+    go (suc n) values h = same n values
+
 pub refused-value : (r : Refusal) (held k : ℕ) → valueIn held k (refused r) ≡ held
 unfolding valueIn
-refused-value r held k = go (numberOf r) (valuesOf r) (refused-not-done r)
-  where
-    go : (n : ℕ) (vs : List ℕ) → n ≢ 0 → valueIn held k (answer n vs) ≡ held
-    go zero vs h = absurd (h refl)
-    go (suc n) vs h = refl
+refused-value r held k = refused-keeps (valueIn held k) held (λ n values. refl) r
 
 refused-given : (r : Refusal) (held k : ℕ) → givenIn held k (refused r) ≡ held
 unfolding givenIn
-refused-given r held k = go (numberOf r) (valuesOf r) (refused-not-done r)
-  where
-    go : (n : ℕ) (vs : List ℕ) → n ≢ 0 → givenIn held k (answer n vs) ≡ held
-    go zero vs h = absurd (h refl)
-    go (suc n) vs h = refl
+refused-given r held k = refused-keeps (givenIn held k) held (λ n values. refl) r
 
 -- ---- a match
 

@@ -11,11 +11,10 @@ use lib.Seq.{paste, take-all}
 use native.Mathlib.Numerals.{add-one}
 use borrow.Author.Tests.{leb-true, lt-leb, le-leb}
 use Rattle.theory.specs.Bools.{and-left, and-right}
-use Rattle.theory.specs.Answer.{answer}
-use Rattle.leaves.specs.Refusal.{numberOf, valuesOf, refused}
+use Rattle.leaves.specs.Refusal.{refused}
 use Rattle.leaves.specs.declared.refusal.Refusal.{Refusal}
-use Rattle.leaves.specs.RefusalLaws.{refused-not-done}
 use Rattle.metadata_form.specs.declared.header.Header.{Header}
+use Rattle.door_answers.specs.AnswersLaws.{refused-keeps}
 use Rattle.door_answers.specs.Header.{widths, within, headerFits, headerOf, wordsIn}
 
 -- ---- words within their bounds
@@ -118,8 +117,4 @@ paste-whole d t n e h =
 -- every refusal has a number of its own, so the header stays
 pub refused-words : (r : Refusal) (held : List ℕ) → wordsIn held (refused r) ≡ held
 unfolding wordsIn
-refused-words r held = go (numberOf r) (valuesOf r) (refused-not-done r)
-  where
-    go : (n : ℕ) (vs : List ℕ) → n ≢ 0 → wordsIn held (answer n vs) ≡ held
-    go zero vs h = absurd (h refl)
-    go (suc n) vs h = refl
+refused-words r held = refused-keeps (wordsIn held) held (λ n values. refl) r

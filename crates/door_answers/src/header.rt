@@ -2,8 +2,6 @@
 use metadata_form::header::Header;
 ghost use mathlib.Core.Path.{_≡_};
 ghost use mathlib.Core.Bool.{true};
-ghost use Prim.Native.Nat.{_≤_};
-ghost use lib.Dec.{eqb};
 ghost use lib.ListN.{length, getD};
 ghost use Rattle.theory.specs.Answer.{bit};
 ghost use Rattle.metadata_form.specs.Header.{numbersOf};
@@ -64,78 +62,27 @@ fn word(words: &[u64], i: usize) -> u64
     if i < words.len() { words[i] } else { 0 }
 }
 
-fn of_8(n: u64) -> u8
-    requires { ⌜ n ≤ 255 ⌝ }
-    ensures { λ r. ⌜ r ≡ n ⌝ }
-{
-    n as u8
-}
-
-fn of_16(n: u64) -> u16
-    requires { ⌜ n ≤ 65535 ⌝ }
-    ensures { λ r. ⌜ r ≡ n ⌝ }
-{
-    n as u16
-}
-
-fn of_32(n: u64) -> u32
-    requires { ⌜ n ≤ 4294967295 ⌝ }
-    ensures { λ r. ⌜ r ≡ n ⌝ }
-{
-    n as u32
-}
-
-fn is_one(n: u64) -> bool
-    ensures { λ r. ⌜ r ≡ eqb n 1 ⌝ }
-{
-    n == 1
-}
-
 // The header that words are.
 pub fn header_of(words: &[u64]) -> Header
     requires { ⌜ headerFits (now words) ≡ true ⌝ }
     ensures { λ r. ⌜ r ≡ headerOf (now (words .entry)) ⌝ }
 {
-    let version = of_8(word(words, 0));
-    let dataset = of_32(word(words, 1));
-    let schema = of_16(word(words, 2));
-    let stype_in = of_8(word(words, 6));
-    let stype_out = of_8(word(words, 7));
-    let ts_out = is_one(word(words, 8));
     Header {
-        version,
-        dataset,
-        schema,
+        version: word(words, 0) as u8,
+        dataset: word(words, 1) as u32,
+        schema: word(words, 2) as u16,
         start: word(words, 3),
         end: word(words, 4),
         limit: word(words, 5),
-        stype_in,
-        stype_out,
-        ts_out,
+        stype_in: word(words, 6) as u8,
+        stype_out: word(words, 7) as u8,
+        ts_out: word(words, 8) == 1,
         symbol_cstr_len: word(words, 9),
         symbols: word(words, 10) as usize,
         partial: word(words, 11) as usize,
         not_found: word(words, 12) as usize,
         mappings: word(words, 13) as usize,
     }
-}
-
-fn from_8(n: u8) -> u64
-    ensures { λ r. ⌜ r ≡ n ⌝ }
-{
-    n as u64
-}
-
-fn from_16(n: u16) -> u64
-    ensures { λ r. ⌜ r ≡ n ⌝ }
-{
-    n as u64
-}
-
-fn from_32(n: u32) -> u64
-    ensures { λ r. ⌜ r ≡ n ⌝ }
-{
-    n as u64
 }
 
 fn from_bool(b: bool) -> u64
@@ -148,21 +95,16 @@ fn from_bool(b: bool) -> u64
 fn words_of(h: Header) -> [u64; 14]
     ensures { λ r. ⌜ r ≡ numbersOf h ⌝ }
 {
-    let version = from_8(h.version);
-    let dataset = from_32(h.dataset);
-    let schema = from_16(h.schema);
-    let stype_in = from_8(h.stype_in);
-    let stype_out = from_8(h.stype_out);
     let ts_out = from_bool(h.ts_out);
     [
-        version,
-        dataset,
-        schema,
+        h.version as u64,
+        h.dataset as u64,
+        h.schema as u64,
         h.start,
         h.end,
         h.limit,
-        stype_in,
-        stype_out,
+        h.stype_in as u64,
+        h.stype_out as u64,
         ts_out,
         h.symbol_cstr_len,
         h.symbols as u64,

@@ -2,12 +2,13 @@
 use Prim.Native.Nat.{ℕ}
 use mathlib.Core.Path.{_≡_, refl, sym, ap, _∙_}
 use mathlib.Core.Bool.{Bool, true, false, cond}
-use mathlib.Core.List.{List, [], _∷_}
+use mathlib.Core.List.{List, []}
 use lib.ListN.{replicate}
 use Rattle.theory.specs.Answer.{Answer, answer}
-use Rattle.leaves.specs.Refusal.{numberOf, refused}
-use Rattle.leaves.specs.declared.refusal.Refusal.{Refusal}
 use Rattle.metadata_form.specs.declared.header.Header.{Header}
+use Rattle.build_rules.specs.declared.call.Built.{Built}
+use Rattle.build_rules.specs.declared.call.Built.the-variants.{Done, Refused}
+use Rattle.build_rules.specs.Call.{builtOf, usedOf, builtNumber}
 use Rattle.door_answers.specs.Answers.{numberIn, valueIn}
 use Rattle.door_answers.specs.AnswersLaws.{refused-value}
 use Rattle.door_answers.specs.Header.{headerFits, headerOf}
@@ -27,6 +28,16 @@ pub record Building (size : ℕ) (w : List ℕ) (says : Header → Answer) (leav
 
 -- ---- laws
 
+built-number : (x : Built) → builtNumber x ≡ numberIn (builtOf x)
+unfolding numberIn
+built-number (Done used) = refl
+built-number (Refused r) = refl
+
+built-used : (x : Built) → usedOf x ≡ valueIn 0 0 (builtOf x)
+unfolding valueIn
+built-used (Done used) = refl
+built-used (Refused r) = sym (refused-value r 0 0)
+
 module _ (size : ℕ) (w : List ℕ) (says : Header → Answer) (leaves : Header → List ℕ) where
   fit-answer : headerFits w ≡ true → buildingAnswer w says ≡ says (headerOf w)
   unfolding buildingAnswer
@@ -42,24 +53,13 @@ module _ (size : ℕ) (w : List ℕ) (says : Header → Answer) (leaves : Header
       let g : headerFits w ≡ false = sym e ∙ f in
       record { returns = rw (g) refl; counts = rw (g) refl; holds = rw (g) h }
 
-  -- a build that was called with the header of the words: its answer is done with the number in use, or a refusal
-  module _ {X : Type 0} (of : X → Answer) {x : X} {t′ : List ℕ} (b : Bool) (e : b ≡ headerFits w) (f : b ≡ true) (h : Header) (k : h ≡ headerOf w) (a : of x ≡ says h)
-      (m : t′ ≡ leaves h) where
-    answered : of x ≡ buildingAnswer w says
-    answered = a ∙ ap says k ∙ sym (fit-answer (sym e ∙ f))
-
-    held : t′ ≡ buildingMemory size w leaves
-    held = m ∙ ap leaves k ∙ sym (fit-memory (sym e ∙ f))
-
-    pub build-done : (done : ℕ → X) → ((n : ℕ) → of (done n) ≡ answer 0 (n ∷ [])) → (n : ℕ) → x ≡ done n → Building size w says leaves 0 n t′
-    unfolding numberIn valueIn
-    build-done done same n q =
-        let g = sym (same n) ∙ sym (ap of q) ∙ answered in
-        record { returns = ap numberIn g; counts = ap (valueIn 0 0) g; holds = held }
-
-    pub build-refused : (not-done : Refusal → X) → ((r : Refusal) → of (not-done r) ≡ refused r) → (r : Refusal) → x ≡ not-done r → (n : ℕ) → n ≡ numberOf r
-        → Building size w says leaves n 0 t′
-    unfolding numberIn
-    build-refused not-done same r q n p =
-        let g = sym (same r) ∙ sym (ap of q) ∙ answered in
-        record { returns = p ∙ ap numberIn g; counts = sym (refused-value r 0 0) ∙ ap (valueIn 0 0) g; holds = held }
+  -- a build that was called with the header of the words: its number, and the number in use
+  pub build-told : (x : Built) {t′ : List ℕ} (b : Bool) → b ≡ headerFits w → b ≡ true → (h : Header) → h ≡ headerOf w → builtOf x ≡ says h → t′ ≡ leaves h
+      → {n used : ℕ} → n ≡ builtNumber x → used ≡ usedOf x → Building size w says leaves n used t′
+  build-told x b e f h k a m p q =
+      let g : builtOf x ≡ buildingAnswer w says = a ∙ ap says k ∙ sym (fit-answer (sym e ∙ f)) in
+      record {
+        returns = p ∙ built-number x ∙ ap numberIn g;
+        counts = q ∙ built-used x ∙ ap (valueIn 0 0) g;
+        holds = m ∙ ap leaves k ∙ sym (fit-memory (sym e ∙ f));
+      }

@@ -31,14 +31,13 @@ use Rattle.build_rules.specs.declared.reading.Direction.{Direction}
 use Rattle.build_rules.specs.declared.reading.Direction.the-variants.{Forward, Inverse}
 use Rattle.build_rules.specs.Reading.{Read, fault, value, readOf, andThen, textOf, numberIn as instrumentIn, dayIn, dayLength, momentIn, isEmpty, directionBy, directionOf}
 use Rattle.build_rules.specs.OverTime.{Step, stop, skip, give, reading, unlessEmpty, dated, forwardStep, inverseStep, taken, Build, stopped, built, onward, further, layIntervals, layRead, layMapping, layMappings, directed, overTime, buildAnswer}
+use Rattle.build_rules.specs.Call.{buildFits}
 use Rattle.build_rules.specs.OverTimeHistory.{insertsAsked}
 use Rattle.build_rules.specs.PointInTime.{pointInTime}
 use Rattle.build_rules.specs.PointInTimeLaws.{pointRefusal, Sound, point-sound}
 use Rattle.build_rules.specs.PointInTimeLatest.{settings}
-use Rattle.build_time.specs.OverTime as time
 use Rattle.build_time.specs.OverTime.{overTimeBuild, overTimeAnswer, overTimeMemory}
 use Rattle.build_time.specs.OverTimeMappings.{over-traced}
-use Rattle.build_point.specs.Build as point
 use Rattle.build_point.specs.Build.{pointBuild, pointInTimeAnswer, pointInTimeMemory}
 use Rattle.build_point.specs.Found.{built-there, built-found}
 use Rattle.door_answers.specs.Answers.{numberIn, valueIn, givenIn}
@@ -218,7 +217,7 @@ module _ (t : List ℕ) (w : List ℕ) (l : Lists) (bytes ends : List ℕ) (name
       go true r u m =
           over-traced t (headerOf w) l bytes ends names name-bytes used t′
           (done-of (overTimeBuild t (headerOf w) l bytes ends names name-bytes)
-          (judged-faulty (time.buildFits (length t) (headerOf w) (lengthsOf l) (l .mappings) (length bytes) (length ends) names name-bytes) (wellFormed bytes ends names name-bytes)
+          (judged-faulty (buildFits (tableFits (length t) 0) (headerOf w) (lengthsOf l) (l .mappings) (length bytes) (length ends) names name-bytes) (wellFormed bytes ends names name-bytes)
           (overTime (roomOf t) (namesOf bytes ends names) (metadataOf (headerOf w) l)) (over-faulty (roomOf t) (namesOf bytes ends names) (metadataOf (headerOf w) l))) (sym r)
           ∙ ap (λ (k : ℕ). answer 0 (k ∷ [])) (sym u)) m
 
@@ -274,7 +273,7 @@ module _ (size : ℕ) (w : List ℕ) (l : Lists) (bytes ends : List ℕ) (names 
           let m = metadataOf h l in
           let done : pointInTimeAnswer size h l bytes ends names name-bytes date ≡ answer 0 (used ∷ []) =
           done-of (pointBuild size h l bytes ends names name-bytes date)
-          (judged-faulty (point.buildFits size h (lengthsOf l) (l .mappings) (length bytes) (length ends) names name-bytes) (wellFormed bytes ends names name-bytes)
+          (judged-faulty (buildFits (pointsFit size 0) h (lengthsOf l) (l .mappings) (length bytes) (length ends) names name-bytes) (wellFormed bytes ends names name-bytes)
           (pointInTime (size / 8) (namesOf bytes ends names) m date)
           (sound (pointInTime (size / 8) (namesOf bytes ends names) m date) (point-sound (size / 8) (namesOf bytes ends names) m date))) (sym x)
           ∙ ap (λ (n : ℕ). answer 0 (n ∷ [])) (sym y) in

@@ -1,11 +1,11 @@
 // Both builds from metadata at the C door (RULES, The map over time). A metadata is fourteen words, its header, and five lists of words,
 // as in the metadata merge. A build discards what the table held; a refused one leaves it empty, 0 in every place.
+use build_rules::call::number_of;
+use build_rules::call::used_of;
 use build_rules::reading::clear;
 use door_answers::BAD_MEMORY;
-use door_answers::DONE;
 use door_answers::header::header_of;
 use door_answers::header::is_header;
-use leaves::refusal::number;
 ghost use mathlib.Core.Path.{_≡_};
 ghost use lib.ListN.{length};
 ghost use Rattle.metadata_form.specs.Header.{lists};
@@ -54,13 +54,8 @@ pub extern "C" fn desk_build(
         names,
         name_bytes,
     );
-    match built {
-        build_time::over_time::Built::Done(n) => {
-            *used = n;
-            DONE
-        }
-        build_time::over_time::Built::Refused(refusal) => number(refusal),
-    }
+    *used = used_of(built);
+    number_of(built)
 }
 
 // Builds a point-in-time table for a date: 0, 15, 14, 11, 9, 10, 3, 8 or 2; `used` becomes the entries in use, 0 on a refusal.
@@ -107,11 +102,6 @@ pub extern "C" fn desk_build_points(
         name_bytes,
         date,
     );
-    match built {
-        build_point::build::Built::Done(n) => {
-            *used = n;
-            DONE
-        }
-        build_point::build::Built::Refused(refusal) => number(refusal),
-    }
+    *used = used_of(built);
+    number_of(built)
 }

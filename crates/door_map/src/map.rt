@@ -14,9 +14,9 @@ ghost use lib.Dec.{T};
 ghost use Rattle.map_rules.specs.Table.{ordered};
 ghost use Rattle.map_rules.specs.Memory.{sameValue, rows, tableFits, checkAnswer, insertOutcome, outcomeAnswer, memoryAfter};
 ghost use Rattle.map_rules.specs.Looks.{lookupAnswer};
-ghost use Rattle.leaves.specs.Frame.{nameIn};
-ghost use Rattle.map_record.specs.Mapping.{timeJudged, timeJoins, timeTable, timeAnswer, bytesThen, endsThen};
-ghost use Rattle.door_answers.specs.Answers.{numberIn, valueIn, givenIn, damageIn, row};
+ghost use Rattle.map_record.specs.Mapping.{timeLeft};
+ghost use Rattle.door_answers.specs.Answers.{numberIn, valueIn, givenIn, row};
+ghost use Rattle.door_map.specs.OnRecord.{Tells};
 
 // Whether the table is well-formed: 0, 14 or 15.
 #[no_mangle]
@@ -110,34 +110,9 @@ pub extern "C" fn desk_on_record(
     rec: &[u8],
     reason: &mut u64,
 ) -> u32
-    ensures { λ r. ⌜ r ≡ numberIn (timeAnswer (now (table .entry)) (now (used .entry)) (now (names .entry)) (now («name_bytes» .entry))
-        (nameIn (now (rec .entry))) (timeJudged (now (table .entry)) (now (used .entry)) (now (bytes .entry)) (now (ends .entry)) (now (names .entry))
-        (now («name_bytes» .entry)) (now (rec .entry)))) ⌝ }
-    ensures { λ _. ⌜ now (used .exit) ≡ valueIn (now (used .entry)) 0
-        (timeAnswer (now (table .entry)) (now (used .entry)) (now (names .entry)) (now («name_bytes» .entry)) (nameIn (now (rec .entry)))
-        (timeJudged (now (table .entry)) (now (used .entry)) (now (bytes .entry)) (now (ends .entry)) (now (names .entry)) (now («name_bytes» .entry))
-        (now (rec .entry)))) ⌝ }
-    ensures { λ _. ⌜ now (names .exit) ≡ valueIn (now (names .entry)) 1
-        (timeAnswer (now (table .entry)) (now (used .entry)) (now (names .entry)) (now («name_bytes» .entry)) (nameIn (now (rec .entry)))
-        (timeJudged (now (table .entry)) (now (used .entry)) (now (bytes .entry)) (now (ends .entry)) (now (names .entry)) (now («name_bytes» .entry))
-        (now (rec .entry)))) ⌝ }
-    ensures { λ _. ⌜ now («name_bytes» .exit) ≡ valueIn (now («name_bytes» .entry)) 2
-        (timeAnswer (now (table .entry)) (now (used .entry)) (now (names .entry)) (now («name_bytes» .entry)) (nameIn (now (rec .entry)))
-        (timeJudged (now (table .entry)) (now (used .entry)) (now (bytes .entry)) (now (ends .entry)) (now (names .entry)) (now («name_bytes» .entry))
-        (now (rec .entry)))) ⌝ }
-    ensures { λ _. ⌜ now (reason .exit) ≡ damageIn (now (reason .entry)) 2
-        (timeAnswer (now (table .entry)) (now (used .entry)) (now (names .entry)) (now («name_bytes» .entry)) (nameIn (now (rec .entry)))
-        (timeJudged (now (table .entry)) (now (used .entry)) (now (bytes .entry)) (now (ends .entry)) (now (names .entry)) (now («name_bytes» .entry))
-        (now (rec .entry)))) ⌝ }
-    ensures { λ _. ⌜ now (table .exit) ≡ timeTable (now (table .entry)) (now (used .entry))
-        (timeJudged (now (table .entry)) (now (used .entry)) (now (bytes .entry)) (now (ends .entry)) (now (names .entry)) (now («name_bytes» .entry))
-        (now (rec .entry))) ⌝ }
-    ensures { λ _. ⌜ now (bytes .exit) ≡ bytesThen (timeJoins (now (table .entry)) (now (used .entry))
-        (timeJudged (now (table .entry)) (now (used .entry)) (now (bytes .entry)) (now (ends .entry)) (now (names .entry)) (now («name_bytes» .entry))
-        (now (rec .entry)))) (now (bytes .entry)) (now («name_bytes» .entry)) (nameIn (now (rec .entry))) ⌝ }
-    ensures { λ _. ⌜ now (ends .exit) ≡ endsThen (timeJoins (now (table .entry)) (now (used .entry))
-        (timeJudged (now (table .entry)) (now (used .entry)) (now (bytes .entry)) (now (ends .entry)) (now (names .entry)) (now («name_bytes» .entry))
-        (now (rec .entry)))) (now (ends .entry)) (now (names .entry)) (now («name_bytes» .entry)) (nameIn (now (rec .entry))) ⌝ }
+    ensures { λ r. ⌜ Tells (timeLeft (now (table .entry)) (now (used .entry)) (now (bytes .entry)) (now (ends .entry)) (now (names .entry)) (now («name_bytes» .entry)) (now (rec .entry)))
+        (now (used .entry)) (now (names .entry)) (now («name_bytes» .entry)) (now (reason .entry)) r (now (used .exit)) (now (names .exit)) (now («name_bytes» .exit))
+        (now (reason .exit)) (now (table .exit)) (now (bytes .exit)) (now (ends .exit)) ⌝ }
 {
     let recorded = map_record::mapping::on_record(
         table,

@@ -9,11 +9,11 @@ ghost use mathlib.Core.Path.{_≡_};
 ghost use mathlib.Core.Bool.{true, not, _||_};
 ghost use lib.ListN.{length};
 ghost use lib.Dec.{T};
-ghost use Rattle.leaves.specs.Frame.{nameIn};
 ghost use Rattle.map_point.specs.Entries.{entries};
 ghost use Rattle.map_point.specs.Points.{rising, pointsFit, pointsChecked, pointFound};
-ghost use Rattle.map_record.specs.Mapping.{pointJudged, pointJoins, pointTable, pointAnswer, bytesThen, endsThen};
-ghost use Rattle.door_answers.specs.Answers.{numberIn, valueIn, givenIn, damageIn};
+ghost use Rattle.map_record.specs.Mapping.{pointLeft};
+ghost use Rattle.door_answers.specs.Answers.{numberIn, valueIn, givenIn};
+ghost use Rattle.door_map.specs.OnRecord.{Tells};
 
 // Whether a point-in-time table is well-formed: 0, 14 or 15.
 #[no_mangle]
@@ -70,34 +70,9 @@ pub extern "C" fn desk_on_record_point(
     rec: &[u8],
     reason: &mut u64,
 ) -> u32
-    ensures { λ r. ⌜ r ≡ numberIn (pointAnswer (now (table .entry)) (now (used .entry)) (now (names .entry)) (now («name_bytes» .entry))
-        (nameIn (now (rec .entry))) (pointJudged (now (table .entry)) (now (used .entry)) (now (bytes .entry)) (now (ends .entry)) (now (names .entry))
-        (now («name_bytes» .entry)) (now (rec .entry)))) ⌝ }
-    ensures { λ _. ⌜ now (used .exit) ≡ valueIn (now (used .entry)) 0
-        (pointAnswer (now (table .entry)) (now (used .entry)) (now (names .entry)) (now («name_bytes» .entry)) (nameIn (now (rec .entry)))
-        (pointJudged (now (table .entry)) (now (used .entry)) (now (bytes .entry)) (now (ends .entry)) (now (names .entry)) (now («name_bytes» .entry))
-        (now (rec .entry)))) ⌝ }
-    ensures { λ _. ⌜ now (names .exit) ≡ valueIn (now (names .entry)) 1
-        (pointAnswer (now (table .entry)) (now (used .entry)) (now (names .entry)) (now («name_bytes» .entry)) (nameIn (now (rec .entry)))
-        (pointJudged (now (table .entry)) (now (used .entry)) (now (bytes .entry)) (now (ends .entry)) (now (names .entry)) (now («name_bytes» .entry))
-        (now (rec .entry)))) ⌝ }
-    ensures { λ _. ⌜ now («name_bytes» .exit) ≡ valueIn (now («name_bytes» .entry)) 2
-        (pointAnswer (now (table .entry)) (now (used .entry)) (now (names .entry)) (now («name_bytes» .entry)) (nameIn (now (rec .entry)))
-        (pointJudged (now (table .entry)) (now (used .entry)) (now (bytes .entry)) (now (ends .entry)) (now (names .entry)) (now («name_bytes» .entry))
-        (now (rec .entry)))) ⌝ }
-    ensures { λ _. ⌜ now (reason .exit) ≡ damageIn (now (reason .entry)) 2
-        (pointAnswer (now (table .entry)) (now (used .entry)) (now (names .entry)) (now («name_bytes» .entry)) (nameIn (now (rec .entry)))
-        (pointJudged (now (table .entry)) (now (used .entry)) (now (bytes .entry)) (now (ends .entry)) (now (names .entry)) (now («name_bytes» .entry))
-        (now (rec .entry)))) ⌝ }
-    ensures { λ _. ⌜ now (table .exit) ≡ pointTable (now (table .entry)) (now (used .entry))
-        (pointJudged (now (table .entry)) (now (used .entry)) (now (bytes .entry)) (now (ends .entry)) (now (names .entry)) (now («name_bytes» .entry))
-        (now (rec .entry))) ⌝ }
-    ensures { λ _. ⌜ now (bytes .exit) ≡ bytesThen (pointJoins (now (table .entry)) (now (used .entry))
-        (pointJudged (now (table .entry)) (now (used .entry)) (now (bytes .entry)) (now (ends .entry)) (now (names .entry)) (now («name_bytes» .entry))
-        (now (rec .entry)))) (now (bytes .entry)) (now («name_bytes» .entry)) (nameIn (now (rec .entry))) ⌝ }
-    ensures { λ _. ⌜ now (ends .exit) ≡ endsThen (pointJoins (now (table .entry)) (now (used .entry))
-        (pointJudged (now (table .entry)) (now (used .entry)) (now (bytes .entry)) (now (ends .entry)) (now (names .entry)) (now («name_bytes» .entry))
-        (now (rec .entry)))) (now (ends .entry)) (now (names .entry)) (now («name_bytes» .entry)) (nameIn (now (rec .entry))) ⌝ }
+    ensures { λ r. ⌜ Tells (pointLeft (now (table .entry)) (now (used .entry)) (now (bytes .entry)) (now (ends .entry)) (now (names .entry)) (now («name_bytes» .entry)) (now (rec .entry)))
+        (now (used .entry)) (now (names .entry)) (now («name_bytes» .entry)) (now (reason .entry)) r (now (used .exit)) (now (names .exit)) (now («name_bytes» .exit))
+        (now (reason .exit)) (now (table .exit)) (now (bytes .exit)) (now (ends .exit)) ⌝ }
 {
     let recorded = map_record::mapping::on_record_point(
         table,

@@ -1,5 +1,4 @@
 pub mod Mapping
 pub mod MappingLaws
-pub mod MappingInterval
 pub mod MappingHistory
 pub mod MappingExamples

@@ -11,6 +11,7 @@ use lib.Dec.{T, ltb, eqb, eqb-refl, lt→ltb}
 use borrow.Author.Tests.{lt-ltb, le-ltb, le-leb, ltb-true, ltb-false, eqb-false, ne-eqb}
 use mir.Facts.{ltb-yes}
 use Rattle.theory.specs.Answer.{Answer}
+use Rattle.theory.specs.Bools.{and-left, and-right}
 use Rattle.theory.specs.RunsTools.{cond-case, cond-yes, T-and, T-fst, T-snd}
 use Rattle.leaves.specs.Refusal.{refused}
 use Rattle.leaves.specs.declared.refusal.Refusal.the-variants.{Reversed, BadName, NoNameRoom, IllFormed, BadMemory}
@@ -19,8 +20,8 @@ use Rattle.leaves_names.specs.Names.{listFits, wellFormed as wellFormedNames, i
 use Rattle.leaves_names.specs.NamesLaws.{Memory, memory}
 use Rattle.leaves_names.specs.declared.names.Naming.{Naming}
 use Rattle.leaves_names.specs.declared.names.Naming.the-variants.{Old, New, Refused as NotNamed}
-use Rattle.map_rules.specs.Table.{Row, Outcome, refusedBy, stored, roomFits, namesFit, wellFormed, ordered, allKnown, entered, inserted}
-use Rattle.map_rules.specs.Memory.{width, sameValue, knownValue, rows, roomOf, tableFits, insertOutcome, outcomeAnswer, Gives}
+use Rattle.map_rules.specs.Table.{Row, Outcome, refusedBy, stored, nowStored, roomFits, namesFit, wellFormed, ordered, allKnown, entered, inserted}
+use Rattle.map_rules.specs.Memory.{width, sameValue, knownValue, rows, roomOf, tableFits, insertOutcome, rowsWritten, memoryAfter, outcomeAnswer, usedAfter, Gives}
 use Rattle.map_rules.specs.MemoryLaws.{length-rows}
 use Rattle.map_rules.specs.Outcomes.{Lent, table-lent}
 use Rattle.map_rules.specs.Trace.{usedTold, doneTold, Trace, insert}
@@ -29,22 +30,25 @@ use Rattle.map_point.specs.Entries.{entries}
 use Rattle.map_point.specs.Points as points
 use Rattle.map_point.specs.Points.{rising, setEntry, pointsFit}
 use Rattle.map_point.specs.PointsLaws.{set-rising, set-known}
-use Rattle.map_record.specs.Mapping.{pointWanted, pointJudged, pointOutcome, Wanted, nothing, refuses, stores, numberingIn, numbered, timeWanted, timeJudged, mappingRow, timeOutcome, timeTable, timeUsed, timeRows, outcomeThen, timeAnswer, namesThen}
-use Rattle.theory.specs.Bools.{and-left, and-right}
-use Rattle.map_record.specs.MappingLaws.{room}
+use Rattle.map_plan.specs.Wanted.{Wanted, nothing, refuses, stores, numberingIn, numbered, wanted, judged}
+use Rattle.map_plan.specs.WantedLaws.{room}
+use Rattle.map_record.specs.Mapping.{timeJudged, pointJudged, pointOutcome, mappingRow, timeOutcome, outcomeComes, timeComes, namesThen, leftBy, timeLeft, Leaves, TimeLeaves}
 
 -- ---- what a call that stores has passed
 
-pub record Passed (t : List ℕ) (used names i s e n : ℕ) (new : Bool) : Type 0 where
-  pub fits : tableFits (length t) used ≡ true
-  pub formed : wellFormed sameValue knownValue names (rows t used) ≡ true
-  pub forward : s < e
-  pub known : n < namesThen new names
-  pub few : namesThen new names ≤ 4096
-
--- and what naming makes of its name
+-- what naming makes of a name that is new or not
 abbrev pub named : Bool → ℕ → Naming
 named new n = cond new (New n) (Old n)
+
+-- the table fits and is well-formed, over time the stretch is not empty, the name's number is known once it has joined, and is
+-- what naming says
+pub record Passed (over-time lent well : Bool) (bytes ends : List ℕ) (names name-bytes : ℕ) (name : List ℕ) (s e n : ℕ) (new : Bool) : Type 0 where
+  pub fits : lent ≡ true
+  pub formed : well ≡ true
+  pub forward : over-time ≡ true → s < e
+  pub known : n < namesThen new names
+  pub few : namesThen new names ≤ 4096
+  pub naming-is : naming bytes ends names name-bytes name ≡ named new n
 
 -- a choice that is not a refusal
 chosen : (b : Bool) (w : Wanted) (a : Answer) {i s e n : ℕ} {new : Bool} → cond b w (refuses a) ≡ stores i s e n new → (b ≡ true) × (w ≡ stores i s e n new)
@@ -104,57 +108,66 @@ named-so : (bytes ends : List ℕ) (names name-bytes : ℕ) (name : List ℕ) �
 unfolding naming numberingIn
 named-so bytes ends names name-bytes name m w v = rw (m, w, v) refl
 
-wanted-known : (bytes ends : List ℕ) (names name-bytes : ℕ) (name : List ℕ) (m : Mapped) {i s e n : ℕ} {new : Bool} → names ≤ 4096
-    → timeWanted bytes ends names name-bytes name m ≡ stores i s e n new → (s < e) × (n < namesThen new names) × (namesThen new names ≤ 4096) × (isName name ≡ true) × (numberingIn bytes ends names name-bytes name ≡ named new n)
-unfolding timeWanted numberingIn
-wanted-known bytes ends names name-bytes name other few h = let z : _≡_ {A = ℕ} 0 1 = cc in absurd (omega arith)
-wanted-known bytes ends names name-bytes name (notOne reason) few h = let z : _≡_ {A = ℕ} 0 1 = cc in absurd (omega arith)
-wanted-known bytes ends names name-bytes name (symbol j a b) few h =
+wanted-known : (over-time : Bool) (bytes ends : List ℕ) (names name-bytes : ℕ) (name : List ℕ) (m : Mapped) {i s e n : ℕ} {new : Bool} → names ≤ 4096
+    → wanted over-time bytes ends names name-bytes name m ≡ stores i s e n new
+    → (over-time ≡ true → s < e) × (n < namesThen new names) × (namesThen new names ≤ 4096) × (isName name ≡ true) × (numberingIn bytes ends names name-bytes name ≡ named new n)
+unfolding wanted numberingIn
+wanted-known over-time bytes ends names name-bytes name other few h = let z : _≡_ {A = ℕ} 0 1 = cc in absurd (omega arith)
+wanted-known over-time bytes ends names name-bytes name (notOne reason) few h = let z : _≡_ {A = ℕ} 0 1 = cc in absurd (omega arith)
+wanted-known over-time bytes ends names name-bytes name (symbol j a b) {s = s} {e = e} few h =
     let number = numbered j a b (numberingIn bytes ends names name-bytes name) in
-    let p = chosen (isName name) (cond (ltb b a) (refuses (refused Reversed)) (cond (eqb a b) nothing number)) (refused BadName) h in
-    let q = past (ltb b a) (refused Reversed) (cond (eqb a b) nothing number) (p .1) in
-    let r = nonempty (eqb a b) number (q .1) in
+    let rest = cond (over-time && eqb a b) nothing number in
+    let p = chosen (isName name) (cond (over-time && ltb b a) (refuses (refused Reversed)) rest) (refused BadName) h in
+    let q = past (over-time && ltb b a) (refused Reversed) rest (p .1) in
+    let r = nonempty (over-time && eqb a b) number (q .1) in
     let k = numbered-known (length bytes) (length ends) names name-bytes (length name) _ j a b few (r .1) in
-    let le : a ≤ b = ltb-false b a (q .0) in
-    let ne : a ≢ b = eqb-false a b (r .0) in
-    (omega (arith, k .2, k .3), k .0, k .1, p .0, numbered-is (numberingIn bytes ends names name-bytes name) j a b (r .1))
+    let forward : over-time ≡ true → s < e = λ o.
+    let le : a ≤ b = ltb-false b a (rw o at (q .0)) in
+    let ne : a ≢ b = eqb-false a b (rw o at (r .0)) in
+    omega (arith, k .2, k .3)
+    in
+    (forward, k .0, k .1, p .0, numbered-is (numberingIn bytes ends names name-bytes name) j a b (r .1))
 
 -- a call that stores has passed every test
-pub passed : (t : List ℕ) (used : ℕ) (bytes ends : List ℕ) (names name-bytes : ℕ) (rec : List ℕ) {i s e n : ℕ} {new : Bool}
-    → timeJudged t used bytes ends names name-bytes rec ≡ stores i s e n new → Passed t used names i s e n new
-unfolding timeJudged
-passed t used bytes ends names name-bytes rec h =
-    let w = timeWanted bytes ends names name-bytes (nameIn rec) (mappedIn rec) in
-    let fit = tableFits (length t) used in
+pub passed : (over-time fits well : Bool) (bytes ends : List ℕ) (names name-bytes : ℕ) (name : List ℕ) (m : Mapped) {i s e n : ℕ} {new : Bool}
+    → judged fits well bytes ends names name-bytes (wanted over-time bytes ends names name-bytes name m) ≡ stores i s e n new
+    → Passed over-time fits well bytes ends names name-bytes name s e n new
+unfolding judged
+passed over-time fits well bytes ends names name-bytes name m h =
+    let w = wanted over-time bytes ends names name-bytes name m in
     let lent = listFits (length bytes) (length ends) names name-bytes in
-    let rowsOk = wellFormed sameValue knownValue names (rows t used) in
     let listOk = wellFormedNames bytes ends names name-bytes in
-    let p = chosen (fit && lent) (cond (rowsOk && listOk) w (refuses (refused IllFormed))) (refused BadMemory) h in
-    let q = chosen (rowsOk && listOk) w (refused IllFormed) (p .1) in
-    let m : Memory (length bytes) (length ends) names name-bytes = memory _ _ _ _ (and-right fit lent (p .0)) in
-    let k = wanted-known bytes ends names name-bytes (nameIn rec) (mappedIn rec) (omega (arith, m .held, m .few)) (q .1) in
+    let p = chosen (fits && lent) (cond (well && listOk) w (refuses (refused IllFormed))) (refused BadMemory) h in
+    let q = chosen (well && listOk) w (refused IllFormed) (p .1) in
+    let l : Memory (length bytes) (length ends) names name-bytes = memory _ _ _ _ (and-right fits lent (p .0)) in
+    let k = wanted-known over-time bytes ends names name-bytes name m (omega (arith, l .held, l .few)) (q .1) in
     record {
-      fits = and-left fit lent (p .0);
-      formed = and-left rowsOk listOk (q .0);
+      fits = and-left fits lent (p .0);
+      formed = and-left well listOk (q .0);
       forward = k .0;
       known = k .1;
       few = k .2;
+      naming-is = named-so bytes ends names name-bytes name (and-right fits lent (p .0)) (and-right well listOk (q .0)) (k .3) ∙ k .4;
     }
 
-pub time-naming : (t : List ℕ) (used : ℕ) (bytes ends : List ℕ) (names name-bytes : ℕ) (rec : List ℕ) {i s e n : ℕ} {new : Bool}
-    → timeJudged t used bytes ends names name-bytes rec ≡ stores i s e n new → naming bytes ends names name-bytes (nameIn rec) ≡ named new n
+-- of a call on a table over time, and on a point-in-time table
+abbrev pub TimePassed : List ℕ → ℕ → List ℕ → List ℕ → ℕ → ℕ → List ℕ → ℕ → ℕ → ℕ → Bool → Type 0
+TimePassed t used bytes ends names name-bytes rec s e n new =
+    Passed true (tableFits (length t) used) (wellFormed sameValue knownValue names (rows t used)) bytes ends names name-bytes (nameIn rec) s e n new
+
+pub time-passed : (t : List ℕ) (used : ℕ) (bytes ends : List ℕ) (names name-bytes : ℕ) (rec : List ℕ) {i s e n : ℕ} {new : Bool}
+    → timeJudged t used bytes ends names name-bytes rec ≡ stores i s e n new → TimePassed t used bytes ends names name-bytes rec s e n new
 unfolding timeJudged
-time-naming t used bytes ends names name-bytes rec h =
-    let w = timeWanted bytes ends names name-bytes (nameIn rec) (mappedIn rec) in
-    let fit = tableFits (length t) used in
-    let lent = listFits (length bytes) (length ends) names name-bytes in
-    let rowsOk = wellFormed sameValue knownValue names (rows t used) in
-    let listOk = wellFormedNames bytes ends names name-bytes in
-    let p = chosen (fit && lent) (cond (rowsOk && listOk) w (refuses (refused IllFormed))) (refused BadMemory) h in
-    let q = chosen (rowsOk && listOk) w (refused IllFormed) (p .1) in
-    let m : Memory (length bytes) (length ends) names name-bytes = memory _ _ _ _ (and-right fit lent (p .0)) in
-    let k = wanted-known bytes ends names name-bytes (nameIn rec) (mappedIn rec) (omega (arith, m .held, m .few)) (q .1) in
-    named-so bytes ends names name-bytes (nameIn rec) (and-right fit lent (p .0)) (and-right rowsOk listOk (q .0)) (k .3) ∙ k .4
+time-passed t used bytes ends names name-bytes rec h = passed true _ _ bytes ends names name-bytes (nameIn rec) (mappedIn rec) h
+
+abbrev pub PointPassed : List ℕ → ℕ → List ℕ → List ℕ → ℕ → ℕ → List ℕ → ℕ → ℕ → ℕ → Bool → Type 0
+PointPassed t used bytes ends names name-bytes rec s e n new =
+    Passed false (pointsFit (length t) used) (points.wellFormed names (entries t used)) bytes ends names name-bytes (nameIn rec) s e n new
+
+pub point-passed : (t : List ℕ) (used : ℕ) (bytes ends : List ℕ) (names name-bytes : ℕ) (rec : List ℕ) {i s e n : ℕ} {new : Bool}
+    → pointJudged t used bytes ends names name-bytes rec ≡ stores i s e n new → PointPassed t used bytes ends names name-bytes rec s e n new
+unfolding pointJudged
+point-passed t used bytes ends names name-bytes rec h = passed false _ _ bytes ends names name-bytes (nameIn rec) (mappedIn rec) h
 
 -- ---- and is an insert
 
@@ -185,19 +198,20 @@ names-more : (new : Bool) (names : ℕ) → names ≤ namesThen new names
 names-more true names = omega arith
 names-more false names = omega arith
 
-pub stores-insert : (t : List ℕ) (used names i s e n : ℕ) (new : Bool) → Passed t used names i s e n new
+pub stores-insert : (t : List ℕ) (used : ℕ) (bytes ends : List ℕ) (names name-bytes : ℕ) (rec : List ℕ) (i s e n : ℕ) (new : Bool) → TimePassed t used bytes ends names name-bytes rec s e n new
     → inserted sameValue knownValue (namesThen new names) (roomOf t) (mappingRow i s e n) (rows t used) ≡ timeOutcome t used i s e n
 unfolding inserted entered roomFits namesFit timeOutcome
-stores-insert t used names i s e n new p =
+stores-insert t used bytes ends names name-bytes rec i s e n new p =
     let l : Lent (length t) used = table-lent (length t) used (p .fits) in
-    let ne : s ≢ e = omega (arith, p .forward) in
+    let f : s < e = p .forward refl in
+    let ne : s ≢ e = omega (arith, f) in
     rw (
       length-rows t 0 used,
       le-leb (roomOf t) 65536 (l .limit),
       le-leb used (roomOf t) (l .in-use),
       le-leb (namesThen new names) 4096 (p .few),
       formed-more names (namesThen new names) (rows t used) (names-more new names) (p .formed),
-      le-ltb e s (omega (arith, p .forward)),
+      le-ltb e s (omega (arith, f)),
       ne-eqb s e ne,
       lt-ltb n (namesThen new names) (p .known),
     )
@@ -218,108 +232,79 @@ Refusing nothing = Unit {0}
 Refusing (refuses r) = (used : ℕ) → usedTold used r ≡ used
 Refusing (stores i s e n new) = Unit {0}
 
-refusing-named : (bytes ends : List ℕ) (names name-bytes : ℕ) (name : List ℕ) (i s e : ℕ) → Refusing (numbered i s e (numberingIn bytes ends names name-bytes name))
+never-named : (bytes ends : List ℕ) (names name-bytes : ℕ) (name : List ℕ) (i s e : ℕ) → Refusing (numbered i s e (numberingIn bytes ends names name-bytes name))
 unfolding numberingIn numbering usedTold
-refusing-named bytes ends names name-bytes name i s e =
+never-named bytes ends names name-bytes name i s e =
     let number = least name (namesOf bytes ends names) in
     cond-case (λ (x : Naming). Refusing (numbered i s e x)) (ltb number names) _ _ (λ l. tt) (λ l.
     cond-case (λ (x : Naming). Refusing (numbered i s e x)) (hasRoom (length bytes) (length ends) names name-bytes (length name)) _ _ (λ r. tt) (λ r used. refl))
 
-refusing-wanted : (bytes ends : List ℕ) (names name-bytes : ℕ) (name : List ℕ) (m : Mapped) → Refusing (timeWanted bytes ends names name-bytes name m)
-unfolding timeWanted usedTold
-refusing-wanted bytes ends names name-bytes name other = tt
-refusing-wanted bytes ends names name-bytes name (notOne reason) = λ used. refl
-refusing-wanted bytes ends names name-bytes name (symbol i s e) =
+never-wanted : (bytes ends : List ℕ) (names name-bytes : ℕ) (name : List ℕ) (m : Mapped) → Refusing (wanted true bytes ends names name-bytes name m)
+unfolding wanted usedTold
+never-wanted bytes ends names name-bytes name other = tt
+never-wanted bytes ends names name-bytes name (notOne reason) = λ used. refl
+never-wanted bytes ends names name-bytes name (symbol i s e) =
     cond-case Refusing (isName name) _ _ (λ v.
     cond-case Refusing (ltb e s) _ _ (λ h used. refl) (λ h.
-    cond-case Refusing (eqb s e) _ _ (λ q. tt) (λ q. refusing-named bytes ends names name-bytes name i s e))) (λ v used. refl)
+    cond-case Refusing (eqb s e) _ _ (λ q. tt) (λ q. never-named bytes ends names name-bytes name i s e))) (λ v used. refl)
 
 refusing : (t : List ℕ) (used : ℕ) (bytes ends : List ℕ) (names name-bytes : ℕ) (rec : List ℕ) → Refusing (timeJudged t used bytes ends names name-bytes rec)
-unfolding timeJudged usedTold
+unfolding timeJudged judged usedTold
 refusing t used bytes ends names name-bytes rec =
     cond-case Refusing (tableFits (length t) used && listFits (length bytes) (length ends) names name-bytes) _ _ (λ f.
     cond-case Refusing (wellFormed sameValue knownValue names (rows t used) && wellFormedNames bytes ends names name-bytes) _ _
-    (λ w. refusing-wanted bytes ends names name-bytes (nameIn rec) (mappedIn rec)) (λ w used′. refl)) (λ f used′. refl)
+    (λ w. never-wanted bytes ends names name-bytes (nameIn rec) (mappedIn rec)) (λ w used′. refl)) (λ f used′. refl)
 
 -- the answers of an insert and of a mapping call with one outcome tell the same
-module _ (names name-bytes : ℕ) (name : List ℕ) (new : Bool) where
-  same-used : (used : ℕ) (o : Outcome (Row ℕ)) → usedTold used (outcomeAnswer o) ≡ usedTold used (outcomeThen names name-bytes name new o)
-  unfolding usedTold outcomeAnswer
-  same-used used (refusedBy c) = refl
-  same-used used (stored ys) = refl
+module _ (t : List ℕ) (used : ℕ) (bytes ends : List ℕ) (names name-bytes : ℕ) (name : List ℕ) (new : Bool) where
+  abbrev said : Outcome (Row ℕ) → Answer
+  said o = leftBy t bytes ends names name-bytes name (outcomeComes t used new o) .says
 
-  same-done : (n : Row ℕ) (ns : List (Row ℕ)) (o : Outcome (Row ℕ)) → doneTold n ns (outcomeAnswer o) ≡ doneTold n ns (outcomeThen names name-bytes name new o)
-  unfolding doneTold outcomeAnswer
+  same-used : (o : Outcome (Row ℕ)) → usedTold used (outcomeAnswer o) ≡ usedTold used (said o)
+  unfolding usedTold outcomeAnswer leftBy
+  same-used (refusedBy c) = refl
+  same-used (stored ys) = refl
+
+  same-done : (n : Row ℕ) (ns : List (Row ℕ)) (o : Outcome (Row ℕ)) → doneTold n ns (outcomeAnswer o) ≡ doneTold n ns (said o)
+  unfolding doneTold outcomeAnswer leftBy
   same-done n ns (refusedBy c) = refl
   same-done n ns (stored ys) = refl
 
+  same-gives : (o : Outcome (Row ℕ)) (a : Answer) (t′ b′ e′ : List ℕ)
+      → Leaves rows (outcomeComes t used new o) (leftBy t bytes ends names name-bytes name (outcomeComes t used new o)) t used a t′ b′ e′ → Gives o t used (outcomeAnswer o) t′
+  unfolding leftBy memoryAfter usedAfter rowsWritten nowStored
+  same-gives (refusedBy c) a t′ b′ e′ l = record { answers = refl; memory = l .table; holds = l .holds }
+  same-gives (stored ys) a t′ b′ e′ l = record { answers = refl; memory = l .table; holds = l .holds }
+
 -- calls, and then a mapping call that answers a and leaves t′: where it stores a symbol it is an insert of its row, else nothing changes
 module _ {ns : List (Row ℕ)} {t : List ℕ} {used : ℕ} (c : Trace ns t used) (bytes ends : List ℕ) (names name-bytes : ℕ) (rec : List ℕ) where
-  abbrev judged : Wanted
-  judged = timeJudged t used bytes ends names name-bytes rec
+  abbrev asked : Wanted
+  asked = timeJudged t used bytes ends names name-bytes rec
 
-  pub mapping-traced : (a : Answer) (t′ : List ℕ) → a ≡ timeAnswer t used names name-bytes (nameIn rec) judged → t′ ≡ timeTable t used judged
-      → rows t′ (timeUsed t used judged) ≡ timeRows t used judged → Trace (mappedTold judged ns a) t′ (usedTold used a)
-  unfolding mappedTold timeAnswer timeTable timeUsed timeRows usedTold insertOutcome
-  mapping-traced a t′ = go judged refl
+  pub mapping-traced : (a : Answer) (t′ b′ e′ : List ℕ) → TimeLeaves t used bytes ends names name-bytes rec a t′ b′ e′ → Trace (mappedTold asked ns a) t′ (usedTold used a)
+  unfolding mappedTold timeLeft timeComes leftBy usedTold insertOutcome
+  mapping-traced a t′ b′ e′ = go asked refl
     where
-      go : (w : Wanted) → judged ≡ w → a ≡ timeAnswer t used names name-bytes (nameIn rec) w → t′ ≡ timeTable t used w
-          → rows t′ (timeUsed t used w) ≡ timeRows t used w → Trace (mappedTold w ns a) t′ (usedTold used a)
-      go nothing j h m r = rw (h, m) c
-      go (refuses q) j h m r =
+      go : (w : Wanted) → asked ≡ w → Leaves rows (timeComes t used w) (leftBy t bytes ends names name-bytes (nameIn rec) (timeComes t used w)) t used a t′ b′ e′
+          → Trace (mappedTold w ns a) t′ (usedTold used a)
+      go nothing j l = rw (l .says, l .table, length-rows t 0 used) c
+      go (refuses q) j l =
           let z : Refusing (refuses q) = rw j at (refusing t used bytes ends names name-bytes rec) in
-          rw (h, m, z used) c
-      go (stores i s e n new) j h m r =
-          let p = passed t used bytes ends names name-bytes rec j in
+          rw (l .says, l .table, z used) c
+      go (stores i s e n new) j l =
+          let p = time-passed t used bytes ends names name-bytes rec j in
           let x = mappingRow i s e n in
           let o = timeOutcome t used i s e n in
           let known = namesThen new names in
           let even : T (eqb (length t % width) 0) = rw (table-lent (length t) used (p .fits) .even) (eqb-refl 0) in
-          let same : insertOutcome t used known x ≡ o = cond-yes (eqb (length t % width) 0) _ _ even ∙ stores-insert t used names i s e n new p in
-          let g : Gives (insertOutcome t used known x) t used (outcomeAnswer o) t′ = rw same (record { answers = refl; memory = m; holds = r }) in
-          let d : doneTold x ns (outcomeAnswer o) ≡ doneTold x ns a = same-done names name-bytes (nameIn rec) new x ns o ∙ ap (doneTold x ns) (sym h) in
-          let u : usedTold used (outcomeAnswer o) ≡ usedTold used a = same-used names name-bytes (nameIn rec) new used o ∙ ap (usedTold used) (sym h) in
+          let same : insertOutcome t used known x ≡ o = cond-yes (eqb (length t % width) 0) _ _ even ∙ stores-insert t used bytes ends names name-bytes rec i s e n new p in
+          let g : Gives (insertOutcome t used known x) t used (outcomeAnswer o) t′ = rw same (same-gives t used bytes ends names name-bytes (nameIn rec) new o a t′ b′ e′ l) in
+          let d : doneTold x ns (outcomeAnswer o) ≡ doneTold x ns a = same-done t used bytes ends names name-bytes (nameIn rec) new x ns o ∙ ap (doneTold x ns) (sym (l .says)) in
+          let u : usedTold used (outcomeAnswer o) ≡ usedTold used a = same-used t used bytes ends names name-bytes (nameIn rec) new o ∙ ap (usedTold used) (sym (l .says)) in
           subst (λ (k : ℕ). Trace (doneTold x ns a) t′ k) u
-          (subst (λ (l : List (Row ℕ)). Trace l t′ (usedTold used (outcomeAnswer o))) d (insert c known x (outcomeAnswer o) t′ g))
+          (subst (λ (m : List (Row ℕ)). Trace m t′ (usedTold used (outcomeAnswer o))) d (insert c known x (outcomeAnswer o) t′ g))
 
 -- ---- on a point-in-time table
-
-point-known : (bytes ends : List ℕ) (names name-bytes : ℕ) (name : List ℕ) (m : Mapped) {i s e n : ℕ} {new : Bool} → names ≤ 4096
-    → pointWanted bytes ends names name-bytes name m ≡ stores i s e n new
-    → (n < namesThen new names) × (isName name ≡ true) × (numberingIn bytes ends names name-bytes name ≡ named new n)
-unfolding pointWanted numberingIn
-point-known bytes ends names name-bytes name other few h = let z : _≡_ {A = ℕ} 0 1 = cc in absurd (omega arith)
-point-known bytes ends names name-bytes name (notOne reason) few h = let z : _≡_ {A = ℕ} 0 1 = cc in absurd (omega arith)
-point-known bytes ends names name-bytes name (symbol j a b) few h =
-    let number = numbered j a b (numberingIn bytes ends names name-bytes name) in
-    let p = chosen (isName name) number (refused BadName) h in
-    let k = numbered-known (length bytes) (length ends) names name-bytes (length name) _ j a b few (p .1) in
-    (k .0, p .0, numbered-is (numberingIn bytes ends names name-bytes name) j a b (p .1))
-
--- what a call that stores has passed, and what naming makes of its name
-pub record PointPassed (t : List ℕ) (used : ℕ) (bytes ends : List ℕ) (names name-bytes : ℕ) (name : List ℕ) (n : ℕ) (new : Bool) : Type 0 where
-  pub formed : points.wellFormed names (entries t used) ≡ true
-  pub known : n < namesThen new names
-  pub naming-is : naming bytes ends names name-bytes name ≡ named new n
-
-pub point-passed : (t : List ℕ) (used : ℕ) (bytes ends : List ℕ) (names name-bytes : ℕ) (rec : List ℕ) {i s e n : ℕ} {new : Bool}
-    → pointJudged t used bytes ends names name-bytes rec ≡ stores i s e n new → PointPassed t used bytes ends names name-bytes (nameIn rec) n new
-unfolding pointJudged
-point-passed t used bytes ends names name-bytes rec h =
-    let w = pointWanted bytes ends names name-bytes (nameIn rec) (mappedIn rec) in
-    let fit = pointsFit (length t) used in
-    let lent = listFits (length bytes) (length ends) names name-bytes in
-    let entriesOk = points.wellFormed names (entries t used) in
-    let listOk = wellFormedNames bytes ends names name-bytes in
-    let p = chosen (fit && lent) (cond (entriesOk && listOk) w (refuses (refused IllFormed))) (refused BadMemory) h in
-    let q = chosen (entriesOk && listOk) w (refused IllFormed) (p .1) in
-    let m : Memory (length bytes) (length ends) names name-bytes = memory _ _ _ _ (and-right fit lent (p .0)) in
-    let k = point-known bytes ends names name-bytes (nameIn rec) (mappedIn rec) (omega (arith, m .held, m .few)) (q .1) in
-    record {
-      formed = and-left entriesOk listOk (q .0);
-      known = k .0;
-      naming-is = named-so bytes ends names name-bytes (nameIn rec) (and-right fit lent (p .0)) (and-right entriesOk listOk (q .0)) (k .1) ∙ k .2;
-    }
 
 entries-more : (names more : ℕ) (xs : List Entry) → names ≤ more → T (points.allKnown names xs) → T (points.allKnown more xs)
 unfolding points.allKnown
@@ -330,10 +315,10 @@ entries-more names more (x ∷ xs) h k =
     (entries-more names more xs h (T-snd (ltb (x .symbol) names) (points.allKnown names xs) k))
 
 -- the entries that it sets are well-formed with the names known then
-pub point-formed : (t : List ℕ) (used : ℕ) (bytes ends : List ℕ) (names name-bytes : ℕ) (name : List ℕ) (i n : ℕ) (new : Bool)
-    → PointPassed t used bytes ends names name-bytes name n new → points.wellFormed (namesThen new names) (pointOutcome t used i n) ≡ true
+pub point-formed : (t : List ℕ) (used : ℕ) (bytes ends : List ℕ) (names name-bytes : ℕ) (rec : List ℕ) (i s e n : ℕ) (new : Bool)
+    → PointPassed t used bytes ends names name-bytes rec s e n new → points.wellFormed (namesThen new names) (pointOutcome t used i n) ≡ true
 unfolding points.wellFormed pointOutcome
-point-formed t used bytes ends names name-bytes name i n new p =
+point-formed t used bytes ends names name-bytes rec i s e n new p =
     let xs = entries t used in
     let x : Entry = record { instrument = i; symbol = n } in
     let more = namesThen new names in

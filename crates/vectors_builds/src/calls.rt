@@ -1,5 +1,8 @@
 // Cases of both builds: what each answers, and every byte that the lent table then holds; before, it holds 9s. Metadata and name
 // list are only read.
+use build_rules::call::Built;
+use build_rules::call::number_of;
+use build_rules::call::used_of;
 use metadata_form::header::Header;
 use vectors_side::Side;
 use vectors_side::at_most;
@@ -35,68 +38,30 @@ pub struct Names {
 // The most bytes of a table here.
 const TABLE: usize = 1024;
 
-// A table before a build.
-fn nines() -> [u8; 1024]
+// A table of one byte throughout.
+fn filled(byte: u8) -> [u8; 1024]
     ensures { λ r. ⌜ 1024 ≡ length r ⌝ }
 {
-    [9; 1024]
+    [byte; 1024]
 }
 
-// A table that holds nothing.
-fn zeros() -> [u8; 1024]
-    ensures { λ r. ⌜ 1024 ≡ length r ⌝ }
-{
-    [0; 1024]
-}
-
-// Memory for name list and metadata: one byte, name, entry and mapping more than the rules allow, and some intervals.
+// Memory for name list and metadata: one byte, name, entry and mapping more than the rules allow.
 fn list_bytes() -> [u8; 65537]
     ensures { λ r. ⌜ 65537 ≡ length r ⌝ }
 {
     [0; 65537]
 }
 
-fn entries() -> [u32; 4097]
-    ensures { λ r. ⌜ 4097 ≡ length r ⌝ }
-{
-    [0; 4097]
-}
-
-fn mapping_words() -> [u32; 8194]
+fn words() -> [u32; 8194]
     ensures { λ r. ⌜ 8194 ≡ length r ⌝ }
 {
     [0; 8194]
 }
 
-fn interval_words() -> [u32; 240]
-    ensures { λ r. ⌜ 240 ≡ length r ⌝ }
-{
-    [0; 240]
-}
-
-fn over_time_says(built: build_time::over_time::Built) -> Said {
-    match built {
-        build_time::over_time::Built::Done(used) => Said {
-            number: 0,
-            used: used as u64,
-        },
-        build_time::over_time::Built::Refused(r) => Said {
-            number: leaves::refusal::number(r) as u64,
-            used: 0,
-        },
-    }
-}
-
-fn point_says(built: build_point::build::Built) -> Said {
-    match built {
-        build_point::build::Built::Done(used) => Said {
-            number: 0,
-            used: used as u64,
-        },
-        build_point::build::Built::Refused(r) => Said {
-            number: leaves::refusal::number(r) as u64,
-            used: 0,
-        },
+fn told(built: Built) -> Said {
+    Said {
+        number: number_of(built) as u64,
+        used: used_of(built) as u64,
     }
 }
 
@@ -130,7 +95,7 @@ pub fn says(
                 names,
                 name_bytes,
             );
-            over_time_says(built)
+            told(built)
         }
         Call::PointInTime(date) => {
             let built = build_point::build::point_in_time(
@@ -147,7 +112,7 @@ pub fn says(
                 name_bytes,
                 date,
             );
-            point_says(built)
+            told(built)
         }
     }
 }
@@ -225,7 +190,7 @@ fn is_expected(text: &[u8], at: usize, said: Said, table: &[u8]) -> bool {
     if TABLE < l {
         return false;
     }
-    let mut expected = zeros();
+    let mut expected = filled(0);
     vectors_text::bytes_at(text, used.next, &mut expected);
     check::same(table, &expected[..l])
 }
@@ -268,16 +233,16 @@ fn is_so(
 // Whether the build at a place of the text is answered as expected.
 fn is_built(text: &[u8], at: usize, call: Call) -> bool {
     let mut b = list_bytes();
-    let mut e = entries();
-    let mut s = entries();
-    let mut p = entries();
-    let mut n = entries();
-    let mut m = mapping_words();
-    let mut v = interval_words();
+    let mut e = words();
+    let mut s = words();
+    let mut p = words();
+    let mut n = words();
+    let mut m = words();
+    let mut v = words();
     let lent = vectors_text::number_at(text, at);
     let names = names_at(text, lent.next, &mut b, &mut e);
     let a = side_at(text, names.next, &mut s, &mut p, &mut n, &mut m, &mut v);
-    let mut table = nines();
+    let mut table = filled(9);
     let l = at_most(lent.value, TABLE);
     is_so(
         text,

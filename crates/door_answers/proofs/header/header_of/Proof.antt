@@ -1,9 +1,9 @@
 -- Each word fits its field, as the test of the header says. Assumes nothing.
 use native.Mathlib.Omega.{arith}
-use mathlib.Core.Path.{_∙_, ap}
+use mathlib.Core.Path.{ap}
 use lib.Dec.{eqb}
 use denote.Ref.{now}
-use Prim.Native.Nat.{ℕ}
+use Prim.Native.Nat.{ℕ, _≤_}
 use Rattle.door_answers.specs.HeaderLaws.{word-fits, header-same}
 use borrow.Author.Needs.{needs}
 use Rattle.door_answers.proofs.header.header_of.Statement.{statement}
@@ -12,46 +12,56 @@ use Rattle.door_answers.proofs.header.header_of.Tie as tie
 word-requires : tie.Need-word-requires
 word-requires c κs = search needs
 
-of-8-requires : tie.Need-of-8-requires
-of-8-requires c κs = word-fits (now (c .before .before .args .words)) (c .before .before .pre) 0 (omega arith) (c .word .ensures)
+cast-t3 : tie.Need-cast-t3
+cast-t3 c =
+    let d = c .before .before in
+    let f : c .word .result ≤ 255 = word-fits (now (d .args .words)) (d .pre) 0 (omega arith) (c .word .ensures) in
+    omega (arith, f)
 
 word-requires-2 : tie.Need-word-requires-2
 word-requires-2 c κs = search needs
 
-of-32-requires : tie.Need-of-32-requires
-of-32-requires c κs = word-fits (now (c .before .before .before .before .args .words)) (c .before .before .before .before .pre) 1 (omega arith) (c .word2 .ensures)
+cast-t5 : tie.Need-cast-t5
+cast-t5 c =
+    let d = c .before .before .before in
+    let f : c .word2 .result ≤ 4294967295 = word-fits (now (d .args .words)) (d .pre) 1 (omega arith) (c .word2 .ensures) in
+    omega (arith, f)
 
 word-requires-3 : tie.Need-word-requires-3
 word-requires-3 c κs = search needs
 
-of-16-requires : tie.Need-of-16-requires
-of-16-requires c κs = word-fits (now (c .before .before .before .before .before .before .args .words)) (c .before .before .before .before .before .before .pre) 2 (omega arith) (c .word3 .ensures)
+cast-t7 : tie.Need-cast-t7
+cast-t7 c =
+    let d = c .before .before .before .before in
+    let f : c .word3 .result ≤ 65535 = word-fits (now (d .args .words)) (d .pre) 2 (omega arith) (c .word3 .ensures) in
+    omega (arith, f)
 
 word-requires-4 : tie.Need-word-requires-4
 word-requires-4 c κs = search needs
 
-of-8-requires-2 : tie.Need-of-8-requires-2
-of-8-requires-2 c κs = word-fits (now (c .before .before .before .before .before .before .before .before .args .words)) (c .before .before .before .before .before .before .before .before .pre) 6 (omega arith) (c .word4 .ensures)
-
 word-requires-5 : tie.Need-word-requires-5
 word-requires-5 c κs = search needs
-
-of-8-requires-3 : tie.Need-of-8-requires-3
-of-8-requires-3 c κs =
-    let c10 = c .before .before .before .before .before .before .before .before .before .before in
-    word-fits (now (c10 .args .words)) (c10 .pre) 7 (omega arith) (c .word5 .ensures)
 
 word-requires-6 : tie.Need-word-requires-6
 word-requires-6 c κs = search needs
 
-is-one-requires : tie.Need-is-one-requires
-is-one-requires c κs = search needs
-
 word-requires-7 : tie.Need-word-requires-7
 word-requires-7 c κs = search needs
 
+cast-t12 : tie.Need-cast-t12
+cast-t12 c =
+    let d = c .before .before .before .before .before .before .before .before in
+    let f : c .word7 .result ≤ 255 = word-fits (now (d .args .words)) (d .pre) 6 (omega arith) (c .word7 .ensures) in
+    omega (arith, f)
+
 word-requires-8 : tie.Need-word-requires-8
 word-requires-8 c κs = search needs
+
+cast-t14 : tie.Need-cast-t14
+cast-t14 c =
+    let d = c .before .before .before .before .before .before .before .before .before in
+    let f : c .word8 .result ≤ 255 = word-fits (now (d .args .words)) (d .pre) 7 (omega arith) (c .word8 .ensures) in
+    omega (arith, f)
 
 word-requires-9 : tie.Need-word-requires-9
 word-requires-9 c κs = search needs
@@ -73,22 +83,16 @@ word-requires-14 c κs = search needs
 
 returns : tie.Need-returns
 returns c =
-    let c12 = c .before .before .before .before .before .before .before .before .before .before .before .before in
-    let c15 = c12 .before .before .before in
-    let c18 = c15 .before .before .before in
-    let c21 = c18 .before .before .before in
-    header-same (now (c21 .args .words))
-    (c18 .of-8 .ensures ∙ c18 .before .word .ensures)
-    (c15 .before .of-32 .ensures ∙ c15 .before .before .word2 .ensures)
-    (c12 .before .before .of-16 .ensures ∙ c15 .word3 .ensures)
+    header-same (now (c .before .before .before .before .before .before .before .before .before .before .before .before .before .before .before .args .words))
+    (c .before .before .before .before .before .before .before .before .before .before .before .before .before .word .ensures)
+    (c .before .before .before .before .before .before .before .before .before .before .before .before .word2 .ensures)
+    (c .before .before .before .before .before .before .before .before .before .before .before .word3 .ensures)
+    (c .before .before .before .before .before .before .before .before .before .before .word4 .ensures)
+    (c .before .before .before .before .before .before .before .before .before .word5 .ensures)
+    (c .before .before .before .before .before .before .before .before .word6 .ensures)
     (c .before .before .before .before .before .before .before .word7 .ensures)
     (c .before .before .before .before .before .before .word8 .ensures)
-    (c .before .before .before .before .before .word9 .ensures)
-    (c12 .of-82 .ensures ∙ c12 .before .word4 .ensures)
-    (c .before .before .before .before .before .before .before .before .before .before .of-83 .ensures ∙
-    c .before .before .before .before .before .before .before .before .before .before .before .word5 .ensures)
-    (c .before .before .before .before .before .before .before .before .is-one .ensures ∙ ap (λ (n : ℕ). eqb n 1)
-    (c .before .before .before .before .before .before .before .before .before .word6 .ensures))
+    (ap (λ (n : ℕ). eqb n 1) (c .before .before .before .before .before .word9 .ensures))
     (c .before .before .before .before .word10 .ensures)
     (c .before .before .before .word11 .ensures)
     (c .before .before .word12 .ensures)
@@ -100,19 +104,18 @@ header-of-spec =
     tie.close
     (tie.spec
     word-requires
-    of-8-requires
+    cast-t3
     word-requires-2
-    of-32-requires
+    cast-t5
     word-requires-3
-    of-16-requires
+    cast-t7
     word-requires-4
-    of-8-requires-2
     word-requires-5
-    of-8-requires-3
     word-requires-6
-    is-one-requires
     word-requires-7
+    cast-t12
     word-requires-8
+    cast-t14
     word-requires-9
     word-requires-10
     word-requires-11

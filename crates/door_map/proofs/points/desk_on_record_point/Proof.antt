@@ -1,6 +1,7 @@
 -- Each arm of the match is what its case says. Assumes nothing.
+use mathlib.Core.Path.{sym, ap}
 use Rattle.map_record.specs.Mapping.{recordedOf}
-use Rattle.door_answers.specs.AnswersLaws.{answer-same, done-number, done-value, done-damage, not-number, not-value, not-damage}
+use Rattle.door_map.specs.OnRecordLaws.{tells-done, tells-refused}
 use borrow.Author.Needs.{needs}
 use Rattle.door_map.proofs.points.desk_on_record_point.Statement.{statement}
 use Rattle.door_map.proofs.points.desk_on_record_point.Tie as tie
@@ -32,20 +33,8 @@ same-length-3 c = search needs
 returns : tie.Need-returns
 returns c =
     let a = c .before .before .before .before .before .before .before .before .before .before .before .before .before .before .before .before .before .before .before .before .args in
-    let x = c .before .before .before .before .before .before .before .before .before .on-record-point .ensures in
-    let e = answer-same recordedOf (x .0) (c .before .recorded .given .1) in (
-      done-number e,
-      (
-        done-value (a .used .now) 0 e,
-        (
-          done-value (a .names .now) 1 e,
-          (
-            done-value (a .name-bytes .now) 2 e,
-            (done-damage (a .reason .now) 2 e, (x .1 .0, (x .1 .1 .0, x .1 .1 .1 .0))),
-          ),
-        ),
-      ),
-    )
+    let e = sym (ap recordedOf (c .before .recorded .given .1)) in
+    tells-done (a .used .now) (a .names .now) (a .name-bytes .now) (a .reason .now) (c .before .before .before .before .before .before .before .before .before .on-record-point .ensures) e
 
 same-length-4 : tie.Need-same-length-4
 same-length-4 c = search needs
@@ -59,21 +48,9 @@ same-length-6 c = search needs
 returns-2 : tie.Need-returns-2
 returns-2 c =
     let a = c .before .before .before .before .before .before .before .before .before .before .before .before .before .before .before .before .before .before .before .before .before .before .before .args in
-    let x = c .before .before .before .before .before .before .before .before .before .before .before .before .on-record-point .ensures in
-    let e = answer-same recordedOf (x .0) (c .before .before .before .before .recorded2 .given .1) in
-    let r = c .before .before .before .before .recorded2 .given .0 .0 in (
-      not-number r (c .number .ensures) e,
-      (
-        not-value r (a .used .now) 0 e,
-        (
-          not-value r (a .names .now) 1 e,
-          (
-            not-value r (a .name-bytes .now) 2 e,
-            (not-damage r (a .reason .now) 2 (c .before .reason-in .ensures) e, (x .1 .0, (x .1 .1 .0, x .1 .1 .1 .0))),
-          ),
-        ),
-      ),
-    )
+    let e = sym (ap recordedOf (c .before .before .before .before .recorded2 .given .1)) in
+    tells-refused (a .used .now) (a .names .now) (a .name-bytes .now) (a .reason .now) (c .before .before .before .before .before .before .before .before .before .before .before .before .on-record-point .ensures) (c .before .before .before .before .recorded2 .given .0 .0) e
+    (c .number .ensures) (c .before .reason-in .ensures)
 
 pub desk-on-record-point-spec : {M : Type 1} → statement M
 desk-on-record-point-spec =

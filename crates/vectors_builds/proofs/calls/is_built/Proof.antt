@@ -9,23 +9,23 @@ use Rattle.vectors_builds.proofs.calls.is_built.Tie as tie
 list-bytes-requires : tie.Need-list-bytes-requires
 list-bytes-requires c κs = search needs
 
-entries-requires : tie.Need-entries-requires
-entries-requires c κs = search needs
+words-requires : tie.Need-words-requires
+words-requires c κs = search needs
 
-entries-requires-2 : tie.Need-entries-requires-2
-entries-requires-2 c κs = search needs
+words-requires-2 : tie.Need-words-requires-2
+words-requires-2 c κs = search needs
 
-entries-requires-3 : tie.Need-entries-requires-3
-entries-requires-3 c κs = search needs
+words-requires-3 : tie.Need-words-requires-3
+words-requires-3 c κs = search needs
 
-entries-requires-4 : tie.Need-entries-requires-4
-entries-requires-4 c κs = search needs
+words-requires-4 : tie.Need-words-requires-4
+words-requires-4 c κs = search needs
 
-mapping-words-requires : tie.Need-mapping-words-requires
-mapping-words-requires c κs = search needs
+words-requires-5 : tie.Need-words-requires-5
+words-requires-5 c κs = search needs
 
-interval-words-requires : tie.Need-interval-words-requires
-interval-words-requires c κs = search needs
+words-requires-6 : tie.Need-words-requires-6
+words-requires-6 c κs = search needs
 
 number-at-requires : tie.Need-number-at-requires
 number-at-requires c κs = search needs
@@ -57,8 +57,8 @@ slice-aggregate-side-at-5 c = search needs
 side-at-requires : tie.Need-side-at-requires
 side-at-requires c κs = search needs
 
-nines-requires : tie.Need-nines-requires
-nines-requires c κs = search needs
+filled-requires : tie.Need-filled-requires
+filled-requires c κs = search needs
 
 at-most-requires : tie.Need-at-most-requires
 at-most-requires c κs = search needs
@@ -67,7 +67,7 @@ array-borrow-prefix-table : tie.Need-array-borrow-prefix-table
 array-borrow-prefix-table c = search needs
 
 slice-aggregate-is-so : tie.Need-slice-aggregate-is-so
-slice-aggregate-is-so c = sym (length-take-le _ _ (omega (arith, c .before .at-most .ensures, c .before .before .nines .ensures)))
+slice-aggregate-is-so c = sym (length-take-le _ _ (omega (arith, c .before .at-most .ensures, c .before .before .filled .ensures)))
 
 slice-aggregate-is-so-2 : tie.Need-slice-aggregate-is-so-2
 slice-aggregate-is-so-2 c = search needs
@@ -101,12 +101,12 @@ is-built-spec =
     tie.close
     (tie.spec
     list-bytes-requires
-    entries-requires
-    entries-requires-2
-    entries-requires-3
-    entries-requires-4
-    mapping-words-requires
-    interval-words-requires
+    words-requires
+    words-requires-2
+    words-requires-3
+    words-requires-4
+    words-requires-5
+    words-requires-6
     number-at-requires
     slice-aggregate-names-at
     slice-aggregate-names-at-2
@@ -117,7 +117,7 @@ is-built-spec =
     slice-aggregate-side-at-4
     slice-aggregate-side-at-5
     side-at-requires
-    nines-requires
+    filled-requires
     at-most-requires
     array-borrow-prefix-table
     slice-aggregate-is-so

@@ -21,8 +21,8 @@ returns-2 c = search needs
 returns-3 : tie.Need-returns-3
 returns-3 c = search needs
 
-zeros-requires : tie.Need-zeros-requires
-zeros-requires c κs = search needs
+filled-requires : tie.Need-filled-requires
+filled-requires c κs = search needs
 
 slice-aggregate-bytes-at : tie.Need-slice-aggregate-bytes-at
 slice-aggregate-bytes-at c = search needs
@@ -51,7 +51,7 @@ is-expected-spec =
     returns
     returns-2
     returns-3
-    zeros-requires
+    filled-requires
     slice-aggregate-bytes-at
     bytes-at-requires
     array-share-prefix-expected

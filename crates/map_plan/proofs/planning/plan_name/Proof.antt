@@ -1,9 +1,9 @@
 -- The name is sought, and room for it is judged where it is new. Assumes nothing.
 use native.Mathlib.Omega.{arith}
-use Rattle.map_record.specs.MappingLaws.{find-ready, few-names, plan-old, plan-new, plan-none, lies-old, lies-new}
+use Rattle.map_plan.specs.WantedLaws.{find-ready, few-names, plan-old, plan-new, plan-none, lies-old, lies-new}
 use borrow.Author.Needs.{needs}
-use Rattle.map_record.proofs.mapping.plan_name.Statement.{statement}
-use Rattle.map_record.proofs.mapping.plan_name.Tie as tie
+use Rattle.map_plan.proofs.planning.plan_name.Statement.{statement}
+use Rattle.map_plan.proofs.planning.plan_name.Tie as tie
 
 find-name-requires : tie.Need-find-name-requires
 find-name-requires c κs =
