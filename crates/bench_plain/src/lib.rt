@@ -17,7 +17,7 @@ ghost use Rattle.records_rules.specs.Bytes.{streamsOf};
 ghost use Rattle.records_rules.specs.State.{rightStreams, opening, Small};
 ghost use Rattle.records_plain.specs.Plain.{plainFits, PlainUntouched, PlainOpened, PlainSays};
 ghost use Rattle.door_answers.specs.Answers.{numberIn, valueIn};
-ghost use Rattle.door_records.specs.Merge.{turnAnswer, Handed};
+ghost use Rattle.door_records.specs.Merge.{turnAnswer, numbers, Handed};
 
 // Opens the streams of a buffer between its cuts, each at its hint: 0, 15 or 12; `streams` becomes the streams.
 #[no_mangle]
@@ -76,14 +76,14 @@ pub extern "C" fn plain_next(
     reason: &mut u64,
 ) -> u32
     ensures { λ r. ⌜ (plainFits streams (now (marks .entry)) (now (times .entry)) (now (places .entry)) (now (heads .entry)) ≡ false
-        → Handed (answer 15 []) r (now (found .entry)) (now (stream .entry)) (now (place .entry)) (now (long .entry)) (now (kind .entry)) (now (instrument .entry)) (now (time .entry)) (now (reason .entry))
-        (now (found .exit)) (now (stream .exit)) (now (place .exit)) (now (long .exit)) (now (kind .exit)) (now (instrument .exit)) (now (time .exit)) (now (reason .exit))
+        → Handed (answer 15 []) r (numbers (now (found .entry)) (now (stream .entry)) (now (place .entry)) (now (long .entry)) (now (kind .entry)) (now (instrument .entry)) (now (time .entry)) (now (reason .entry)))
+        (numbers (now (found .exit)) (now (stream .exit)) (now (place .exit)) (now (long .exit)) (now (kind .exit)) (now (instrument .exit)) (now (time .exit)) (now (reason .exit)))
         × PlainUntouched (now (marks .entry)) (now (times .entry)) (now (places .entry)) (now (heads .entry)) (now (marks .exit)) (now (times .exit)) (now (places .exit)) (now (heads .exit))) ⌝ }
     ensures { λ r. ⌜ (plainFits streams (now (marks .entry)) (now (times .entry)) (now (places .entry)) (now (heads .entry)) ≡ true
         → Small streams (now (places .entry)) (now (heads .entry))
         → Handed (turnAnswer (streamsOf (now (buffer .entry)) (now (cuts .entry))) streams (now (marks .entry)) (now (times .entry)) (now (places .entry)) (now (heads .entry)))
-        r (now (found .entry)) (now (stream .entry)) (now (place .entry)) (now (long .entry)) (now (kind .entry)) (now (instrument .entry)) (now (time .entry)) (now (reason .entry))
-        (now (found .exit)) (now (stream .exit)) (now (place .exit)) (now (long .exit)) (now (kind .exit)) (now (instrument .exit)) (now (time .exit)) (now (reason .exit))
+        r (numbers (now (found .entry)) (now (stream .entry)) (now (place .entry)) (now (long .entry)) (now (kind .entry)) (now (instrument .entry)) (now (time .entry)) (now (reason .entry)))
+        (numbers (now (found .exit)) (now (stream .exit)) (now (place .exit)) (now (long .exit)) (now (kind .exit)) (now (instrument .exit)) (now (time .exit)) (now (reason .exit)))
         × PlainSays (streamsOf (now (buffer .entry)) (now (cuts .entry))) streams (now (marks .entry)) (now (times .entry)) (now (places .entry)) (now (heads .entry))
         (turnAnswer (streamsOf (now (buffer .entry)) (now (cuts .entry))) streams (now (marks .entry)) (now (times .entry)) (now (places .entry)) (now (heads .entry)))
         (now (marks .exit)) (now (times .exit)) (now (places .exit)) (now (heads .exit))) ⌝ }

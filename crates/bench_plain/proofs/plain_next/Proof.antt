@@ -2,6 +2,7 @@
 use mathlib.Core.Path.{refl}
 use Rattle.records.specs.Merge.{turnOf}
 use Rattle.door_answers.specs.AnswersLaws.{answer-same}
+use Rattle.door_records.specs.Merge.{numbers}
 use Rattle.door_records.specs.MergeLaws.{handed-record, handed-end, handed-not}
 use borrow.Author.Needs.{needs}
 use Rattle.bench_plain.proofs.plain_next.Statement.{statement}
@@ -47,16 +48,15 @@ returns : tie.Need-returns
 returns c =
     let call = c .before .before .before .before .before .before .before .before .before .before .before in
     let x = call .next .ensures in
-    let a = call .before .before .before .before .before .before .before .before .before .before .before .args in (
+    let a = call .before .before .before .before .before .before .before .before .before .before .before .args in
+    let before = numbers (a .found .now) (a .stream .now) (a .place .now) (a .long .now) (a .kind .now) (a .instrument .now) (a .time .now) (a .reason .now) in (
       λ w. (
-        handed-record (a .found .now) (a .stream .now) (a .place .now) (a .long .now) (a .kind .now) (a .instrument .now) (a .time .now) (a .reason .now)
-            (answer-same turnOf (x .refused w .0) (c .before .answer .given .1)),
+        handed-record before (answer-same turnOf (x .refused w .0) (c .before .answer .given .1)),
         x .refused w .1,
       ),
       λ w s.
           let y = x .told w s in (
-            handed-record (a .found .now) (a .stream .now) (a .place .now) (a .long .now) (a .kind .now) (a .instrument .now) (a .time .now) (a .reason .now)
-                (answer-same turnOf (y .heard) (c .before .answer .given .1)),
+            handed-record before (answer-same turnOf (y .heard) (c .before .answer .given .1)),
             record { heard = refl; leaves = y .leaves; small = y .small },
           ),
     )
@@ -77,16 +77,15 @@ returns-2 : tie.Need-returns-2
 returns-2 c =
     let call = c .before .before .before .before .before .before .before .before .before .before in
     let x = call .next .ensures in
-    let a = call .before .before .before .before .before .before .before .before .before .before .before .args in (
+    let a = call .before .before .before .before .before .before .before .before .before .before .before .args in
+    let before = numbers (a .found .now) (a .stream .now) (a .place .now) (a .long .now) (a .kind .now) (a .instrument .now) (a .time .now) (a .reason .now) in (
       λ w. (
-        handed-end (a .found .now) (a .stream .now) (a .place .now) (a .long .now) (a .kind .now) (a .instrument .now) (a .time .now) (a .reason .now)
-            (answer-same turnOf (x .refused w .0) (c .enum-told .given .1)),
+        handed-end before (answer-same turnOf (x .refused w .0) (c .enum-told .given .1)),
         x .refused w .1,
       ),
       λ w s.
           let y = x .told w s in (
-            handed-end (a .found .now) (a .stream .now) (a .place .now) (a .long .now) (a .kind .now) (a .instrument .now) (a .time .now) (a .reason .now)
-                (answer-same turnOf (y .heard) (c .enum-told .given .1)),
+            handed-end before (answer-same turnOf (y .heard) (c .enum-told .given .1)),
             record { heard = refl; leaves = y .leaves; small = y .small },
           ),
     )
@@ -107,17 +106,16 @@ returns-3 : tie.Need-returns-3
 returns-3 c =
     let call = c .before .before .before .before .before .before .before .before .before .before .before .before .before .before .before .before .before .before in
     let x = call .next .ensures in
-    let a = call .before .before .before .before .before .before .before .before .before .before .before .args in (
+    let a = call .before .before .before .before .before .before .before .before .before .before .before .args in
+    let before = numbers (a .found .now) (a .stream .now) (a .place .now) (a .long .now) (a .kind .now) (a .instrument .now) (a .time .now) (a .reason .now) in (
       λ w. (
-        handed-not (a .found .now) (a .stream .now) (a .place .now) (a .long .now) (a .kind .now) (a .instrument .now) (a .time .now) (a .reason .now)
-            (c .before .before .before .before .before .before .before .before .answer2 .given .0 .0) (c .number .ensures) (c .before .before .before .before .before .stream-in .ensures) (c .before .before .before .place-in .ensures) (c .before .reason-in .ensures)
+        handed-not before (c .before .before .before .before .before .before .before .before .answer2 .given .0 .0) (c .number .ensures) (c .before .before .before .before .before .stream-in .ensures) (c .before .before .before .place-in .ensures) (c .before .reason-in .ensures)
             (answer-same turnOf (x .refused w .0) (c .before .before .before .before .before .before .before .before .answer2 .given .1)),
         x .refused w .1,
       ),
       λ w s.
           let y = x .told w s in (
-            handed-not (a .found .now) (a .stream .now) (a .place .now) (a .long .now) (a .kind .now) (a .instrument .now) (a .time .now) (a .reason .now)
-                (c .before .before .before .before .before .before .before .before .answer2 .given .0 .0) (c .number .ensures) (c .before .before .before .before .before .stream-in .ensures) (c .before .before .before .place-in .ensures) (c .before .reason-in .ensures)
+            handed-not before (c .before .before .before .before .before .before .before .before .answer2 .given .0 .0) (c .number .ensures) (c .before .before .before .before .before .stream-in .ensures) (c .before .before .before .place-in .ensures) (c .before .reason-in .ensures)
                 (answer-same turnOf (y .heard) (c .before .before .before .before .before .before .before .before .answer2 .given .1)),
             record { heard = refl; leaves = y .leaves; small = y .small },
           ),

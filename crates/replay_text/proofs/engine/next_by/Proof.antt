@@ -54,10 +54,10 @@ returns-2 c =
     let turn = c .before .before .before .before .before .before .before .before .before .before in
     let there = turn .before .before .before .before .before .before in
     let start = there .before .before .before .before .before .before .before .before in (
-      turn .next2 .ensures .0,
+      turn .next2 .ensures .fewer,
       λ n few ok.
           let by = there .if1 .left in
-          says-by-heap by (turn .next2 .ensures .1 .1 (places-right (start .pre)) n few (ok .by-heap by)),
+          says-by-heap by (turn .next2 .ensures .says (places-right (start .pre)) n few (ok .by-heap by)),
     )
 
 pub next-by-spec : {M : Type 1} → statement M
