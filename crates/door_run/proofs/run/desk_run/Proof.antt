@@ -1,7 +1,7 @@
 -- Each arm of the match is what its case says. Assumes nothing.
 use Rattle.records_run.specs.Run.{lastOf}
 use Rattle.door_answers.specs.AnswersLaws.{answer-same}
-use Rattle.door_run.specs.Handing.{numbers, ran-done, ran-not}
+use Rattle.door_run.specs.Handing.{ran-done, ran-not}
 use borrow.Author.Needs.{needs}
 use Rattle.door_run.proofs.run.desk_run.Statement.{statement}
 use Rattle.door_run.proofs.run.desk_run.Tie as tie
@@ -57,19 +57,16 @@ same-length-6 c = search needs
 returns : tie.Need-returns
 returns c =
     let c14 = c .before .before .before .before .before .before .before .before .before .before .before .before .before .before in
-    let c30 = c14 .before .before .before .before .before .before .before .before .before .before .before .before .before .before .before .before in
-    let a = c30 .args in
-    let before = numbers (a .calls .now) (a .written .now) (a .last .now) (a .stream .now) (a .place .now) (a .reason .now) in
     let ran = c14 .run .ensures in
     record {
       refused = λ w.
           let x = ran .refused w in
-          (ran-done before (x .calls) (x .written) (answer-same lastOf (x .answers) (c .enum-told .given .1)), x .held, x .untouched, x .list);
+          (ran-done _ (x .calls) (x .written) (answer-same lastOf (x .answers) (c .enum-told .given .1)), x .held, x .untouched, x .list);
       made = λ w n h s.
           let x = ran .says w n h s in
           let g = x .gives in
           record {
-            hands = record { handed = ran-done before (g .calls) (g .written) (answer-same lastOf (g .answers) (c .enum-told .given .1)); list = g .list };
+            hands = record { handed = ran-done _ (g .calls) (g .written) (answer-same lastOf (g .answers) (c .enum-told .given .1)); list = g .list };
             leaves = x .leaves;
             sound = x .sound;
           };
@@ -96,19 +93,16 @@ same-length-12 c = search needs
 returns-2 : tie.Need-returns-2
 returns-2 c =
     let c14 = c .before .before .before .before .before .before .before .before .before .before .before .before .before .before in
-    let c30 = c14 .before .before .before .before .before .before .before .before .before .before .before .before .before .before .before .before in
-    let a = c30 .args in
-    let before = numbers (a .calls .now) (a .written .now) (a .last .now) (a .stream .now) (a .place .now) (a .reason .now) in
     let ran = c14 .run .ensures in
     record {
       refused = λ w.
           let x = ran .refused w in
-          (ran-done before (x .calls) (x .written) (answer-same lastOf (x .answers) (c .enum-told2 .given .1)), x .held, x .untouched, x .list);
+          (ran-done _ (x .calls) (x .written) (answer-same lastOf (x .answers) (c .enum-told2 .given .1)), x .held, x .untouched, x .list);
       made = λ w n h s.
           let x = ran .says w n h s in
           let g = x .gives in
           record {
-            hands = record { handed = ran-done before (g .calls) (g .written) (answer-same lastOf (g .answers) (c .enum-told2 .given .1)); list = g .list };
+            hands = record { handed = ran-done _ (g .calls) (g .written) (answer-same lastOf (g .answers) (c .enum-told2 .given .1)); list = g .list };
             leaves = x .leaves;
             sound = x .sound;
           };
@@ -136,9 +130,6 @@ returns-3 : tie.Need-returns-3
 returns-3 c =
     let c12 = c .before .before .before .before .before .before .before .before .before .before .before .before in
     let c26 = c12 .before .before .before .before .before .before .before .before .before .before .before .before .before .before in
-    let c42 = c26 .before .before .before .before .before .before .before .before .before .before .before .before .before .before .before .before in
-    let a = c42 .args in
-    let before = numbers (a .calls .now) (a .written .now) (a .last .now) (a .stream .now) (a .place .now) (a .reason .now) in
     let ran = c26 .run .ensures in
     let known = c12 .answer .given in
     let k = c .before .before .before .before .before .before .before .before .before .moved .ensures in
@@ -151,13 +142,13 @@ returns-3 c =
       refused = λ w.
           let x = ran .refused w in
           let e = answer-same lastOf (x .answers) (known .1) in
-          (ran-not before (x .calls) (x .written) r (c .number .ensures) k m i p q e, x .held, x .untouched, x .list);
+          (ran-not _ (x .calls) (x .written) r (c .number .ensures) k m i p q e, x .held, x .untouched, x .list);
       made = λ w n h s.
           let x = ran .says w n h s in
           let g = x .gives in
           let e = answer-same lastOf (g .answers) (known .1) in
           record {
-            hands = record { handed = ran-not before (g .calls) (g .written) r (c .number .ensures) k m i p q e; list = g .list };
+            hands = record { handed = ran-not _ (g .calls) (g .written) r (c .number .ensures) k m i p q e; list = g .list };
             leaves = x .leaves;
             sound = x .sound;
           };
