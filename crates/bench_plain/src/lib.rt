@@ -7,17 +7,8 @@ use door_answers::damage::stream_in;
 use leaves::refusal::number;
 use records::merge::Opening;
 use records::merge::Turn;
-ghost use mathlib.Core.Path.{_≡_};
-ghost use mathlib.Core.Bool.{true, false, _&&_};
-ghost use mathlib.Core.List.{[]};
-ghost use Prim.Native.Nat.{_-_};
-ghost use lib.ListN.{length};
-ghost use Rattle.theory.specs.Answer.{answer};
-ghost use Rattle.records_rules.specs.Bytes.{streamsOf};
-ghost use Rattle.records_rules.specs.State.{rightStreams, opening, Small};
-ghost use Rattle.records_plain.specs.Plain.{plainFits, PlainUntouched, PlainOpened, PlainSays};
-ghost use Rattle.door_answers.specs.Answers.{numberIn, valueIn};
-ghost use Rattle.door_records.specs.Merge.{turnAnswer, Handed};
+ghost use Rattle.door_records.specs.Merge.{numbers};
+ghost use Rattle.bench_plain.specs.Exports.{PlainOpenHands, PlainNextHands};
 
 // Opens the streams of a buffer between its cuts, each at its hint: 0, 15 or 12; `streams` becomes the streams.
 #[no_mangle]
@@ -31,16 +22,9 @@ pub extern "C" fn plain_open(
     heads: &mut [u64],
     streams: &mut usize,
 ) -> u32
-    ensures { λ r. ⌜ r ≡ numberIn (opening (plainFits 0 (now (marks .entry)) (now (times .entry)) (now (places .entry)) (now (heads .entry)))
-        (rightStreams (length (now (buffer .entry))) (now (cuts .entry)) (length (now (hints .entry)))) (length (now (cuts .entry)) - 1)) ⌝ }
-    ensures { λ _. ⌜ now (streams .exit) ≡ valueIn (now (streams .entry)) 0 (opening (plainFits 0 (now (marks .entry)) (now (times .entry)) (now (places .entry)) (now (heads .entry)))
-        (rightStreams (length (now (buffer .entry))) (now (cuts .entry)) (length (now (hints .entry)))) (length (now (cuts .entry)) - 1)) ⌝ }
-    ensures { λ r. ⌜ ((plainFits 0 (now (marks .entry)) (now (times .entry)) (now (places .entry)) (now (heads .entry))
-        && rightStreams (length (now (buffer .entry))) (now (cuts .entry)) (length (now (hints .entry)))) ≡ false
-        → PlainUntouched (now (marks .entry)) (now (times .entry)) (now (places .entry)) (now (heads .entry)) (now (marks .exit)) (now (times .exit)) (now (places .exit)) (now (heads .exit))) ⌝ }
-    ensures { λ r. ⌜ ((plainFits 0 (now (marks .entry)) (now (times .entry)) (now (places .entry)) (now (heads .entry))
-        && rightStreams (length (now (buffer .entry))) (now (cuts .entry)) (length (now (hints .entry)))) ≡ true
-        → PlainOpened (length (now (cuts .entry)) - 1) (now (hints .entry)) (now (marks .exit)) (now (times .exit)) (now (places .exit)) (now (heads .exit))) ⌝ }
+    ensures { λ r. ⌜ PlainOpenHands (now (buffer .entry)) (now (cuts .entry)) (now (hints .entry))
+        (now (marks .entry)) (now (times .entry)) (now (places .entry)) (now (heads .entry)) (now (streams .entry)) r (now (streams .exit))
+        (now (marks .exit)) (now (times .exit)) (now (places .exit)) (now (heads .exit)) ⌝ }
 {
     let opened = records_plain::plain::open(buffer, cuts, hints, marks, times, places, heads);
     match opened {
@@ -75,18 +59,11 @@ pub extern "C" fn plain_next(
     time: &mut u64,
     reason: &mut u64,
 ) -> u32
-    ensures { λ r. ⌜ (plainFits streams (now (marks .entry)) (now (times .entry)) (now (places .entry)) (now (heads .entry)) ≡ false
-        → Handed (answer 15 []) r (now (found .entry)) (now (stream .entry)) (now (place .entry)) (now (long .entry)) (now (kind .entry)) (now (instrument .entry)) (now (time .entry)) (now (reason .entry))
-        (now (found .exit)) (now (stream .exit)) (now (place .exit)) (now (long .exit)) (now (kind .exit)) (now (instrument .exit)) (now (time .exit)) (now (reason .exit))
-        × PlainUntouched (now (marks .entry)) (now (times .entry)) (now (places .entry)) (now (heads .entry)) (now (marks .exit)) (now (times .exit)) (now (places .exit)) (now (heads .exit))) ⌝ }
-    ensures { λ r. ⌜ (plainFits streams (now (marks .entry)) (now (times .entry)) (now (places .entry)) (now (heads .entry)) ≡ true
-        → Small streams (now (places .entry)) (now (heads .entry))
-        → Handed (turnAnswer (streamsOf (now (buffer .entry)) (now (cuts .entry))) streams (now (marks .entry)) (now (times .entry)) (now (places .entry)) (now (heads .entry)))
-        r (now (found .entry)) (now (stream .entry)) (now (place .entry)) (now (long .entry)) (now (kind .entry)) (now (instrument .entry)) (now (time .entry)) (now (reason .entry))
-        (now (found .exit)) (now (stream .exit)) (now (place .exit)) (now (long .exit)) (now (kind .exit)) (now (instrument .exit)) (now (time .exit)) (now (reason .exit))
-        × PlainSays (streamsOf (now (buffer .entry)) (now (cuts .entry))) streams (now (marks .entry)) (now (times .entry)) (now (places .entry)) (now (heads .entry))
-        (turnAnswer (streamsOf (now (buffer .entry)) (now (cuts .entry))) streams (now (marks .entry)) (now (times .entry)) (now (places .entry)) (now (heads .entry)))
-        (now (marks .exit)) (now (times .exit)) (now (places .exit)) (now (heads .exit))) ⌝ }
+    ensures { λ r. ⌜ PlainNextHands (now (buffer .entry)) (now (cuts .entry)) streams
+        (now (marks .entry)) (now (times .entry)) (now (places .entry)) (now (heads .entry))
+        (numbers (now (found .entry)) (now (stream .entry)) (now (place .entry)) (now (long .entry)) (now (kind .entry)) (now (instrument .entry)) (now (time .entry)) (now (reason .entry))) r
+        (now (marks .exit)) (now (times .exit)) (now (places .exit)) (now (heads .exit))
+        (numbers (now (found .exit)) (now (stream .exit)) (now (place .exit)) (now (long .exit)) (now (kind .exit)) (now (instrument .exit)) (now (time .exit)) (now (reason .exit))) ⌝ }
 {
     let answer = records_plain::plain::next(buffer, cuts, streams, marks, times, places, heads);
     match answer {

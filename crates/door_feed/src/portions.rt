@@ -10,17 +10,15 @@ use feed_window::portions::Added;
 use feed_window::portions::Ended;
 use leaves::refusal::number;
 ghost use mathlib.Core.Path.{_≡_};
-ghost use mathlib.Core.Bool.{true, false, _&&_};
-ghost use mathlib.Core.List.{List, []};
+ghost use mathlib.Core.Bool.{true, false};
+ghost use mathlib.Core.List.{List};
 ghost use Prim.Native.Nat.{ℕ, _≤_};
 ghost use lib.ListN.{length};
-ghost use Rattle.theory.specs.Answer.{answer};
-ghost use Rattle.records_rules.specs.State.{opening};
-ghost use Rattle.feed_rules.specs.Windows.{addAnswer, endAnswer, nextAnswer};
-ghost use Rattle.feed_rules.specs.Spans.{feedOf, feedFits, FeedOk, FeedSays, FeedUntouched, FeedNeeds};
-ghost use Rattle.feed_rules.specs.Adding.{wordFits, portionFits, openFits, rightCount, FeedAdds, FeedEnds, FeedOpened};
+ghost use Rattle.feed_rules.specs.Windows.{addAnswer, endAnswer};
+ghost use Rattle.feed_rules.specs.Spans.{feedOf, FeedOk, feedArrays};
+ghost use Rattle.feed_rules.specs.Adding.{wordFits, portionFits, FeedAdds, FeedEnds};
 ghost use Rattle.door_answers.specs.Answers.{numberIn, valueIn};
-ghost use Rattle.door_feed.specs.Handing.{FedHanded};
+ghost use Rattle.door_feed.specs.Handing.{numbers, DeskFeedNext, DeskFeedOpen};
 
 // Opens so many streams of which nothing has come, each at its hint: 0, 15 or 12; `held` becomes the streams that the heap holds.
 #[no_mangle]
@@ -35,18 +33,10 @@ pub extern "C" fn desk_feed_open(
     spans: &mut [u64],
     held: &mut usize,
 ) -> u32
-    ensures { λ r. ⌜ r ≡ numberIn (opening (openFits (length (now (marks .entry))) (length (now (times .entry))) (length (now (places .entry)))
-        (length (now (heads .entry))) (length (now (heap .entry))) (length (now (spans .entry)))) (rightCount streams (length (now (hints .entry)))) streams) ⌝ }
-    ensures { λ _. ⌜ now (held .exit) ≡ valueIn (now (held .entry)) 1
-        (opening (openFits (length (now (marks .entry))) (length (now (times .entry))) (length (now (places .entry))) (length (now (heads .entry)))
-        (length (now (heap .entry))) (length (now (spans .entry)))) (rightCount streams (length (now (hints .entry)))) streams) ⌝ }
-    ensures { λ _. ⌜ ((openFits (length (now (marks .entry))) (length (now (times .entry))) (length (now (places .entry))) (length (now (heads .entry)))
-        (length (now (heap .entry))) (length (now (spans .entry))) && rightCount streams (length (now (hints .entry)))) ≡ false
-        → FeedUntouched (now (marks .entry)) (now (times .entry)) (now (places .entry)) (now (heads .entry)) (now (heap .entry)) (now (spans .entry))
-        (now (marks .exit)) (now (times .exit)) (now (places .exit)) (now (heads .exit)) (now (heap .exit)) (now (spans .exit))) ⌝ }
-    ensures { λ _. ⌜ ((openFits (length (now (marks .entry))) (length (now (times .entry))) (length (now (places .entry))) (length (now (heads .entry)))
-        (length (now (heap .entry))) (length (now (spans .entry))) && rightCount streams (length (now (hints .entry)))) ≡ true
-        → FeedOpened streams (now (hints .entry)) (now (marks .exit)) (now (times .exit)) (now (places .exit)) (now (heads .exit)) (now (heap .exit)) (now (spans .exit))) ⌝ }
+    ensures { λ r. ⌜ DeskFeedOpen streams (now (hints .entry))
+        (feedArrays (now (marks .entry)) (now (times .entry)) (now (places .entry)) (now (heads .entry)) (now (heap .entry)) (now (spans .entry)))
+        (now (held .entry)) r (now (held .exit))
+        (feedArrays (now (marks .exit)) (now (times .exit)) (now (places .exit)) (now (heads .exit)) (now (heap .exit)) (now (spans .exit))) ⌝ }
 {
     let opened = feed::opening::open(streams, hints, marks, times, places, heads, heap, spans);
     match opened {
@@ -132,27 +122,12 @@ pub extern "C" fn desk_feed_next(
     time: &mut u64,
     reason: &mut u64,
 ) -> u32
-    ensures { λ r. ⌜ (feedFits (now (held .entry)) (length (now (marks .entry))) (length (now (times .entry))) (length (now (places .entry)))
-        (length (now (heads .entry))) (length (now (heap .entry))) (length (now (spans .entry))) (length (now (window .entry))) ≡ false
-        → FedHanded (answer 15 []) r (now (found .entry)) (now (stream .entry)) (now (place .entry)) (now (index .entry)) (now (long .entry)) (now (kind .entry)) (now (instrument .entry)) (now (time .entry)) (now (reason .entry))
-        (now (found .exit)) (now (stream .exit)) (now (place .exit)) (now (index .exit)) (now (long .exit)) (now (kind .exit)) (now (instrument .exit)) (now (time .exit)) (now (reason .exit))
-        × (now (held .exit) ≡ now (held .entry))
-        × FeedUntouched (now (marks .entry)) (now (times .entry)) (now (places .entry)) (now (heads .entry)) (now (heap .entry)) (now (spans .entry))
-        (now (marks .exit)) (now (times .exit)) (now (places .exit)) (now (heads .exit)) (now (heap .exit)) (now (spans .exit))) ⌝ }
-    ensures { λ r. ⌜ (feedFits (now (held .entry)) (length (now (marks .entry))) (length (now (times .entry))) (length (now (places .entry)))
-        (length (now (heads .entry))) (length (now (heap .entry))) (length (now (spans .entry))) (length (now (window .entry))) ≡ true
-        → (n : ℕ) → n ≤ 256 → FeedOk n (now (held .entry)) (now (marks .entry)) (now (times .entry)) (now (places .entry)) (now (heads .entry)) (now (heap .entry)) (now (spans .entry))
-        → FedHanded (nextAnswer (feedOf n (now (window .entry)) (now (marks .entry)) (now (times .entry)) (now (places .entry)) (now (heads .entry))
-        (now (spans .entry)))) r (now (found .entry)) (now (stream .entry)) (now (place .entry)) (now (index .entry)) (now (long .entry)) (now (kind .entry))
-        (now (instrument .entry)) (now (time .entry)) (now (reason .entry))
-        (now (found .exit)) (now (stream .exit)) (now (place .exit)) (now (index .exit)) (now (long .exit)) (now (kind .exit)) (now (instrument .exit)) (now (time .exit)) (now (reason .exit))
-        × FeedSays n (now (window .entry)) (now (marks .entry)) (now (times .entry)) (now (places .entry)) (now (heads .entry)) (now (spans .entry))
-        (nextAnswer (feedOf n (now (window .entry)) (now (marks .entry)) (now (times .entry)) (now (places .entry)) (now (heads .entry)) (now (spans .entry))))
-        (now (held .exit)) (now (marks .exit)) (now (times .exit)) (now (places .exit)) (now (heads .exit)) (now (heap .exit)) (now (spans .exit))
-        × FeedNeeds (now (window .entry)) (now (held .entry)) (now (marks .entry)) (now (times .entry)) (now (places .entry)) (now (heads .entry))
-        (now (heap .entry)) (now (spans .entry)) (nextAnswer
-        (feedOf n (now (window .entry)) (now (marks .entry)) (now (times .entry)) (now (places .entry)) (now (heads .entry)) (now (spans .entry))))
-        (now (held .exit)) (now (marks .exit)) (now (times .exit)) (now (places .exit)) (now (heads .exit)) (now (heap .exit)) (now (spans .exit))) ⌝ }
+    ensures { λ r. ⌜ DeskFeedNext (now (window .entry)) (now (held .entry))
+        (feedArrays (now (marks .entry)) (now (times .entry)) (now (places .entry)) (now (heads .entry)) (now (heap .entry)) (now (spans .entry)))
+        (numbers (now (found .entry)) (now (stream .entry)) (now (place .entry)) (now (index .entry)) (now (long .entry)) (now (kind .entry)) (now (instrument .entry)) (now (time .entry)) (now (reason .entry)))
+        r (now (held .exit))
+        (feedArrays (now (marks .exit)) (now (times .exit)) (now (places .exit)) (now (heads .exit)) (now (heap .exit)) (now (spans .exit)))
+        (numbers (now (found .exit)) (now (stream .exit)) (now (place .exit)) (now (index .exit)) (now (long .exit)) (now (kind .exit)) (now (instrument .exit)) (now (time .exit)) (now (reason .exit))) ⌝ }
 {
     let turned = feed::turns::next(window, *held, marks, times, places, heads, heap, spans);
     *held = turned.held;

@@ -6,16 +6,9 @@ use door_answers::damage::stream_in;
 use door_run::run::moved;
 use feed_run::run::Last;
 use leaves::refusal::number;
-ghost use mathlib.Core.Path.{_≡_};
-ghost use mathlib.Core.Bool.{true, false};
-ghost use mathlib.Core.List.{[]};
-ghost use Prim.Native.Nat.{ℕ, _≤_};
-ghost use lib.ListN.{length};
-ghost use Rattle.theory.specs.Answer.{answer};
-ghost use Rattle.run_rules.specs.Rows.{runFits, most};
-ghost use Rattle.feed_rules.specs.Spans.{feedFits, FeedOk, FeedUntouched};
-ghost use Rattle.door_run.specs.Handing.{RunHanded};
-ghost use Rattle.door_feed_run.specs.Run.{FeedRunMade};
+ghost use Rattle.feed_rules.specs.Spans.{feedArrays};
+ghost use Rattle.door_run.specs.Handing.{numbers};
+ghost use Rattle.door_feed_run.specs.Run.{DeskFeedRun};
 
 // At most `allowance` calls of `desk_feed_next`: 0, 13 or 15. Each record's stream, place and time go to the list, three words a record;
 // `last` is 1 where a further call may be made, 0 at the end, and 2 where more of a stream is needed, `stream` being that stream; 13 sets
@@ -39,23 +32,11 @@ pub extern "C" fn desk_feed_run(
     place: &mut u64,
     reason: &mut u64,
 ) -> u32
-    ensures { λ r. ⌜ (runFits (feedFits (now (held .entry)) (length (now (marks .entry))) (length (now (times .entry))) (length (now (places .entry)))
-        (length (now (heads .entry))) (length (now (heap .entry))) (length (now (spans .entry))) (length (now (window .entry)))) allowance
-        (length (now (list .entry))) ≡ false
-        → RunHanded (answer 15 []) 0 0 r (now (calls .entry)) (now (written .entry)) (now (last .entry)) (now (stream .entry)) (now (place .entry)) (now (reason .entry))
-        (now (calls .exit)) (now (written .exit)) (now (last .exit)) (now (stream .exit)) (now (place .exit)) (now (reason .exit))
-        × (now (held .exit) ≡ now (held .entry))
-        × FeedUntouched (now (marks .entry)) (now (times .entry)) (now (places .entry)) (now (heads .entry)) (now (heap .entry)) (now (spans .entry))
-        (now (marks .exit)) (now (times .exit)) (now (places .exit)) (now (heads .exit)) (now (heap .exit)) (now (spans .exit))
-        × (now (list .exit) ≡ now (list .entry))) ⌝ }
-    ensures { λ r. ⌜ (runFits (feedFits (now (held .entry)) (length (now (marks .entry))) (length (now (times .entry))) (length (now (places .entry)))
-        (length (now (heads .entry))) (length (now (heap .entry))) (length (now (spans .entry))) (length (now (window .entry)))) allowance
-        (length (now (list .entry))) ≡ true
-        → (n : ℕ) → n ≤ 256 → FeedOk n (now (held .entry)) (now (marks .entry)) (now (times .entry)) (now (places .entry)) (now (heads .entry)) (now (heap .entry)) (now (spans .entry))
-        → FeedRunMade n (most allowance (length (now (list .entry)))) (now (window .entry)) (now (marks .entry)) (now (times .entry)) (now (places .entry)) (now (heads .entry)) (now (spans .entry)) (now (list .entry))
-        r (now (calls .entry)) (now (written .entry)) (now (last .entry)) (now (stream .entry)) (now (place .entry)) (now (reason .entry))
-        (now (calls .exit)) (now (written .exit)) (now (last .exit)) (now (stream .exit)) (now (place .exit)) (now (reason .exit))
-        (now (held .exit)) (now (marks .exit)) (now (times .exit)) (now (places .exit)) (now (heads .exit)) (now (heap .exit)) (now (spans .exit)) (now (list .exit))) ⌝ }
+    ensures { λ r. ⌜ DeskFeedRun (now (window .entry)) allowance (now (held .entry))
+        (feedArrays (now (marks .entry)) (now (times .entry)) (now (places .entry)) (now (heads .entry)) (now (heap .entry)) (now (spans .entry))) (now (list .entry))
+        (numbers (now (calls .entry)) (now (written .entry)) (now (last .entry)) (now (stream .entry)) (now (place .entry)) (now (reason .entry))) r
+        (now (held .exit)) (feedArrays (now (marks .exit)) (now (times .exit)) (now (places .exit)) (now (heads .exit)) (now (heap .exit)) (now (spans .exit))) (now (list .exit))
+        (numbers (now (calls .exit)) (now (written .exit)) (now (last .exit)) (now (stream .exit)) (now (place .exit)) (now (reason .exit))) ⌝ }
 {
     let made = feed_run::run::run(
         window,

@@ -7,16 +7,9 @@ use door_answers::damage::stream_in;
 use leaves::refusal::number;
 use records::merge::Opening;
 use records::merge::Turn;
-ghost use mathlib.Core.Path.{_≡_};
-ghost use mathlib.Core.Bool.{true, false, _&&_};
-ghost use mathlib.Core.List.{[]};
-ghost use Prim.Native.Nat.{ℕ, _-_, _≤_};
-ghost use lib.ListN.{length};
-ghost use Rattle.theory.specs.Answer.{answer};
 ghost use Rattle.records_rules.specs.Bytes.{streamsOf};
-ghost use Rattle.records_rules.specs.State.{arraysFit, rightStreams, opening, Untouched, StreamsOpened, StateOk, Says};
-ghost use Rattle.door_answers.specs.Answers.{numberIn, valueIn};
-ghost use Rattle.door_records.specs.Merge.{turnAnswer, Handed};
+ghost use Rattle.records_rules.specs.State.{arrays};
+ghost use Rattle.door_records.specs.Merge.{numbers, DeskNext, DeskOpen};
 
 // Opens the streams of a buffer between its cuts, each at its hint: 0, 15 or 12; `streams` and `held` become the streams, and those
 // that the heap holds.
@@ -33,22 +26,10 @@ pub extern "C" fn desk_open(
     streams: &mut usize,
     held: &mut usize,
 ) -> u32
-    ensures { λ r. ⌜ r ≡ numberIn (opening (arraysFit 0 (length (now (marks .entry))) (length (now (times .entry))) (length (now (places .entry))) (length (now (heads .entry))) (length (now (heap .entry))))
-        (rightStreams (length (now (buffer .entry))) (now (cuts .entry)) (length (now (hints .entry)))) (length (now (cuts .entry)) - 1)) ⌝ }
-    ensures { λ _. ⌜ now (streams .exit) ≡ valueIn (now (streams .entry)) 0
-        (opening (arraysFit 0 (length (now (marks .entry))) (length (now (times .entry))) (length (now (places .entry))) (length (now (heads .entry)))
-        (length (now (heap .entry))))
-        (rightStreams (length (now (buffer .entry))) (now (cuts .entry)) (length (now (hints .entry)))) (length (now (cuts .entry)) - 1)) ⌝ }
-    ensures { λ _. ⌜ now (held .exit) ≡ valueIn (now (held .entry)) 1
-        (opening (arraysFit 0 (length (now (marks .entry))) (length (now (times .entry))) (length (now (places .entry))) (length (now (heads .entry)))
-        (length (now (heap .entry))))
-        (rightStreams (length (now (buffer .entry))) (now (cuts .entry)) (length (now (hints .entry)))) (length (now (cuts .entry)) - 1)) ⌝ }
-    ensures { λ r. ⌜ ((arraysFit 0 (length (now (marks .entry))) (length (now (times .entry))) (length (now (places .entry))) (length (now (heads .entry))) (length (now (heap .entry)))
-        && rightStreams (length (now (buffer .entry))) (now (cuts .entry)) (length (now (hints .entry)))) ≡ false
-        → Untouched (now (marks .entry)) (now (times .entry)) (now (places .entry)) (now (heads .entry)) (now (heap .entry)) (now (marks .exit)) (now (times .exit)) (now (places .exit)) (now (heads .exit)) (now (heap .exit))) ⌝ }
-    ensures { λ r. ⌜ ((arraysFit 0 (length (now (marks .entry))) (length (now (times .entry))) (length (now (places .entry))) (length (now (heads .entry))) (length (now (heap .entry)))
-        && rightStreams (length (now (buffer .entry))) (now (cuts .entry)) (length (now (hints .entry)))) ≡ true
-        → StreamsOpened (length (now (cuts .entry)) - 1) (now (hints .entry)) (now (marks .exit)) (now (times .exit)) (now (places .exit)) (now (heads .exit)) (now (heap .exit))) ⌝ }
+    ensures { λ r. ⌜ DeskOpen (now (buffer .entry)) (now (cuts .entry)) (now (hints .entry))
+        (arrays (now (marks .entry)) (now (times .entry)) (now (places .entry)) (now (heads .entry)) (now (heap .entry)))
+        (now (streams .entry)) (now (held .entry)) r (now (streams .exit)) (now (held .exit))
+        (arrays (now (marks .exit)) (now (times .exit)) (now (places .exit)) (now (heads .exit)) (now (heap .exit))) ⌝ }
 {
     let opened = records::merge::open(buffer, cuts, hints, marks, times, places, heads, heap);
     match opened {
@@ -86,19 +67,11 @@ pub extern "C" fn desk_next(
     time: &mut u64,
     reason: &mut u64,
 ) -> u32
-    ensures { λ r. ⌜ (arraysFit (now (held .entry)) (length (now (marks .entry))) (length (now (times .entry))) (length (now (places .entry))) (length (now (heads .entry))) (length (now (heap .entry))) ≡ false
-        → Handed (answer 15 []) r (now (found .entry)) (now (stream .entry)) (now (place .entry)) (now (long .entry)) (now (kind .entry)) (now (instrument .entry)) (now (time .entry)) (now (reason .entry))
-        (now (found .exit)) (now (stream .exit)) (now (place .exit)) (now (long .exit)) (now (kind .exit)) (now (instrument .exit)) (now (time .exit)) (now (reason .exit))
-        × (now (held .exit) ≡ now (held .entry))
-        × Untouched (now (marks .entry)) (now (times .entry)) (now (places .entry)) (now (heads .entry)) (now (heap .entry)) (now (marks .exit)) (now (times .exit)) (now (places .exit)) (now (heads .exit)) (now (heap .exit))) ⌝ }
-    ensures { λ r. ⌜ (arraysFit (now (held .entry)) (length (now (marks .entry))) (length (now (times .entry))) (length (now (places .entry))) (length (now (heads .entry))) (length (now (heap .entry))) ≡ true
-        → (n : ℕ) → n ≤ 256 → StateOk n (now (held .entry)) (now (marks .entry)) (now (times .entry)) (now (places .entry)) (now (heads .entry)) (now (heap .entry))
-        → Handed (turnAnswer (streamsOf (now (buffer .entry)) (now (cuts .entry))) n (now (marks .entry)) (now (times .entry)) (now (places .entry)) (now (heads .entry)))
-        r (now (found .entry)) (now (stream .entry)) (now (place .entry)) (now (long .entry)) (now (kind .entry)) (now (instrument .entry)) (now (time .entry)) (now (reason .entry))
-        (now (found .exit)) (now (stream .exit)) (now (place .exit)) (now (long .exit)) (now (kind .exit)) (now (instrument .exit)) (now (time .exit)) (now (reason .exit))
-        × Says (streamsOf (now (buffer .entry)) (now (cuts .entry))) n (now (marks .entry)) (now (times .entry)) (now (places .entry)) (now (heads .entry))
-        (turnAnswer (streamsOf (now (buffer .entry)) (now (cuts .entry))) n (now (marks .entry)) (now (times .entry)) (now (places .entry)) (now (heads .entry)))
-        (now (held .exit)) (now (marks .exit)) (now (times .exit)) (now (places .exit)) (now (heads .exit)) (now (heap .exit))) ⌝ }
+    ensures { λ r. ⌜ DeskNext (streamsOf (now (buffer .entry)) (now (cuts .entry))) (now (held .entry))
+        (arrays (now (marks .entry)) (now (times .entry)) (now (places .entry)) (now (heads .entry)) (now (heap .entry)))
+        (numbers (now (found .entry)) (now (stream .entry)) (now (place .entry)) (now (long .entry)) (now (kind .entry)) (now (instrument .entry)) (now (time .entry)) (now (reason .entry)))
+        r (now (held .exit)) (arrays (now (marks .exit)) (now (times .exit)) (now (places .exit)) (now (heads .exit)) (now (heap .exit)))
+        (numbers (now (found .exit)) (now (stream .exit)) (now (place .exit)) (now (long .exit)) (now (kind .exit)) (now (instrument .exit)) (now (time .exit)) (now (reason .exit))) ⌝ }
 {
     let turned = records::merge::next(buffer, cuts, *held, marks, times, places, heads, heap);
     *held = turned.held;

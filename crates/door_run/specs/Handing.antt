@@ -27,57 +27,68 @@ unfoldable pub placeIn : ℕ → Answer → ℕ
 unfolding valueIn damageIn
 placeIn held a = damageIn (valueIn held 2 a) 1 a
 
--- a run with this answer, these calls and these records returned this number, and left these in the lent numbers
-pub record RunHanded (a : Answer) (c w r calls written last stream place reason calls′ written′ last′ stream′ place′ reason′ : ℕ) : Type 0 where
-  pub returns : r ≡ numberIn a
-  pub counts : calls′ ≡ movedIn calls c a
-  pub writes : written′ ≡ movedIn written w a
-  pub lasts : last′ ≡ valueIn last 0 a
-  pub streams : stream′ ≡ streamIn stream a
-  pub places : place′ ≡ placeIn place a
-  pub reasons : reason′ ≡ damageIn reason 2 a
+-- the lent numbers of a run
+pub record Numbers : Type 0 where
+  pub calls : ℕ
+  pub written : ℕ
+  pub last : ℕ
+  pub stream : ℕ
+  pub place : ℕ
+  pub reason : ℕ
 
--- the numbers and the list are those of the run r
-pub record RunHands {S : Type 0} (r : Ran Note S) (ws : List ℕ) (n calls written last stream place reason calls′ written′ last′ stream′ place′ reason′ : ℕ) (ws' : List ℕ) : Type 0 where
-  pub handed :
-      RunHanded (lastIn (r .heard)) (r .steps) (recordsIn (r .heard))
-      n calls written last stream place reason calls′ written′ last′ stream′ place′ reason′
+abbrev pub numbers : ℕ → ℕ → ℕ → ℕ → ℕ → ℕ → Numbers
+numbers calls written last stream place reason =
+    record { calls = calls; written = written; last = last; stream = stream; place = place; reason = reason }
+
+-- a run with this answer, these calls and these records returned r, and left these in the lent numbers
+pub record RunHanded (a : Answer) (c w r : ℕ) (o o′ : Numbers) : Type 0 where
+  pub returns : r ≡ numberIn a
+  pub counts : o′ .calls ≡ movedIn (o .calls) c a
+  pub writes : o′ .written ≡ movedIn (o .written) w a
+  pub lasts : o′ .last ≡ valueIn (o .last) 0 a
+  pub streams : o′ .stream ≡ streamIn (o .stream) a
+  pub places : o′ .place ≡ placeIn (o .place) a
+  pub reasons : o′ .reason ≡ damageIn (o .reason) 2 a
+
+-- the numbers and the list are those of the run r, which returned n
+pub record RunHands {S : Type 0} (r : Ran Note S) (ws : List ℕ) (n : ℕ) (o o′ : Numbers) (ws' : List ℕ) : Type 0 where
+  pub handed : RunHanded (lastIn (r .heard)) (r .steps) (recordsIn (r .heard)) n o o′
   pub list : ws' ≡ listAfter (r .heard) ws
 
-module _ {a : Answer} {c w c′ w′ : ℕ} (calls written last stream place reason : ℕ) (ec : c′ ≡ c) (ew : w′ ≡ w) where
-  done : (l : ℕ) (vs : List ℕ) → answer 0 (l ∷ vs) ≡ a → RunHanded a c w 0 calls written last stream place reason c′ w′ l (getD vs 0 0) (getD vs 1 0) reason
+module _ {a : Answer} {c w c′ w′ : ℕ} (o : Numbers) (ec : c′ ≡ c) (ew : w′ ≡ w) where
+  done : (l : ℕ) (vs : List ℕ) → answer 0 (l ∷ vs) ≡ a → RunHanded a c w 0 o (numbers c′ w′ l (getD vs 0 0) (getD vs 1 0) (o .reason))
   unfolding movedIn streamIn placeIn
   done l vs e =
       record {
         returns = done-number e;
-        counts = ec ∙ ap (movedIn calls c) e;
-        writes = ew ∙ ap (movedIn written w) e;
-        lasts = done-value last 0 e;
-        streams = ap (streamIn stream) e;
-        places = ap (placeIn place) e;
-        reasons = done-damage reason 2 e;
+        counts = ec ∙ ap (movedIn (o .calls) c) e;
+        writes = ew ∙ ap (movedIn (o .written) w) e;
+        lasts = done-value (o .last) 0 e;
+        streams = ap (streamIn (o .stream)) e;
+        places = ap (placeIn (o .place)) e;
+        reasons = done-damage (o .reason) 2 e;
       }
 
   -- the run goes on, or is at the end
-  pub ran-done : {l : ℕ} → answer 0 (l ∷ []) ≡ a → RunHanded a c w 0 calls written last stream place reason c′ w′ l 0 0 reason
+  pub ran-done : {l : ℕ} → answer 0 (l ∷ []) ≡ a → RunHanded a c w 0 o (numbers c′ w′ l 0 0 (o .reason))
   ran-done {l} e = done l [] e
 
   -- more of a stream is needed
-  pub ran-needs : {p : ℕ} → wanting p ≡ a → RunHanded a c w 0 calls written last stream place reason c′ w′ 2 p 0 reason
+  pub ran-needs : {p : ℕ} → wanting p ≡ a → RunHanded a c w 0 o (numbers c′ w′ 2 p 0 (o .reason))
   ran-needs {p} e = done 2 (p ∷ []) e
 
   -- it is refused
-  pub ran-not : (r : Refusal) {n k m s p q : ℕ} → n ≡ numberOf r → k ≡ movedIn calls c′ (refused r) → m ≡ movedIn written w′ (refused r)
-      → s ≡ damageIn stream 0 (refused r) → p ≡ damageIn place 1 (refused r) → q ≡ damageIn reason 2 (refused r) → refused r ≡ a
-      → RunHanded a c w n calls written last stream place reason k m last s p q
+  pub ran-not : (r : Refusal) {n k m s p q : ℕ} → n ≡ numberOf r → k ≡ movedIn (o .calls) c′ (refused r) → m ≡ movedIn (o .written) w′ (refused r)
+      → s ≡ damageIn (o .stream) 0 (refused r) → p ≡ damageIn (o .place) 1 (refused r) → q ≡ damageIn (o .reason) 2 (refused r) → refused r ≡ a
+      → RunHanded a c w n o (numbers k m (o .last) s p q)
   unfolding streamIn placeIn
   ran-not r f g h i j l e =
       record {
         returns = not-number r f e;
-        counts = g ∙ ap (λ (d : ℕ). movedIn calls d (refused r)) ec ∙ ap (movedIn calls c) e;
-        writes = h ∙ ap (λ (d : ℕ). movedIn written d (refused r)) ew ∙ ap (movedIn written w) e;
-        lasts = not-value r last 0 e;
-        streams = i ∙ ap (λ (d : ℕ). damageIn d 0 (refused r)) (sym (refused-value r stream 1)) ∙ ap (streamIn stream) e;
-        places = j ∙ ap (λ (d : ℕ). damageIn d 1 (refused r)) (sym (refused-value r place 2)) ∙ ap (placeIn place) e;
-        reasons = not-damage r reason 2 l e;
+        counts = g ∙ ap (λ (d : ℕ). movedIn (o .calls) d (refused r)) ec ∙ ap (movedIn (o .calls) c) e;
+        writes = h ∙ ap (λ (d : ℕ). movedIn (o .written) d (refused r)) ew ∙ ap (movedIn (o .written) w) e;
+        lasts = not-value r (o .last) 0 e;
+        streams = i ∙ ap (λ (d : ℕ). damageIn d 0 (refused r)) (sym (refused-value r (o .stream) 1)) ∙ ap (streamIn (o .stream)) e;
+        places = j ∙ ap (λ (d : ℕ). damageIn d 1 (refused r)) (sym (refused-value r (o .place) 2)) ∙ ap (placeIn (o .place)) e;
+        reasons = not-damage r (o .reason) 2 l e;
       }

@@ -7,17 +7,11 @@ use leaves::refusal::Refusal;
 use leaves::refusal::number;
 use records_run::run::Last;
 ghost use mathlib.Core.Path.{_≡_};
-ghost use mathlib.Core.Bool.{true, false};
-ghost use mathlib.Core.List.{[]};
-ghost use Prim.Native.Nat.{ℕ, _≤_};
-ghost use lib.ListN.{length};
-ghost use Rattle.theory.specs.Answer.{answer};
 ghost use Rattle.leaves.specs.Refusal.{refused};
 ghost use Rattle.records_rules.specs.Bytes.{streamsOf};
-ghost use Rattle.records_rules.specs.State.{arraysFit, StateOk, Untouched};
-ghost use Rattle.run_rules.specs.Rows.{runFits, most};
-ghost use Rattle.door_run.specs.Handing.{movedIn, RunHanded};
-ghost use Rattle.door_run.specs.Run.{RunMade};
+ghost use Rattle.records_rules.specs.State.{arrays};
+ghost use Rattle.door_run.specs.Handing.{movedIn, numbers};
+ghost use Rattle.door_run.specs.Run.{DeskRun};
 
 // Bad memory.
 const BAD_MEMORY: u32 = 15;
@@ -53,20 +47,11 @@ pub extern "C" fn desk_run(
     place: &mut u64,
     reason: &mut u64,
 ) -> u32
-    ensures { λ r. ⌜ (runFits (arraysFit (now (held .entry)) (length (now (marks .entry))) (length (now (times .entry))) (length (now (places .entry)))
-        (length (now (heads .entry))) (length (now (heap .entry)))) allowance (length (now (list .entry))) ≡ false
-        → RunHanded (answer 15 []) 0 0 r (now (calls .entry)) (now (written .entry)) (now (last .entry)) (now (stream .entry)) (now (place .entry)) (now (reason .entry))
-        (now (calls .exit)) (now (written .exit)) (now (last .exit)) (now (stream .exit)) (now (place .exit)) (now (reason .exit))
-        × (now (held .exit) ≡ now (held .entry))
-        × Untouched (now (marks .entry)) (now (times .entry)) (now (places .entry)) (now (heads .entry)) (now (heap .entry)) (now (marks .exit)) (now (times .exit)) (now (places .exit)) (now (heads .exit)) (now (heap .exit))
-        × (now (list .exit) ≡ now (list .entry))) ⌝ }
-    ensures { λ r. ⌜ (runFits (arraysFit (now (held .entry)) (length (now (marks .entry))) (length (now (times .entry))) (length (now (places .entry)))
-        (length (now (heads .entry))) (length (now (heap .entry)))) allowance (length (now (list .entry))) ≡ true
-        → (n : ℕ) → n ≤ 256 → StateOk n (now (held .entry)) (now (marks .entry)) (now (times .entry)) (now (places .entry)) (now (heads .entry)) (now (heap .entry))
-        → RunMade (streamsOf (now (buffer .entry)) (now (cuts .entry))) n (most allowance (length (now (list .entry)))) (now (marks .entry)) (now (times .entry)) (now (places .entry)) (now (heads .entry)) (now (list .entry))
-        r (now (calls .entry)) (now (written .entry)) (now (last .entry)) (now (stream .entry)) (now (place .entry)) (now (reason .entry))
-        (now (calls .exit)) (now (written .exit)) (now (last .exit)) (now (stream .exit)) (now (place .exit)) (now (reason .exit))
-        (now (held .exit)) (now (marks .exit)) (now (times .exit)) (now (places .exit)) (now (heads .exit)) (now (heap .exit)) (now (list .exit))) ⌝ }
+    ensures { λ r. ⌜ DeskRun (streamsOf (now (buffer .entry)) (now (cuts .entry))) allowance (now (held .entry))
+        (arrays (now (marks .entry)) (now (times .entry)) (now (places .entry)) (now (heads .entry)) (now (heap .entry))) (now (list .entry))
+        (numbers (now (calls .entry)) (now (written .entry)) (now (last .entry)) (now (stream .entry)) (now (place .entry)) (now (reason .entry))) r
+        (now (held .exit)) (arrays (now (marks .exit)) (now (times .exit)) (now (places .exit)) (now (heads .exit)) (now (heap .exit))) (now (list .exit))
+        (numbers (now (calls .exit)) (now (written .exit)) (now (last .exit)) (now (stream .exit)) (now (place .exit)) (now (reason .exit))) ⌝ }
 {
     let made = records_run::run::run(
         buffer,

@@ -6,12 +6,10 @@ use records_state::opening::lay_streams;
 use records_state::state::EMPTY;
 use records_state::state::arrays_fit;
 ghost use mathlib.Core.Path.{_≡_};
-ghost use mathlib.Core.Bool.{true, false, _&&_};
 ghost use Prim.Native.Nat.{ℕ, _<_, _≤_};
 ghost use lib.ListN.{length, getD};
-ghost use Rattle.records_rules.specs.State.{opening};
-ghost use Rattle.feed_rules.specs.Spans.{FeedUntouched};
-ghost use Rattle.feed_rules.specs.Adding.{openFits, rightCount, FeedOpened};
+ghost use Rattle.feed_rules.specs.Spans.{feedArrays};
+ghost use Rattle.feed_rules.specs.Adding.{openFits, rightCount, FeedOpens};
 ghost use Rattle.feed.specs.Answers.{openedOf};
 
 // What an opening answers: the streams, and how many of them the heap holds.
@@ -76,15 +74,9 @@ pub fn open(
     heap: &mut [u8],
     spans: &mut [u64],
 ) -> FeedOpening
-    ensures { λ r. ⌜ openedOf r ≡ opening (openFits (length (now (marks .entry))) (length (now (times .entry))) (length (now (places .entry))) (length (now (heads .entry))) (length (now (heap .entry))) (length (now (spans .entry))))
-        (rightCount streams (length (now (hints .entry)))) streams ⌝ }
-    ensures { λ r. ⌜ ((openFits (length (now (marks .entry))) (length (now (times .entry))) (length (now (places .entry))) (length (now (heads .entry))) (length (now (heap .entry))) (length (now (spans .entry)))
-        && rightCount streams (length (now (hints .entry)))) ≡ false
-        → FeedUntouched (now (marks .entry)) (now (times .entry)) (now (places .entry)) (now (heads .entry)) (now (heap .entry)) (now (spans .entry))
-        (now (marks .exit)) (now (times .exit)) (now (places .exit)) (now (heads .exit)) (now (heap .exit)) (now (spans .exit))) ⌝ }
-    ensures { λ r. ⌜ ((openFits (length (now (marks .entry))) (length (now (times .entry))) (length (now (places .entry))) (length (now (heads .entry))) (length (now (heap .entry))) (length (now (spans .entry)))
-        && rightCount streams (length (now (hints .entry)))) ≡ true
-        → FeedOpened streams (now (hints .entry)) (now (marks .exit)) (now (times .exit)) (now (places .exit)) (now (heads .exit)) (now (heap .exit)) (now (spans .exit))) ⌝ }
+    ensures { λ r. ⌜ FeedOpens streams (now (hints .entry))
+        (feedArrays (now (marks .entry)) (now (times .entry)) (now (places .entry)) (now (heads .entry)) (now (heap .entry)) (now (spans .entry))) (openedOf r)
+        (feedArrays (now (marks .exit)) (now (times .exit)) (now (places .exit)) (now (heads .exit)) (now (heap .exit)) (now (spans .exit))) ⌝ }
 {
     if !open_fits(
         marks.len(),

@@ -19,12 +19,10 @@ use records_state::state::STANDING;
 use records_state::state::WAITING;
 use records_state::state::arrays_fit;
 ghost use mathlib.Core.Path.{_≡_};
-ghost use mathlib.Core.Bool.{true, false};
 ghost use mathlib.Core.List.{[], _∷_};
-ghost use Prim.Native.Nat.{ℕ, _<_, _≤_};
-ghost use lib.ListN.{length};
+ghost use Prim.Native.Nat.{_<_};
 ghost use Rattle.theory.specs.Answer.{answer};
-ghost use Rattle.feed_rules.specs.Spans.{handedOut, feedFits, FeedRoom, FeedOk, FeedSays, FeedUntouched, FeedNeeds};
+ghost use Rattle.feed_rules.specs.Spans.{handedOut, feedFits, FeedRoom, feedArrays, FedSays, FeedNext};
 ghost use Rattle.feed.specs.Answers.{fedOf};
 
 // What a call answers: a record, with the index in the window at which its bytes stand; the end; that more of a stream is needed first;
@@ -120,11 +118,10 @@ pub fn turns(
     spans: &mut [u64],
 ) -> FedTurn
     requires { ⌜ FeedRoom held (now marks) (now times) (now places) (now heads) (now heap) (now spans) ⌝ }
-    ensures { λ r. ⌜ (r .held ≤ held) × ((n : ℕ) → n ≤ 256 → FeedOk n held (now (marks .entry)) (now (times .entry)) (now (places .entry)) (now (heads .entry)) (now (heap .entry)) (now (spans .entry))
-        → FeedSays n (now (window .entry)) (now (marks .entry)) (now (times .entry)) (now (places .entry)) (now (heads .entry)) (now (spans .entry))
-        (fedOf (r .answer)) (r .held) (now (marks .exit)) (now (times .exit)) (now (places .exit)) (now (heads .exit)) (now (heap .exit)) (now (spans .exit)))
-        × FeedNeeds (now (window .entry)) held (now (marks .entry)) (now (times .entry)) (now (places .entry)) (now (heads .entry)) (now (heap .entry)) (now (spans .entry))
-        (fedOf (r .answer)) (r .held) (now (marks .exit)) (now (times .exit)) (now (places .exit)) (now (heads .exit)) (now (heap .exit)) (now (spans .exit)) ⌝ }
+    ensures { λ r. ⌜ FedSays (now (window .entry)) held
+        (feedArrays (now (marks .entry)) (now (times .entry)) (now (places .entry)) (now (heads .entry)) (now (heap .entry)) (now (spans .entry)))
+        (fedOf (r .answer)) (r .held)
+        (feedArrays (now (marks .exit)) (now (times .exit)) (now (places .exit)) (now (heads .exit)) (now (heap .exit)) (now (spans .exit))) ⌝ }
 {
     let mut size = held;
     loop {
@@ -197,21 +194,10 @@ pub fn next(
     heap: &mut [u8],
     spans: &mut [u64],
 ) -> FedTurn
-    ensures { λ r. ⌜ r .held ≤ held ⌝ }
-    ensures { λ r. ⌜ (feedFits held (length (now (marks .entry))) (length (now (times .entry))) (length (now (places .entry))) (length (now (heads .entry)))
-        (length (now (heap .entry))) (length (now (spans .entry))) (length (now (window .entry))) ≡ false
-        → (fedOf (r .answer) ≡ answer 15 []) × (r .held ≡ held)
-        × FeedUntouched (now (marks .entry)) (now (times .entry)) (now (places .entry)) (now (heads .entry)) (now (heap .entry)) (now (spans .entry))
-        (now (marks .exit)) (now (times .exit)) (now (places .exit)) (now (heads .exit)) (now (heap .exit)) (now (spans .exit))) ⌝ }
-    ensures { λ r. ⌜ (feedFits held (length (now (marks .entry))) (length (now (times .entry))) (length (now (places .entry))) (length (now (heads .entry)))
-        (length (now (heap .entry))) (length (now (spans .entry))) (length (now (window .entry))) ≡ true
-        → (n : ℕ) → n ≤ 256 → FeedOk n held (now (marks .entry)) (now (times .entry)) (now (places .entry)) (now (heads .entry)) (now (heap .entry)) (now (spans .entry))
-        → FeedSays n (now (window .entry)) (now (marks .entry)) (now (times .entry)) (now (places .entry)) (now (heads .entry)) (now (spans .entry))
-        (fedOf (r .answer)) (r .held) (now (marks .exit)) (now (times .exit)) (now (places .exit)) (now (heads .exit)) (now (heap .exit)) (now (spans .exit))) ⌝ }
-    ensures { λ r. ⌜ (feedFits held (length (now (marks .entry))) (length (now (times .entry))) (length (now (places .entry))) (length (now (heads .entry)))
-        (length (now (heap .entry))) (length (now (spans .entry))) (length (now (window .entry))) ≡ true
-        → FeedNeeds (now (window .entry)) held (now (marks .entry)) (now (times .entry)) (now (places .entry)) (now (heads .entry)) (now (heap .entry)) (now (spans .entry))
-        (fedOf (r .answer)) (r .held) (now (marks .exit)) (now (times .exit)) (now (places .exit)) (now (heads .exit)) (now (heap .exit)) (now (spans .exit))) ⌝ }
+    ensures { λ r. ⌜ FeedNext (now (window .entry)) held
+        (feedArrays (now (marks .entry)) (now (times .entry)) (now (places .entry)) (now (heads .entry)) (now (heap .entry)) (now (spans .entry)))
+        (fedOf (r .answer)) (r .held)
+        (feedArrays (now (marks .exit)) (now (times .exit)) (now (places .exit)) (now (heads .exit)) (now (heap .exit)) (now (spans .exit))) ⌝ }
 {
     if !feed_fits(
         held,

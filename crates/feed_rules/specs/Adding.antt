@@ -8,9 +8,9 @@ use lib.ListN.{length, getD, set, drop}
 use lib.Seq.{paste}
 use lib.Dec.{eqb, ltb, leb}
 use Rattle.theory.specs.Answer.{Answer}
-use Rattle.records_rules.specs.State.{arraysFit}
+use Rattle.records_rules.specs.State.{arraysFit, opening}
 use Rattle.feed_rules.specs.Windows.{opened, closed, taking, addAnswer, addLeaves, endAnswer, endLeaves, Alike}
-use Rattle.feed_rules.specs.Spans.{counts, feedOf, FeedOk}
+use Rattle.feed_rules.specs.Spans.{counts, feedOf, FeedOk, FeedArrays}
 
 -- ---- what is lent: where it does not fit, 15
 
@@ -79,3 +79,21 @@ pub record FeedOpened (n : ℕ) (hints ms ts cs hs hp ps : List ℕ) : Type 0 wh
   pub starts : (window : List ℕ) → Alike (feedOf n window ms ts cs hs ps) (opened n hints)
   pub sound : FeedOk n n ms ts cs hs hp ps
   pub spans : (q : ℕ) → q < 256 → getD ps q 0 ≡ 0
+
+-- ---- what an opening promises, over the arrays as one
+
+abbrev pub openFitIn : FeedArrays → Bool
+openFitIn a = openFits (length (a .marks)) (length (a .times)) (length (a .places)) (length (a .heads)) (length (a .heap)) (length (a .spans))
+
+abbrev pub FeedOpenedIn : ℕ → List ℕ → FeedArrays → Type 0
+FeedOpenedIn n hints a = FeedOpened n hints (a .marks) (a .times) (a .places) (a .heads) (a .heap) (a .spans)
+
+-- what `open` answers of so many streams and their hints
+abbrev pub feedOpenAnswer : ℕ → List ℕ → FeedArrays → Answer
+feedOpenAnswer n hints a = opening (openFitIn a) (rightCount n (length hints)) n
+
+-- `open`: a refusal leaves everything as it was
+pub record FeedOpens (n : ℕ) (hints : List ℕ) (a : FeedArrays) (x : Answer) (a' : FeedArrays) : Type 0 where
+  pub answers : x ≡ feedOpenAnswer n hints a
+  pub refused : (openFitIn a && rightCount n (length hints)) ≡ false → a' ≡ a
+  pub accepted : (openFitIn a && rightCount n (length hints)) ≡ true → FeedOpenedIn n hints a'

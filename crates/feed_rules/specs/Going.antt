@@ -22,8 +22,8 @@ use Rattle.feed_rules.specs.Windows.{Kept, knownIn, from, Feed, counted,
 use Rattle.feed_rules.specs.Windows.{turnIn, turnLeaves, nextLeaves, turnAnswer, nextAnswer, Alike}
 use Rattle.feed_rules.specs.WindowsLaws.{known-from}
 use Rattle.feed_rules.specs.Spans.{dropped, counts, keptOf, feedOf, gotKnown}
-use Rattle.feed_rules.specs.Spans.{SlotOk, FeedOk, FeedRoom, FeedUntouched, FeedSays, Wanting, FeedNeeds}
-use Rattle.feed_rules.specs.SpansLaws.{drop-start, drop-fill, drop-ended, kept-one, from-from, untouched}
+use Rattle.feed_rules.specs.Spans.{SlotOk, FeedOk, FeedRoom, feedArrays, FeedSays, Wanting, FeedNeeds, FedSays}
+use Rattle.feed_rules.specs.SpansLaws.{drop-start, drop-fill, drop-ended, kept-one, from-from}
 use Rattle.feed_rules.specs.Stores.{not-there, alive}
 
 -- ---- what is kept in the loop
@@ -67,7 +67,7 @@ pub record Going⁺ (window : List ℕ) (held : ℕ) (ms₀ ts₀ cs₀ hs₀ hp
   pub spans : length ps ≡ length ps₀
   pub few : size ≤ held
   -- where more must come first nothing has changed
-  pub still : Wanting window held ms₀ hs₀ hp₀ ps₀ → (size ≡ held) × FeedUntouched ms₀ ts₀ cs₀ hs₀ hp₀ ps₀ ms ts cs hs hp ps
+  pub still : Wanting window held ms₀ hs₀ hp₀ ps₀ → (size ≡ held) × (feedArrays ms ts cs hs hp ps ≡ feedArrays ms₀ ts₀ cs₀ hs₀ hp₀ ps₀)
   pub keeps : (n : ℕ) → n ≤ 256 → FeedOk n held ms₀ ts₀ cs₀ hs₀ hp₀ ps₀
       → Keeps⁺ n window ms₀ ts₀ cs₀ hs₀ ps₀ size ms ts cs hs hp ps
 
@@ -99,7 +99,7 @@ going-start⁺ window held ms ts cs hs hp ps =
       heap = refl;
       spans = refl;
       few = omega arith;
-      still = λ w. (refl, untouched);
+      still = λ w. (refl, refl);
       keeps = λ n hn k. record { sound = k; same = refl; kept = λ q l d. record { on = omega arith; is = from-base _ } };
     }
 
@@ -228,9 +228,7 @@ module _ (k t l : ℕ) (d : k ≢ 5) where
 abbrev pub Done⁺ : (window : List ℕ) (held : ℕ) (ms₀ ts₀ cs₀ hs₀ hp₀ ps₀ : List ℕ) (x : Answer) (size : ℕ) (ms ts cs hs hp ps : List ℕ)
     → Type 0
 Done⁺ window held ms₀ ts₀ cs₀ hs₀ hp₀ ps₀ x size ms ts cs hs hp ps =
-    (size ≤ held) × ((n : ℕ) → n ≤ 256 → FeedOk n held ms₀ ts₀ cs₀ hs₀ hp₀ ps₀
-    → FeedSays n window ms₀ ts₀ cs₀ hs₀ ps₀ x size ms ts cs hs hp ps)
-    × FeedNeeds window held ms₀ ts₀ cs₀ hs₀ hp₀ ps₀ x size ms ts cs hs hp ps
+    FedSays window held (feedArrays ms₀ ts₀ cs₀ hs₀ hp₀ ps₀) x size (feedArrays ms ts cs hs hp ps)
 
 -- an answer that is not need more, where nothing more had to come first
 pub needs-not : {window : List ℕ} {held : ℕ} {ms₀ ts₀ cs₀ hs₀ hp₀ ps₀ : List ℕ} {x : Answer} {size : ℕ} {ms ts cs hs hp ps : List ℕ}

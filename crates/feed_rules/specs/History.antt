@@ -27,8 +27,8 @@ use Rattle.feed_rules.specs.Windows.{taking, grow, shut, addAnswer, addL
 use Rattle.feed_rules.specs.Windows.{counted, keptBy, turnIn, turnLeaves, nextLeaves, turnAnswer, nextAnswer, Alike}
 use Rattle.feed_rules.specs.Windows.{Call, portion, word, call, answerTo, leaves, answersTo, lastly, heard, Within}
 use Rattle.feed_rules.specs.Portions.{Covers, covers-step, call-within, opened-within, record-bytes, Brought, portioned-are}
-use Rattle.feed_rules.specs.Spans.{bytesIn, keptOf, feedOf, FeedSays}
-use Rattle.feed_rules.specs.Adding.{FeedAdds, FeedEnds, FeedOpened}
+use Rattle.feed_rules.specs.Spans.{bytesIn, keptOf, feedOf, FeedArrays, feedArrays, feedAt, FeedSaysIn}
+use Rattle.feed_rules.specs.Adding.{FeedAdds, FeedEnds, FeedOpenedIn}
 
 -- ---- a turn asks only of streams that wait, and wakes nobody
 
@@ -269,27 +269,26 @@ equal-for-ever F G (c ∷ cs) s =
 pub record FeedLent : Type 0 where
   pub held : ℕ
   pub window : List ℕ
-  pub marks : List ℕ
-  pub times : List ℕ
-  pub places : List ℕ
-  pub heads : List ℕ
-  pub heap : List ℕ
-  pub spans : List ℕ
+  pub arrays : FeedArrays
 
 abbrev pub feedIn : ℕ → FeedLent → Feed
-feedIn n s = feedOf n (s .window) (s .marks) (s .times) (s .places) (s .heads) (s .spans)
+feedIn n s = feedAt n (s .window) (s .arrays)
+
+-- the arrays with these spans
+abbrev spanned : FeedArrays → List ℕ → FeedArrays
+spanned a ps = feedArrays (a .marks) (a .times) (a .places) (a .heads) (a .heap) ps
 
 -- one call from the state s to the state s', and what it answered
 abbrev pub Calling : ℕ → FeedLent → Call → Answer → FeedLent → Type 0
 Calling n s (portion p xs) x s' =
-    FeedAdds n (s .held) (s .window) (s .marks) (s .times) (s .places) (s .heads) (s .heap) (s .spans) p xs x (s' .window) (s' .spans)
-    × (s' ≡ record { held = s .held; window = s' .window; marks = s .marks; times = s .times; places = s .places; heads = s .heads; heap = s .heap; spans = s' .spans })
+    let a = s .arrays in
+    FeedAdds n (s .held) (s .window) (a .marks) (a .times) (a .places) (a .heads) (a .heap) (a .spans) p xs x (s' .window) (s' .arrays .spans)
+    × (s' ≡ record { held = s .held; window = s' .window; arrays = spanned a (s' .arrays .spans) })
 Calling n s (word p) x s' =
-    FeedEnds n (s .held) (s .window) (s .marks) (s .times) (s .places) (s .heads) (s .heap) (s .spans) p x (s' .spans)
-    × (s' ≡ record { held = s .held; window = s .window; marks = s .marks; times = s .times; places = s .places; heads = s .heads; heap = s .heap; spans = s' .spans })
-Calling n s call x s' =
-    FeedSays n (s .window) (s .marks) (s .times) (s .places) (s .heads) (s .spans) x (s' .held) (s' .marks) (s' .times) (s' .places) (s' .heads) (s' .heap) (s' .spans)
-    × (s' .window ≡ s .window)
+    let a = s .arrays in
+    FeedEnds n (s .held) (s .window) (a .marks) (a .times) (a .places) (a .heads) (a .heap) (a .spans) p x (s' .arrays .spans)
+    × (s' ≡ record { held = s .held; window = s .window; arrays = spanned a (s' .arrays .spans) })
+Calling n s call x s' = FeedSaysIn n (s .window) (s .arrays) x (s' .held) (s' .arrays) × (s' .window ≡ s .window)
 
 -- calls from the state s on, and what they answered
 pub data FeedCalls (n : ℕ) : FeedLent → List Call → List Answer → Type 0 where
@@ -304,7 +303,7 @@ call-answers n s (portion p xs) x s' (a, e) = (a .heard, subst (λ (t : FeedLent
 call-answers n s (word p) x s' (a, e) = (a .heard, subst (λ (t : FeedLent). Alike (feedIn n t) (endLeaves (feedIn n s) p)) (sym e) (a .leaves))
 call-answers n s call x s' (a, e) = (
   a .heard,
-  subst (λ (w : List ℕ). Alike (feedOf n w (s' .marks) (s' .times) (s' .places) (s' .heads) (s' .spans)) (nextLeaves (feedIn n s))) (sym e) (a .leaves),
+  subst (λ (w : List ℕ). Alike (feedAt n w (s' .arrays)) (nextLeaves (feedIn n s))) (sym e) (a .leaves),
 )
 
 pub feed-calls-are : {n : ℕ} {s : FeedLent} {cs : List Call} {xs : List Answer} → FeedCalls n s cs xs → xs ≡ answersTo (feedIn n s) cs
@@ -319,7 +318,7 @@ feed-calls-are {n} {s} (more {s' = s'} {c = c} {x = x} {cs = cs} {xs = xs} told 
 -- THE THEOREM: an opening of n streams and then calls in any order. They are answered as on what is kept; and whatever the portions, the
 -- answers without "need more" are those of the whole streams, as many
 pub opened-fed : {n : ℕ} {hints : List ℕ} {s : FeedLent} {cs : List Call} {xs : List Answer}
-    → FeedOpened n hints (s .marks) (s .times) (s .places) (s .heads) (s .heap) (s .spans) → FeedCalls n s cs xs
+    → FeedOpenedIn n hints (s .arrays) → FeedCalls n s cs xs
     → (xs ≡ answersTo (opened n hints) cs)
     × ((b : ℕ → List ℕ) → ((p : ℕ) → Brought n hints cs p (b p))
     → heard (opened n hints) cs ≡ answersF (length (heard (opened n hints) cs)) (λ p. bytesOf (b p)) (start (padded n hints)))
@@ -339,7 +338,7 @@ abbrev pub After : (n : ℕ) (hints : List ℕ) → List Call → FeedLent → T
 After n hints cs s = Alike (feedIn n s) (lastly (opened n hints) cs)
 
 pub after-opening : (n : ℕ) (hints : List ℕ) (s : FeedLent)
-    → FeedOpened n hints (s .marks) (s .times) (s .places) (s .heads) (s .heap) (s .spans) → After n hints [] s
+    → FeedOpenedIn n hints (s .arrays) → After n hints [] s
 unfolding lastly
 after-opening n hints s o = o .starts (s .window)
 
@@ -367,7 +366,7 @@ pub window-record : (n : ℕ) (hints : List ℕ) (cs ds : List Call) (s : FeedLe
     → (x : Answer) (s' : FeedLent) → Calling n s call x s'
     → (p : ℕ) (b : List ℕ) → Brought n hints (cs ++ call ∷ ds) p b
     → (a : ℕ) (r : Rec) (ss : List Status) → turnIn (lastly (opened n hints) cs) ≡ replies (says p (record-at a r)) ss
-    → take (r .size) (bytesIn (s' .window) p (getD (s' .spans) p 0)) ≡ slice a (a + r .size) b
+    → take (r .size) (bytesIn (s' .window) p (getD (s' .arrays .spans) p 0)) ≡ slice a (a + r .size) b
 unfolding nextLeaves turnLeaves feedOf keptOf opened leaves
 window-record n hints cs ds s k x s' told p b br a r ss e =
     let O = opened n hints in

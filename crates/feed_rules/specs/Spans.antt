@@ -4,7 +4,7 @@
 use mathlib.Core.Path.{_≡_}
 use mathlib.Core.Logic.{_≢_}
 use Prim.Native.Nat.{ℕ, _+_, _-_, _*_, _/_, _%_, _<_, _≤_, _^_}
-use mathlib.Core.Bool.{Bool, not, cond, _&&_, _||_}
+use mathlib.Core.Bool.{Bool, false, true, not, cond, _&&_, _||_}
 use mathlib.Core.Option.{Option, none, some}
 use mathlib.Core.List.{List, [], _∷_}
 use lib.ListN.{length, getD}
@@ -98,14 +98,23 @@ abbrev pub FeedRoom : ℕ → List ℕ → List ℕ → List ℕ → List ℕ �
 FeedRoom held ms ts cs hs hp ps =
     (held ≤ 256) × (256 ≤ length ms) × (256 ≤ length ts) × (256 ≤ length cs) × (256 ≤ length hs) × (256 ≤ length hp) × (256 ≤ length ps)
 
--- what is lent is as at entry
-pub record FeedUntouched (ms ts cs hs hp ps ms' ts' cs' hs' hp' ps' : List ℕ) : Type 0 where
-  pub marks : ms' ≡ ms
-  pub times : ts' ≡ ts
-  pub places : cs' ≡ cs
-  pub heads : hs' ≡ hs
-  pub heap : hp' ≡ hp
-  pub spans : ps' ≡ ps
+-- the six arrays as one
+pub record FeedArrays : Type 0 where
+  pub marks : List ℕ
+  pub times : List ℕ
+  pub places : List ℕ
+  pub heads : List ℕ
+  pub heap : List ℕ
+  pub spans : List ℕ
+
+abbrev pub feedArrays : List ℕ → List ℕ → List ℕ → List ℕ → List ℕ → List ℕ → FeedArrays
+feedArrays marks times places heads heap spans =
+    record { marks = marks; times = times; places = places; heads = heads; heap = heap; spans = spans }
+
+-- they and the window have their lengths, and no more of the heap is in use
+abbrev pub feedFitIn : ℕ → List ℕ → FeedArrays → Bool
+feedFitIn held window a =
+    feedFits held (length (a .marks)) (length (a .times)) (length (a .places)) (length (a .heads)) (length (a .heap)) (length (a .spans)) (length window)
 
 -- the answer x and what is left are those of the call for the next answer, and the state left is sound
 pub record FeedSays (n : ℕ) (window ms ts cs hs ps : List ℕ) (x : Answer) (held : ℕ) (ms' ts' cs' hs' hp' ps' : List ℕ) : Type 0 where
@@ -128,4 +137,35 @@ pub record FeedNeeds (window : List ℕ) (held : ℕ) (ms ts cs hs hp ps : List 
     : Type 0 where
   pub left : (p : ℕ) → x ≡ answer 0 (p ∷ []) → (p ≡ at hp' 0) × Wanting window held' ms' hs' hp' ps'
   pub again : Wanting window held ms hs hp ps
-      → (x ≡ answer 0 (at hp 0 ∷ [])) × (held' ≡ held) × FeedUntouched ms ts cs hs hp ps ms' ts' cs' hs' hp' ps'
+      → (x ≡ answer 0 (at hp 0 ∷ [])) × (held' ≡ held) × (feedArrays ms' ts' cs' hs' hp' ps' ≡ feedArrays ms ts cs hs hp ps)
+
+-- ---- what a call promises, over the arrays as one
+
+-- what is kept of n streams
+abbrev pub feedAt : ℕ → List ℕ → FeedArrays → Feed
+feedAt n window a = feedOf n window (a .marks) (a .times) (a .places) (a .heads) (a .spans)
+
+abbrev pub FeedSound : ℕ → ℕ → FeedArrays → Type 0
+FeedSound n held a = FeedOk n held (a .marks) (a .times) (a .places) (a .heads) (a .heap) (a .spans)
+
+abbrev pub FeedSaysIn : ℕ → List ℕ → FeedArrays → Answer → ℕ → FeedArrays → Type 0
+FeedSaysIn n window a x held a' =
+    FeedSays n window (a .marks) (a .times) (a .places) (a .heads) (a .spans) x held (a' .marks) (a' .times) (a' .places) (a' .heads) (a' .heap) (a' .spans)
+
+abbrev pub FeedNeedsIn : List ℕ → ℕ → FeedArrays → Answer → ℕ → FeedArrays → Type 0
+FeedNeedsIn window held a x held' a' =
+    FeedNeeds window held (a .marks) (a .times) (a .places) (a .heads) (a .heap) (a .spans)
+    x held' (a' .marks) (a' .times) (a' .places) (a' .heads) (a' .heap) (a' .spans)
+
+-- a call on arrays that have the room: the heap holds no more than before, a sound state says what the call for the next answer does, and
+-- need more is as above
+pub record FedSays (window : List ℕ) (held : ℕ) (a : FeedArrays) (x : Answer) (held' : ℕ) (a' : FeedArrays) : Type 0 where
+  pub fewer : held' ≤ held
+  pub says : (n : ℕ) → n ≤ 256 → FeedSound n held a → FeedSaysIn n window a x held' a'
+  pub needs : FeedNeedsIn window held a x held' a'
+
+-- `next`: 15 and nothing changed where what is lent is not right; else as above
+pub record FeedNext (window : List ℕ) (held : ℕ) (a : FeedArrays) (x : Answer) (held' : ℕ) (a' : FeedArrays) : Type 0 where
+  pub fewer : held' ≤ held
+  pub refused : feedFitIn held window a ≡ false → (x ≡ answer 15 []) × (held' ≡ held) × (a' ≡ a)
+  pub told : feedFitIn held window a ≡ true → FedSays window held a x held' a'

@@ -21,7 +21,7 @@ use Rattle.records_rules.specs.State.{arraysFit, gotOf}
 use Rattle.records_rules.specs.Opening.{arrays-room}
 use Rattle.feed_rules.specs.Partial.{part, soFar, knownAt}
 use Rattle.feed_rules.specs.Windows.{Kept, from}
-use Rattle.feed_rules.specs.Spans.{dropped, counts, bytesIn, keptOf, knownBy, gotKnown, feedFits, FeedRoom, FeedUntouched, FeedNeeds}
+use Rattle.feed_rules.specs.Spans.{dropped, counts, bytesIn, keptOf, knownBy, gotKnown, feedFits, FeedRoom, feedArrays, FeedNeeds}
 
 -- ---- a span without its first bytes
 
@@ -217,15 +217,12 @@ fits-room held ms ts cs hs hp ps window e =
     let r = arrays-room held ms ts cs hs hp (a .0) in
     ((r .0, r .1, r .2, r .3, r .4, r .5, omega (arith, eqb-true (length ps) 256 (b .0))), eqb-true (length window) 262144 (b .1))
 
-pub untouched : {ms ts cs hs hp ps : List ℕ} → FeedUntouched ms ts cs hs hp ps ms ts cs hs hp ps
-untouched = record { marks = refl; times = refl; places = refl; heads = refl; heap = refl; spans = refl }
-
 -- need more, asked again: the same answer, and everything as it was
 pub needs-twice : {window : List ℕ} {held : ℕ} {ms ts cs hs hp ps : List ℕ} {x : Answer} {held' : ℕ} {ms' ts' cs' hs' hp' ps' : List ℕ}
     {y : Answer} {held'' : ℕ} {ms'' ts'' cs'' hs'' hp'' ps'' : List ℕ} (p : ℕ) → x ≡ answer 0 (p ∷ [])
     → FeedNeeds window held ms ts cs hs hp ps x held' ms' ts' cs' hs' hp' ps'
     → FeedNeeds window held' ms' ts' cs' hs' hp' ps' y held'' ms'' ts'' cs'' hs'' hp'' ps''
-    → (y ≡ x) × (held'' ≡ held') × FeedUntouched ms' ts' cs' hs' hp' ps' ms'' ts'' cs'' hs'' hp'' ps''
+    → (y ≡ x) × (held'' ≡ held') × (feedArrays ms'' ts'' cs'' hs'' hp'' ps'' ≡ feedArrays ms' ts' cs' hs' hp' ps')
 needs-twice p e a b =
     let l = a .left p e in
     let z = b .again (l .1) in

@@ -21,7 +21,7 @@ use Rattle.feed_rules.specs.Partial.{part, knownAt, Turn⁺, replies, ne
 use Rattle.feed_rules.specs.PartialLaws.{rule-end⁺, rule-record⁺, rule-wants⁺, rule-ended⁺, rule-damaged⁺, rule-whole⁺}
 use Rattle.feed_rules.specs.Windows.{Kept, knownIn, from, counted, turnLeaves, turnAnswer}
 use Rattle.feed_rules.specs.WindowsLaws.{known-from, known-here, known-fits}
-use Rattle.feed_rules.specs.Spans.{dropped, counts, bytesIn, keptOf, feedOf, gotKnown, handedOut, SlotOk, FeedOk, FeedRoom, Wanting}
+use Rattle.feed_rules.specs.Spans.{dropped, counts, bytesIn, keptOf, feedOf, gotKnown, handedOut, SlotOk, FeedOk, FeedRoom, FeedArrays, feedArrays, Wanting}
 use Rattle.feed_rules.specs.SpansLaws.{dropped-zero, kept-dropped}
 use Rattle.feed_rules.specs.Stores.{put-set, put-none, slots-put, unused-put, waits-at, stands-at, gone-set, stand-set, wait-set, head-set}
 use Rattle.feed_rules.specs.Going.{Later, later-from, known-later, keptAt, Keeps⁺, Going⁺, going-room, counts-none, counts-zero}
@@ -45,22 +45,30 @@ module _ {window : List ℕ} {held : ℕ} {ms₀ ts₀ cs₀ hs₀ hp₀ ps₀ :
 
   -- where more had to come first at entry, this is the state at entry
   want : Wanting window held ms₀ hs₀ hp₀ ps₀ → Wanting window size ms hs hp ps
-  want w = let u = g .still w in rw (u .0, u .1 .marks, u .1 .heads, u .1 .heap, u .1 .spans) w
+  want w =
+      let u = g .still w in
+      rw (
+        u .0,
+        ap (λ (a : FeedArrays). a .marks) (u .1),
+        ap (λ (a : FeedArrays). a .heads) (u .1),
+        ap (λ (a : FeedArrays). a .heap) (u .1),
+        ap (λ (a : FeedArrays). a .spans) (u .1),
+      ) w
 
   pub step-end⁺ : size ≡ 0 → Done⁺ window held ms₀ ts₀ cs₀ hs₀ hp₀ ps₀ (answer 0 []) size ms ts cs hs hp ps
   unfolding feedOf rest⁺ counted turnAnswer
-  step-end⁺ e = (
-    g .few,
-    λ n hn k.
+  step-end⁺ e = record {
+    fewer = g .few;
+    says = λ n hn k.
         let x = g .keeps n hn k in
         let ok = x .sound in
         says-by (answer 0 []) (replies end (ss n))
         (sym (x .same) ∙ rule-end⁺ kn (ss n) (ok-none n ms ts hp size (ok .state .heaped) e .nobody refl cs hs))
         refl (x .kept)
         (λ q l m. absurd (omega (arith, e, ok .state .heaped .holds .there q l (λ z. omega arith) .1)))
-        ok (λ a. refl),
-    needs-not (λ q i. let z : _≡_ {A = ℕ} 0 1 = cc in omega arith) (λ w. let h = want w .any in omega arith),
-  )
+        ok (λ a. refl);
+    needs = needs-not (λ q i. let z : _≡_ {A = ℕ} 0 1 = cc in omega arith) (λ w. let h = want w .any in omega arith);
+  }
 
   module _ {p : ℕ} (e : p ≡ at hp 0) (pos : 0 < size) where
     module _ (n : ℕ) (hn : n ≤ 256) (ok : FeedOk n size ms ts cs hs hp ps) where
@@ -82,9 +90,9 @@ module _ {window : List ℕ} {held : ℕ} {ms₀ ts₀ cs₀ hs₀ hp₀ ps₀ :
         (handedOut p (getD cs p 0) (getD ps p 0) (getD hs p 0) (getD ts p 0))
         size (set ms p 1) ts (set cs p a) (set hs p (getD hs p 0 % 65536)) hp ps
     unfolding feedOf rest⁺ counted turnAnswer turnLeaves recIn handedOut
-    step-record⁺ d a f = (
-      g .few,
-      λ n hn k.
+    step-record⁺ d a f = record {
+      fewer = g .few;
+      says = λ n hn k.
           let x = g .keeps n hn k in
           let ok = x .sound in
           let r : p < n = root n hn ok in
@@ -129,9 +137,9 @@ module _ {window : List ℕ} {held : ℕ} {ms₀ ts₀ cs₀ hs₀ hp₀ ps₀ :
           })
           (λ al. ap (λ (y : Kept). answer 0 (p ∷ b ∷ y .at ∷ sz ∷ (getD hs p 0 / 65536 % 65536) ∷ (getD hs p 0 / 4294967296) ∷ getD ts p 0 ∷ []))
           (al .kept p (λ i. let z : waiting (getD ts p 0) (b + sz) ≡ gone = sym stored
-          ∙ i in let y : _≡_ {A = ℕ} 0 1 = cc in absurd (omega arith))))),
-      needs-not (λ q i. let z : _≡_ {A = ℕ} 0 1 = cc in omega arith) (λ v. d (rw e (want v .waits))),
-    )
+          ∙ i in let y : _≡_ {A = ℕ} 0 1 = cc in absurd (omega arith)))));
+      needs = needs-not (λ q i. let z : _≡_ {A = ℕ} 0 1 = cc in omega arith) (λ v. d (rw e (want v .waits)));
+    }
 
     module _ (w : getD ms p 0 ≡ 1) (k t l : ℕ)
         (got : gotKnown k t l ≡ knownAt (part (bytesIn window p (dropped (getD ps p 0) (getD hs p 0 % 65536)))
@@ -197,9 +205,9 @@ module _ {window : List ℕ} {held : ℕ} {ms₀ ts₀ cs₀ hs₀ hp₀ ps₀ :
       pub step-wants⁺ : k ≡ 5 → p < 256
           → Done⁺ window held ms₀ ts₀ cs₀ hs₀ hp₀ ps₀ (answer 0 (p ∷ [])) size ms ts cs (set hs p 0) hp (set ps p less)
       unfolding feedOf rest⁺ counted turnAnswer
-      step-wants⁺ d below = (
-        g .few,
-        λ n hn z.
+      step-wants⁺ d below = record {
+        fewer = g .few;
+        says = λ n hn z.
             let x = g .keeps n hn z in
             let ok = x .sound in
             let r : p < n = root n hn ok in
@@ -228,8 +236,8 @@ module _ {window : List ℕ} {held : ℕ} {ms₀ ts₀ cs₀ hs₀ hp₀ ps₀ :
               lone = slots-put (λ q m c h z. q < n → m ≡ 1 → q ≢ at hp 0 → h % 65536 ≡ 0) u₁ u₂ u₃ u₄ (λ q i. ok .lone q) (λ i j z. refl);
               unused = ok .unused;
             })
-            (λ al. refl),
-        record {
+            (λ al. refl);
+        needs = record {
           left = λ q i.
               let z : q ≡ p = cc in
               let u = put-set ps p less (omega (arith, roomy .6)) in (
@@ -243,20 +251,15 @@ module _ {window : List ℕ} {held : ℕ} {ms₀ ts₀ cs₀ hs₀ hp₀ ps₀ :
               );
           again = λ v.
               let u = g .still v in
-              let z = none-counted (want v) in (
-                ap (λ (q : ℕ). answer 0 (q ∷ [])) (e ∙ ap (λ (h : List ℕ). at h 0) (u .1 .heap)),
+              let z = none-counted (want v) in
+              let heads-back : set hs p 0 ≡ hs = ap (set hs p) (sym (z .0)) ∙ set-getD hs p 0 in
+              let spans-back : set ps p less ≡ ps = ap (set ps p) (z .1) ∙ set-getD ps p 0 in (
+                ap (λ (q : ℕ). answer 0 (q ∷ [])) (e ∙ ap (λ (a : FeedArrays). at (a .heap) 0) (u .1)),
                 u .0,
-                record {
-                  marks = u .1 .marks;
-                  times = u .1 .times;
-                  places = u .1 .places;
-                  heads = ap (set hs p) (sym (z .0)) ∙ set-getD hs p 0 ∙ u .1 .heads;
-                  heap = u .1 .heap;
-                  spans = ap (set ps p) (z .1) ∙ set-getD ps p 0 ∙ u .1 .spans;
-                },
+                (λ i. feedArrays ms ts cs (heads-back i) hp (spans-back i)) ∙ u .1,
               );
-        },
-      )
+        };
+      }
 
       module _ (known : k ≢ 5) where
         module _ {hq : List ℕ} (sf : Sifted ts (size - 1) 0 (set hp 0 (at hp (size - 1))) hq) where
@@ -325,9 +328,9 @@ module _ {window : List ℕ} {held : ℕ} {ms₀ ts₀ cs₀ hs₀ hp₀ ps₀ :
           pub step-damaged⁺ : k ≢ 0 → k < 4
               → Done⁺ window held ms₀ ts₀ cs₀ hs₀ hp₀ ps₀ (answer 13 (p ∷ getD cs p 0 ∷ k ∷ [])) (size - 1) (set ms p 0) ts cs hs hq ps
           unfolding feedOf rest⁺ counted turnAnswer
-          step-damaged⁺ d h = (
-            omega (arith, g .few),
-            λ n hn z.
+          step-damaged⁺ d h = record {
+            fewer = omega (arith, g .few);
+            says = λ n hn z.
                 let x = g .keeps n hn z in
                 let ok = x .sound in
                 let r : p < n = root n hn ok in
@@ -340,9 +343,9 @@ module _ {window : List ℕ} {held : ℕ} {ms₀ ts₀ cs₀ hs₀ hp₀ ps₀ :
                 (kept-closed n hn x)
                 (alone n hn ok)
                 (closed n hn ok)
-                (λ al. refl),
-            needs-not (λ q i. let z : _≡_ {A = ℕ} 13 0 = cc in omega arith) (λ v. known (not-known (want v))),
-          )
+                (λ al. refl);
+            needs = needs-not (λ q i. let z : _≡_ {A = ℕ} 13 0 = cc in omega arith) (λ v. known (not-known (want v)));
+          }
 
         -- it stands at a record now
         pub step-whole⁺ : 4 ≤ k → {hq : List ℕ} → Sifted (set ts p t) size 0 hp hq → length hq ≡ length hp

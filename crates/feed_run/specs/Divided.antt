@@ -12,8 +12,8 @@ use Rattle.records_rules.specs.Machine.{record-at, damage-at, says, end}
 use Rattle.feed_rules.specs.Partial.{Turn⁺, replies, needs}
 use Rattle.feed_rules.specs.Windows.{Kept, Feed, opened, turnIn, turnAnswer, nextAnswer, nextLeaves}
 use Rattle.feed_rules.specs.Windows.{Call, portion, word, call, answerTo, leaves, answersTo, lastly, Alike}
-use Rattle.feed_rules.specs.Spans.{feedOf}
-use Rattle.feed_rules.specs.Adding.{FeedOpened}
+use Rattle.feed_rules.specs.Spans.{feedAt}
+use Rattle.feed_rules.specs.Adding.{FeedOpenedIn}
 use Rattle.feed_rules.specs.History.{FeedLent, feedIn, Calling, call-answers, same-call, same-left, alike-trans}
 use Rattle.feed_run.specs.Run.{noteOf⁺, say⁺, ranOf⁺, FeedRunSays}
 
@@ -97,8 +97,7 @@ pub data FeedRuns (n : ℕ) : FeedLent → List Call → List Answer → FeedLen
   one : {s s' t : FeedLent} {c : Call} (x : Answer) {cs : List Call} {xs : List Answer}
       → Calling n s c x s' → FeedRuns n s' cs xs t → FeedRuns n s (c ∷ cs) (shownBy c x ∷ xs) t
   run : {s s' t : FeedLent} {k : ℕ} {ws : List ℕ} {cs : List Call} {xs : List Answer} (g : Gave)
-      → FeedRunSays n k (s .window) (s .marks) (s .times) (s .places) (s .heads) (s .spans) ws (g .calls) (g .written) (s' .held) (g .last)
-      (s' .marks) (s' .times) (s' .places) (s' .heads) (s' .heap) (s' .spans) (g .list)
+      → FeedRunSays n k (s .window) (s .arrays) ws (g .calls) (g .written) (s' .held) (g .last) (s' .arrays) (g .list)
       → s' .window ≡ s .window → FeedRuns n s' cs xs t → FeedRuns n s (calls (g .calls) ++ cs) (seen g ++ xs) t
 
 -- they show what the single calls answer, and leave what these leave
@@ -125,7 +124,7 @@ runs-single {n} {s} {t} (run {s' = s'} {k = k} {cs = cs} {xs = xs} g told same m
     let G = lastly F (calls (g .calls)) in
     let like : Alike (feedIn n s') G =
     subst (λ (H : Feed). Alike (feedIn n s') H) (w .leaves ∙ left (g .calls) F)
-    (subst (λ (v : List ℕ). Alike (feedOf n v (s' .marks) (s' .times) (s' .places) (s' .heads) (s' .spans)) (ranOf⁺ k F .left)) (sym same) (told .leaves)) in
+    (subst (λ (v : List ℕ). Alike (feedAt n v (s' .arrays)) (ranOf⁺ k F .left)) (sym same) (told .leaves)) in
     let i = as-single n (feedIn n s') G cs xs t like (runs-single more) in
     record {
       shows = ap₂ _++_ (w .shows ∙ single (g .calls) F) (i .shows) ∙ sym (shown-join F (calls (g .calls)) cs);
@@ -141,6 +140,6 @@ runs-alike {n} {s} {s'} {t} {t'} {cs} {xs} k x y =
 
 -- from an opening on they show what the single calls answer of what is kept; `opened-fed` says what that is of the whole streams
 pub opened-runs : {n : ℕ} {hints : List ℕ} {s t : FeedLent} {cs : List Call} {xs : List Answer}
-    → FeedOpened n hints (s .marks) (s .times) (s .places) (s .heads) (s .heap) (s .spans) → FeedRuns n s cs xs t
+    → FeedOpenedIn n hints (s .arrays) → FeedRuns n s cs xs t
     → AsSingle n (opened n hints) cs xs t
 opened-runs {n} {hints} {s} {t} {cs} {xs} o x = as-single n (feedIn n s) (opened n hints) cs xs t (o .starts (s .window)) (runs-single x)

@@ -1,18 +1,20 @@
 -- A run over streams that arrive in portions: at most a stated number of calls for the next answer, and what it hands back (RULES,
 -- Requests, No. 14). Assumes nothing.
 use mathlib.Core.Path.{_≡_, refl, ap}
-use Prim.Native.Nat.{ℕ}
+use Prim.Native.Nat.{ℕ, _≤_}
+use mathlib.Core.Bool.{true, false}
+use lib.ListN.{length}
 use native.Mathlib.Omega.{arith}
 use mathlib.Core.List.{List, [], _∷_}
 use Rattle.theory.specs.Answer.{Answer, answer}
 use Rattle.leaves.specs.Refusal.{numberOf, refused}
 use Rattle.leaves.specs.RefusalLaws.{refused-not-done, refused-one}
 use Rattle.run_rules.specs.Batch.{Ran}
-use Rattle.run_rules.specs.Rows.{Note, writes, stops, runOf, going, ended, wanting, Gives}
+use Rattle.run_rules.specs.Rows.{runFits, most, Note, writes, stops, runOf, going, ended, wanting, Gives}
 use Rattle.records_rules.specs.Machine.{record-at, damage-at, says, end}
 use Rattle.feed_rules.specs.Partial.{Turn⁺, replies, needs}
 use Rattle.feed_rules.specs.Windows.{Feed, turnIn, nextLeaves, Alike}
-use Rattle.feed_rules.specs.Spans.{feedOf, FeedOk, FeedUntouched}
+use Rattle.feed_rules.specs.Spans.{FeedArrays, feedFitIn, feedAt, FeedSound}
 use Rattle.feed_run.specs.declared.run.Last.{Last}
 use Rattle.feed_run.specs.declared.run.Last.the-variants as last
 
@@ -64,17 +66,23 @@ last-one (last.Refused r) (last.Refused q) z = ap last.Refused (refused-one r q 
 -- ---- a run's contract
 
 -- bad memory or allowance: 15, nothing was called, and everything is as at entry
-pub record FeedRunRefused (ms ts cs hs hp ps ws : List ℕ) (size c w size' : ℕ) (x : Answer) (ms' ts' cs' hs' hp' ps' ws' : List ℕ) : Type 0 where
+pub record FeedRunRefused (a : FeedArrays) (ws : List ℕ) (size c w size' : ℕ) (x : Answer) (a' : FeedArrays) (ws' : List ℕ) : Type 0 where
   pub answers : x ≡ answer 15 []
   pub calls : c ≡ 0
   pub written : w ≡ 0
   pub held : size' ≡ size
-  pub untouched : FeedUntouched ms ts cs hs hp ps ms' ts' cs' hs' hp' ps'
+  pub untouched : a' ≡ a
   pub list : ws' ≡ ws
 
 -- a run of at most k calls: its numbers and its list are those of the run from what is kept, what is left is what that run leaves, and
 -- the state left is sound
-pub record FeedRunSays (n k : ℕ) (window ms ts cs hs ps ws : List ℕ) (c w size : ℕ) (x : Answer) (ms' ts' cs' hs' hp' ps' ws' : List ℕ) : Type 0 where
-  pub gives : Gives (ranOf⁺ k (feedOf n window ms ts cs hs ps)) ws c w x ws'
-  pub leaves : Alike (feedOf n window ms' ts' cs' hs' ps') (ranOf⁺ k (feedOf n window ms ts cs hs ps) .left)
-  pub sound : FeedOk n size ms' ts' cs' hs' hp' ps'
+pub record FeedRunSays (n k : ℕ) (window : List ℕ) (a : FeedArrays) (ws : List ℕ) (c w size : ℕ) (x : Answer) (a' : FeedArrays) (ws' : List ℕ) : Type 0 where
+  pub gives : Gives (ranOf⁺ k (feedAt n window a)) ws c w x ws'
+  pub leaves : Alike (feedAt n window a') (ranOf⁺ k (feedAt n window a) .left)
+  pub sound : FeedSound n size a'
+
+-- `run`: the first where what is lent or the allowance is not right, else the second
+pub record FeedRunGives (window : List ℕ) (allowance size : ℕ) (a : FeedArrays) (ws : List ℕ) (c w size' : ℕ) (x : Answer) (a' : FeedArrays) (ws' : List ℕ) : Type 0 where
+  pub refused : runFits (feedFitIn size window a) allowance (length ws) ≡ false → FeedRunRefused a ws size c w size' x a' ws'
+  pub says : runFits (feedFitIn size window a) allowance (length ws) ≡ true
+      → (n : ℕ) → n ≤ 256 → FeedSound n size a → FeedRunSays n (most allowance (length ws)) window a ws c w size' x a' ws'

@@ -14,7 +14,7 @@ use Rattle.run_rules.specs.RowsLaws.{row, Noted, noted-record, noted-stop, Leng
 use Rattle.records_rules.specs.Machine.{record-at, damage-at, says, end}
 use Rattle.feed_rules.specs.Partial.{Turn⁺, replies, needs}
 use Rattle.feed_rules.specs.Windows.{Kept, Feed, turnAnswer, nextAnswer, nextLeaves, call, answerTo, leaves, Alike}
-use Rattle.feed_rules.specs.Spans.{feedOf, FeedRoom, FeedOk, FeedSays}
+use Rattle.feed_rules.specs.Spans.{FeedRoom, FeedArrays, feedAt, FeedSound, FedSays}
 use Rattle.feed_rules.specs.History.{same-call, same-left, alike-trans}
 use Rattle.feed_run.specs.Run.{noteOf⁺, say⁺, FeedRunSays}
 
@@ -57,65 +57,83 @@ module _ (ws : List ℕ) (i : ℕ) (kept : ℕ → Kept) where
   note-refused (needs p ss) r e = absurd (refused-not-done r (cc))
 
 -- a call from a state that is as F is noted, and it leaves what a call leaves of F
-pub record Told⁺ (F : Feed) (n : ℕ) (window ws : List ℕ) (i held : ℕ) (more : Bool) (last : Answer) (ms' ts' cs' hs' hp' ps' ws' : List ℕ) : Type 0 where
+pub record Told⁺ (F : Feed) (n : ℕ) (window ws : List ℕ) (i held : ℕ) (more : Bool) (last : Answer) (a' : FeedArrays) (ws' : List ℕ) : Type 0 where
   pub noted : Noted ws i (say⁺ F) more last ws'
-  pub leaves : Alike (feedOf n window ms' ts' cs' hs' ps') (nextLeaves F)
-  pub sound : FeedOk n held ms' ts' cs' hs' hp' ps'
+  pub leaves : Alike (feedAt n window a') (nextLeaves F)
+  pub sound : FeedSound n held a'
+
+-- what a call that is noted promises
+pub record StepSays⁺ (window : List ℕ) (held : ℕ) (a : FeedArrays) (ws : List ℕ) (i held' : ℕ) (more : Bool) (last : Answer) (a' : FeedArrays) (ws' : List ℕ) : Type 0 where
+  pub fewer : held' ≤ held
+  pub told : (n : ℕ) → n ≤ 256 → FeedSound n held a → (F : Feed) → Alike (feedAt n window a) F → Told⁺ F n window ws i held' more last a' ws'
+
+-- and what at most so many of them do
+pub record StepsSay⁺ (window : List ℕ) (limit held : ℕ) (a : FeedArrays) (ws : List ℕ) (c w held' : ℕ) (x : Answer) (a' : FeedArrays) (ws' : List ℕ) : Type 0 where
+  pub fewer : held' ≤ held
+  pub says : (n : ℕ) → n ≤ 256 → FeedSound n held a → FeedRunSays n limit window a ws c w held' x a' ws'
 
 -- a call's promise, and that its answer is noted
-pub says-told : {n : ℕ} {window ms ts cs hs ps : List ℕ} {x : Answer} {held : ℕ} {ms' ts' cs' hs' hp' ps' ws : List ℕ} {i : ℕ} {more : Bool} {last : Answer} {ws' : List ℕ}
-    → FeedSays n window ms ts cs hs ps x held ms' ts' cs' hs' hp' ps'
-    → ((kept : ℕ → Kept) (y : Turn⁺) → x ≡ turnAnswer kept y → Noted ws i (noteOf⁺ y) more last ws')
-    → (F : Feed) → Alike (feedOf n window ms ts cs hs ps) F → Told⁺ F n window ws i held more last ms' ts' cs' hs' hp' ps' ws'
+pub says-told : {window : List ℕ} {held : ℕ} {a : FeedArrays} {x : Answer} {held' : ℕ} {a' : FeedArrays} {ws : List ℕ} {i : ℕ} {more : Bool} {last : Answer} {ws' : List ℕ}
+    → FedSays window held a x held' a' → ((kept : ℕ → Kept) (y : Turn⁺) → x ≡ turnAnswer kept y → Noted ws i (noteOf⁺ y) more last ws')
+    → StepSays⁺ window held a ws i held' more last a' ws'
 unfolding nextAnswer answerTo leaves
-says-told {n} {window} {ms} {ts} {cs} {hs} {ps} s f F k =
-    let G = feedOf n window ms ts cs hs ps in
+says-told {window} {a = a} t f =
     record {
-      noted = f (nextLeaves F .kept) _ (s .heard ∙ same-call G F k call);
-      leaves = alike-trans (s .leaves) (same-left G F k call);
-      sound = s .sound;
+      fewer = t .fewer;
+      told = λ n few ok F k.
+          let s = t .says n few ok in
+          let G = feedAt n window a in
+          record {
+            noted = f (nextLeaves F .kept) _ (s .heard ∙ same-call G F k call);
+            leaves = alike-trans (s .leaves) (same-left G F k call);
+            sound = s .sound;
+          };
     }
 
 -- ---- the loop
 
 -- from a sound state on: it is as some F, from which on is handed back what the run is to hand back
-pub record Stands⁺ (n limit : ℕ) (window ms₀ ts₀ cs₀ hs₀ ps₀ ws₀ : List ℕ) (calls held : ℕ) (ms ts cs hs hp ps ws : List ℕ) : Type 0 where
+pub record Stands⁺ (n limit : ℕ) (window : List ℕ) (a₀ : FeedArrays) (ws₀ : List ℕ) (calls held : ℕ) (a : FeedArrays) (ws : List ℕ) : Type 0 where
   pub feed : Feed
-  pub here : Here say⁺ nextLeaves limit (feedOf n window ms₀ ts₀ cs₀ hs₀ ps₀) ws₀ calls feed ws
-  pub alike : Alike (feedOf n window ms ts cs hs ps) feed
-  pub sound : FeedOk n held ms ts cs hs hp ps
+  pub here : Here say⁺ nextLeaves limit (feedAt n window a₀) ws₀ calls feed ws
+  pub alike : Alike (feedAt n window a) feed
+  pub sound : FeedSound n held a
 
-pub record Under⁺ (window : List ℕ) (limit held₀ : ℕ) (ms₀ ts₀ cs₀ hs₀ hp₀ ps₀ ws₀ : List ℕ) (calls held : ℕ) (ms ts cs hs hp ps ws : List ℕ) : Type 0 where
+-- every array but the spans keeps its length
+abbrev pub LengthsIn : FeedArrays → List ℕ → FeedArrays → List ℕ → Type 0
+LengthsIn a₀ ws₀ a ws =
+    Lengths (a₀ .marks) (a₀ .times) (a₀ .places) (a₀ .heads) (a₀ .heap) ws₀ (a .marks) (a .times) (a .places) (a .heads) (a .heap) ws
+
+pub record Under⁺ (window : List ℕ) (limit held₀ : ℕ) (a₀ : FeedArrays) (ws₀ : List ℕ) (calls held : ℕ) (a : FeedArrays) (ws : List ℕ) : Type 0 where
   pub few : calls ≤ limit
   pub holds : held ≤ held₀
-  pub lengths : Lengths ms₀ ts₀ cs₀ hs₀ hp₀ ws₀ ms ts cs hs hp ws
-  pub spans : length ps ≡ length ps₀
-  pub stands : (n : ℕ) → n ≤ 256 → FeedOk n held₀ ms₀ ts₀ cs₀ hs₀ hp₀ ps₀
-      → Stands⁺ n limit window ms₀ ts₀ cs₀ hs₀ ps₀ ws₀ calls held ms ts cs hs hp ps ws
+  pub lengths : LengthsIn a₀ ws₀ a ws
+  pub spans : length (a .spans) ≡ length (a₀ .spans)
+  pub stands : (n : ℕ) → n ≤ 256 → FeedSound n held₀ a₀ → Stands⁺ n limit window a₀ ws₀ calls held a ws
 
-pub under-start : (window : List ℕ) (limit held : ℕ) (ms ts cs hs hp ps ws : List ℕ)
-    → Under⁺ window limit held ms ts cs hs hp ps ws 0 held ms ts cs hs hp ps ws
-under-start window limit held ms ts cs hs hp ps ws =
+pub under-start : (window : List ℕ) (limit held : ℕ) (a : FeedArrays) (ws : List ℕ) → Under⁺ window limit held a ws 0 held a ws
+under-start window limit held a ws =
     record {
       few = omega arith;
       holds = omega arith;
       lengths = record { marks = refl; times = refl; places = refl; heads = refl; heap = refl; list = refl };
       spans = refl;
       stands = λ n few ok.
-          let G = feedOf n window ms ts cs hs ps in
+          let G = feedAt n window a in
           record { feed = G; here = here-start say⁺ nextLeaves limit G ws; alike = record { statuses = refl; kept = λ p d. refl }; sound = ok };
     }
 
 -- the run is over, and the state is as this
-over-says : {n limit : ℕ} {window ms ts cs hs ps ws : List ℕ} {c w held : ℕ} {x : Answer} {ms' ts' cs' hs' hp' ps' ws' : List ℕ} {F : Feed}
-    → Over say⁺ nextLeaves limit (feedOf n window ms ts cs hs ps) ws c w x ws' F → Alike (feedOf n window ms' ts' cs' hs' ps') F
-    → FeedOk n held ms' ts' cs' hs' hp' ps' → FeedRunSays n limit window ms ts cs hs ps ws c w held x ms' ts' cs' hs' hp' ps' ws'
-over-says {n} {window = window} {ms' = ms'} {ts' = ts'} {cs' = cs'} {hs' = hs'} {ps' = ps'} o k ok =
-    record { gives = o .gives; leaves = subst (λ (G : Feed). Alike (feedOf n window ms' ts' cs' hs' ps') G) (o .left) k; sound = ok }
+over-says : {n limit : ℕ} {window : List ℕ} {a : FeedArrays} {ws : List ℕ} {c w held : ℕ} {x : Answer} {a' : FeedArrays} {ws' : List ℕ} {F : Feed}
+    → Over say⁺ nextLeaves limit (feedAt n window a) ws c w x ws' F → Alike (feedAt n window a') F
+    → FeedSound n held a' → FeedRunSays n limit window a ws c w held x a' ws'
+over-says {n} {window = window} {a' = a'} o k ok =
+    record { gives = o .gives; leaves = subst (λ (G : Feed). Alike (feedAt n window a') G) (o .left) k; sound = ok }
 
-module _ {window : List ℕ} {limit held₀ : ℕ} {ms₀ ts₀ cs₀ hs₀ hp₀ ps₀ ws₀ : List ℕ} {calls held : ℕ} {ms ts cs hs hp ps ws : List ℕ}
-    (u : Under⁺ window limit held₀ ms₀ ts₀ cs₀ hs₀ hp₀ ps₀ ws₀ calls held ms ts cs hs hp ps ws) where
-  pub under-room : FeedRoom held₀ ms₀ ts₀ cs₀ hs₀ hp₀ ps₀ → FeedRoom held ms ts cs hs hp ps
+module _ {window : List ℕ} {limit held₀ : ℕ} {a₀ : FeedArrays} {ws₀ : List ℕ} {calls held : ℕ} {a : FeedArrays} {ws : List ℕ}
+    (u : Under⁺ window limit held₀ a₀ ws₀ calls held a ws) where
+  pub under-room : FeedRoom held₀ (a₀ .marks) (a₀ .times) (a₀ .places) (a₀ .heads) (a₀ .heap) (a₀ .spans)
+      → FeedRoom held (a .marks) (a .times) (a .places) (a .heads) (a .heap) (a .spans)
   under-room (h, m, t, c, d, p, s) = (
     omega (arith, u .holds, h),
     omega (arith, u .lengths .marks, m),
@@ -127,29 +145,28 @@ module _ {window : List ℕ} {limit held₀ : ℕ} {ms₀ ts₀ cs₀ hs₀ hp�
   )
 
   -- the loop ends
-  pub under-done : 3 * limit ≤ length ws₀ → limit ≤ calls → (n : ℕ) → n ≤ 256 → FeedOk n held₀ ms₀ ts₀ cs₀ hs₀ hp₀ ps₀
-      → FeedRunSays n limit window ms₀ ts₀ cs₀ hs₀ ps₀ ws₀ calls calls held going ms ts cs hs hp ps ws
-  under-done room over n few ok =
+  pub under-done : 3 * limit ≤ length ws₀ → limit ≤ calls → StepsSay⁺ window limit held₀ a₀ ws₀ calls calls held going a ws
+  under-done room over =
       let e : limit ≡ calls = omega (arith, u .few, over) in
-      let s = u .stands n few ok in
-      over-says (here-done say⁺ nextLeaves (s .here) room e) (s .alike) (s .sound)
+      record {
+        fewer = u .holds;
+        says = λ n few ok. let s = u .stands n few ok in over-says (here-done say⁺ nextLeaves (s .here) room e) (s .alike) (s .sound);
+      }
 
-  module _ {held' : ℕ} {more : Bool} {last : Answer} {ms' ts' cs' hs' hp' ps' ws' : List ℕ}
-      (t : (n : ℕ) → n ≤ 256 → FeedOk n held ms ts cs hs hp ps → (F : Feed) → Alike (feedOf n window ms ts cs hs ps) F
-      → Told⁺ F n window ws calls held' more last ms' ts' cs' hs' hp' ps' ws')
-      (below : calls < limit) where
+  module _ {held' : ℕ} {more : Bool} {last : Answer} {a' : FeedArrays} {ws' : List ℕ}
+      (t : StepSays⁺ window held a ws calls held' more last a' ws') (below : calls < limit) where
     -- a record
-    pub under-more : more ≡ true → held' ≤ held → Lengths ms ts cs hs hp ws ms' ts' cs' hs' hp' ws' → length ps' ≡ length ps
-        → Under⁺ window limit held₀ ms₀ ts₀ cs₀ hs₀ hp₀ ps₀ ws₀ (calls + 1) held' ms' ts' cs' hs' hp' ps' ws'
-    under-more y less l z =
+    pub under-more : more ≡ true → LengthsIn a ws a' ws' → length (a' .spans) ≡ length (a .spans)
+        → Under⁺ window limit held₀ a₀ ws₀ (calls + 1) held' a' ws'
+    under-more y l z =
         record {
           few = omega (arith, below);
-          holds = omega (arith, u .holds, less);
+          holds = omega (arith, u .holds, t .fewer);
           lengths = lengths-on (u .lengths) l;
           spans = z ∙ u .spans;
           stands = λ n few ok.
               let s = u .stands n few ok in
-              let q = t n few (s .sound) (s .feed) (s .alike) in
+              let q = t .told n few (s .sound) (s .feed) (s .alike) in
               record {
                 feed = nextLeaves (s .feed);
                 here = here-more say⁺ nextLeaves (s .here) (q .noted) below y;
@@ -159,9 +176,12 @@ module _ {window : List ℕ} {limit held₀ : ℕ} {ms₀ ts₀ cs₀ hs₀ hp�
         }
 
     -- no record
-    pub under-stop : more ≡ false → 3 * limit ≤ length ws₀ → (n : ℕ) → n ≤ 256 → FeedOk n held₀ ms₀ ts₀ cs₀ hs₀ hp₀ ps₀
-        → FeedRunSays n limit window ms₀ ts₀ cs₀ hs₀ ps₀ ws₀ (calls + 1) calls held' last ms' ts' cs' hs' hp' ps' ws'
-    under-stop z room n few ok =
-        let s = u .stands n few ok in
-        let q = t n few (s .sound) (s .feed) (s .alike) in
-        over-says (here-stop say⁺ nextLeaves (s .here) (q .noted) below room z) (q .leaves) (q .sound)
+    pub under-stop : more ≡ false → 3 * limit ≤ length ws₀ → StepsSay⁺ window limit held₀ a₀ ws₀ (calls + 1) calls held' last a' ws'
+    under-stop z room =
+        record {
+          fewer = omega (arith, u .holds, t .fewer);
+          says = λ n few ok.
+              let s = u .stands n few ok in
+              let q = t .told n few (s .sound) (s .feed) (s .alike) in
+              over-says (here-stop say⁺ nextLeaves (s .here) (q .noted) below room z) (q .leaves) (q .sound);
+        }

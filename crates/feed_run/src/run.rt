@@ -9,17 +9,15 @@ use run_list::list::limit_of;
 use run_list::list::put_row;
 use run_list::list::run_fits;
 ghost use mathlib.Core.Path.{_≡_};
-ghost use mathlib.Core.Bool.{true, false};
 ghost use Prim.Native.Nat.{ℕ, _+_, _*_, _≤_};
 ghost use lib.ListN.{length};
-ghost use Rattle.run_rules.specs.Rows.{runFits, most};
 ghost use Rattle.run_rules.specs.RowsLaws.{Noted};
 ghost use Rattle.feed_rules.specs.Partial.{Turn⁺};
-ghost use Rattle.feed_rules.specs.Windows.{Kept, Feed, turnAnswer, Alike};
-ghost use Rattle.feed_rules.specs.Spans.{feedOf, feedFits, FeedRoom, FeedOk};
+ghost use Rattle.feed_rules.specs.Windows.{Kept, turnAnswer};
+ghost use Rattle.feed_rules.specs.Spans.{FeedRoom, feedArrays};
 ghost use Rattle.feed.specs.Answers.{fedOf};
-ghost use Rattle.feed_run.specs.Run.{noteOf⁺, lastOf, FeedRunRefused, FeedRunSays};
-ghost use Rattle.feed_run.specs.Running.{Told⁺};
+ghost use Rattle.feed_run.specs.Run.{noteOf⁺, lastOf, FeedRunGives};
+ghost use Rattle.feed_run.specs.Running.{StepSays⁺, StepsSay⁺};
 
 // How a run stopped: a further call may be made; the end; more of a stream is needed first; or a refusal, damage being 13.
 pub enum Last {
@@ -111,10 +109,9 @@ fn step(
     at: usize,
 ) -> Stepped
     requires { ⌜ FeedRoom held (now marks) (now times) (now places) (now heads) (now heap) (now spans) × (3 * at + 3 ≤ length (now list)) ⌝ }
-    ensures { λ r. ⌜ (r .held ≤ held) × ((n : ℕ) → n ≤ 256 → FeedOk n held (now (marks .entry)) (now (times .entry)) (now (places .entry)) (now (heads .entry)) (now (heap .entry)) (now (spans .entry))
-        → (F : Feed) → Alike (feedOf n (now (window .entry)) (now (marks .entry)) (now (times .entry)) (now (places .entry)) (now (heads .entry)) (now (spans .entry))) F
-        → Told⁺ F n (now (window .entry)) (now (list .entry)) at (r .held) (r .more) (lastOf (r .last))
-        (now (marks .exit)) (now (times .exit)) (now (places .exit)) (now (heads .exit)) (now (heap .exit)) (now (spans .exit)) (now (list .exit))) ⌝ }
+    ensures { λ r. ⌜ StepSays⁺ (now (window .entry)) held
+        (feedArrays (now (marks .entry)) (now (times .entry)) (now (places .entry)) (now (heads .entry)) (now (heap .entry)) (now (spans .entry))) (now (list .entry)) at (r .held) (r .more) (lastOf (r .last))
+        (feedArrays (now (marks .exit)) (now (times .exit)) (now (places .exit)) (now (heads .exit)) (now (heap .exit)) (now (spans .exit))) (now (list .exit)) ⌝ }
 {
     let turned = turns(window, held, marks, times, places, heads, heap, spans);
     let answer = turned.answer;
@@ -141,9 +138,9 @@ fn steps(
     limit: usize,
 ) -> Made
     requires { ⌜ FeedRoom held (now marks) (now times) (now places) (now heads) (now heap) (now spans) × (3 * limit ≤ length (now list)) ⌝ }
-    ensures { λ r. ⌜ (r .held ≤ held) × ((n : ℕ) → n ≤ 256 → FeedOk n held (now (marks .entry)) (now (times .entry)) (now (places .entry)) (now (heads .entry)) (now (heap .entry)) (now (spans .entry))
-        → FeedRunSays n limit (now (window .entry)) (now (marks .entry)) (now (times .entry)) (now (places .entry)) (now (heads .entry)) (now (spans .entry)) (now (list .entry))
-        (r .calls) (r .written) (r .held) (lastOf (r .last)) (now (marks .exit)) (now (times .exit)) (now (places .exit)) (now (heads .exit)) (now (heap .exit)) (now (spans .exit)) (now (list .exit))) ⌝ }
+    ensures { λ r. ⌜ StepsSay⁺ (now (window .entry)) limit held
+        (feedArrays (now (marks .entry)) (now (times .entry)) (now (places .entry)) (now (heads .entry)) (now (heap .entry)) (now (spans .entry))) (now (list .entry)) (r .calls) (r .written) (r .held) (lastOf (r .last))
+        (feedArrays (now (marks .exit)) (now (times .exit)) (now (places .exit)) (now (heads .exit)) (now (heap .exit)) (now (spans .exit))) (now (list .exit)) ⌝ }
 {
     let mut size = held;
     let mut calls = 0;
@@ -194,17 +191,9 @@ pub fn run(
     allowance: usize,
     list: &mut [u64],
 ) -> Made
-    ensures { λ r. ⌜ (runFits (feedFits held (length (now (marks .entry))) (length (now (times .entry))) (length (now (places .entry)))
-        (length (now (heads .entry))) (length (now (heap .entry))) (length (now (spans .entry))) (length (now (window .entry)))) allowance
-        (length (now (list .entry))) ≡ false
-        → FeedRunRefused (now (marks .entry)) (now (times .entry)) (now (places .entry)) (now (heads .entry)) (now (heap .entry)) (now (spans .entry)) (now (list .entry)) held
-        (r .calls) (r .written) (r .held) (lastOf (r .last)) (now (marks .exit)) (now (times .exit)) (now (places .exit)) (now (heads .exit)) (now (heap .exit)) (now (spans .exit)) (now (list .exit))) ⌝ }
-    ensures { λ r. ⌜ (runFits (feedFits held (length (now (marks .entry))) (length (now (times .entry))) (length (now (places .entry)))
-        (length (now (heads .entry))) (length (now (heap .entry))) (length (now (spans .entry))) (length (now (window .entry)))) allowance
-        (length (now (list .entry))) ≡ true
-        → (n : ℕ) → n ≤ 256 → FeedOk n held (now (marks .entry)) (now (times .entry)) (now (places .entry)) (now (heads .entry)) (now (heap .entry)) (now (spans .entry))
-        → FeedRunSays n (most allowance (length (now (list .entry)))) (now (window .entry)) (now (marks .entry)) (now (times .entry)) (now (places .entry)) (now (heads .entry)) (now (spans .entry)) (now (list .entry))
-        (r .calls) (r .written) (r .held) (lastOf (r .last)) (now (marks .exit)) (now (times .exit)) (now (places .exit)) (now (heads .exit)) (now (heap .exit)) (now (spans .exit)) (now (list .exit))) ⌝ }
+    ensures { λ r. ⌜ FeedRunGives (now (window .entry)) allowance held
+        (feedArrays (now (marks .entry)) (now (times .entry)) (now (places .entry)) (now (heads .entry)) (now (heap .entry)) (now (spans .entry))) (now (list .entry)) (r .calls) (r .written) (r .held) (lastOf (r .last))
+        (feedArrays (now (marks .exit)) (now (times .exit)) (now (places .exit)) (now (heads .exit)) (now (heap .exit)) (now (spans .exit))) (now (list .exit)) ⌝ }
 {
     let arrays = feed_fits(
         held,

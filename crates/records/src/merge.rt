@@ -15,16 +15,14 @@ use records_state::state::STANDING;
 use records_state::state::WAITING;
 use records_state::state::arrays_fit;
 ghost use mathlib.Core.Path.{_≡_};
-ghost use mathlib.Core.Bool.{true, false, _&&_};
-ghost use Prim.Native.Nat.{ℕ, _+_, _-_, _<_, _≤_, _^_};
+ghost use Prim.Native.Nat.{ℕ, _+_, _<_, _^_};
 ghost use lib.ListN.{length, getD, replicate};
 ghost use lib.Seq.{slice};
-ghost use mathlib.Core.List.{List, []};
-ghost use Rattle.theory.specs.Answer.{answer};
+ghost use mathlib.Core.List.{List};
 ghost use Rattle.records_rules.specs.Machine.{says, record-at, damage-at};
 ghost use Rattle.records_rules.specs.Bytes.{streamsOf};
 ghost use Rattle.records_rules.specs.View.{packed, recIn};
-ghost use Rattle.records_rules.specs.State.{answerOf, arraysFit, Room, Untouched, rightStreams, opening, gotOf, StateOk, Says, StreamsOpened};
+ghost use Rattle.records_rules.specs.State.{answerOf, Room, gotOf, arrays, TurnSays, NextSays, OpenSays};
 ghost use Rattle.records.specs.Merge.{turnOf, openingOf};
 
 // What a read found: the end is 0, damage its reason, a record 4.
@@ -174,9 +172,9 @@ pub fn turns(
     heap: &mut [u8],
 ) -> Turned
     requires { ⌜ Room held (now marks) (now times) (now places) (now heads) (now heap) ⌝ }
-    ensures { λ r. ⌜ (r .held ≤ held) × ((n : ℕ) → n ≤ 256 → StateOk n held (now (marks .entry)) (now (times .entry)) (now (places .entry)) (now (heads .entry)) (now (heap .entry))
-        → Says (streamsOf (now (buffer .entry)) (now (cuts .entry))) n (now (marks .entry)) (now (times .entry)) (now (places .entry)) (now (heads .entry))
-        (turnOf (r .answer)) (r .held) (now (marks .exit)) (now (times .exit)) (now (places .exit)) (now (heads .exit)) (now (heap .exit))) ⌝ }
+    ensures { λ r. ⌜ TurnSays (streamsOf (now (buffer .entry)) (now (cuts .entry))) held
+        (arrays (now (marks .entry)) (now (times .entry)) (now (places .entry)) (now (heads .entry)) (now (heap .entry))) (turnOf (r .answer)) (r .held)
+        (arrays (now (marks .exit)) (now (times .exit)) (now (places .exit)) (now (heads .exit)) (now (heap .exit))) ⌝ }
 {
     let mut size = held;
     loop {
@@ -237,14 +235,9 @@ pub fn next(
     heads: &mut [u64],
     heap: &mut [u8],
 ) -> Turned
-    ensures { λ r. ⌜ r .held ≤ held ⌝ }
-    ensures { λ r. ⌜ (arraysFit held (length (now (marks .entry))) (length (now (times .entry))) (length (now (places .entry))) (length (now (heads .entry))) (length (now (heap .entry))) ≡ false
-        → (turnOf (r .answer) ≡ answer 15 []) × (r .held ≡ held)
-        × Untouched (now (marks .entry)) (now (times .entry)) (now (places .entry)) (now (heads .entry)) (now (heap .entry)) (now (marks .exit)) (now (times .exit)) (now (places .exit)) (now (heads .exit)) (now (heap .exit))) ⌝ }
-    ensures { λ r. ⌜ (arraysFit held (length (now (marks .entry))) (length (now (times .entry))) (length (now (places .entry))) (length (now (heads .entry))) (length (now (heap .entry))) ≡ true
-        → (n : ℕ) → n ≤ 256 → StateOk n held (now (marks .entry)) (now (times .entry)) (now (places .entry)) (now (heads .entry)) (now (heap .entry))
-        → Says (streamsOf (now (buffer .entry)) (now (cuts .entry))) n (now (marks .entry)) (now (times .entry)) (now (places .entry)) (now (heads .entry))
-        (turnOf (r .answer)) (r .held) (now (marks .exit)) (now (times .exit)) (now (places .exit)) (now (heads .exit)) (now (heap .exit))) ⌝ }
+    ensures { λ r. ⌜ NextSays (streamsOf (now (buffer .entry)) (now (cuts .entry))) held
+        (arrays (now (marks .entry)) (now (times .entry)) (now (places .entry)) (now (heads .entry)) (now (heap .entry))) (turnOf (r .answer)) (r .held)
+        (arrays (now (marks .exit)) (now (times .exit)) (now (places .exit)) (now (heads .exit)) (now (heap .exit))) ⌝ }
 {
     if !arrays_fit(
         held,
@@ -274,14 +267,9 @@ pub fn open(
     heads: &mut [u64],
     heap: &mut [u8],
 ) -> Opening
-    ensures { λ r. ⌜ openingOf r ≡ opening (arraysFit 0 (length (now (marks .entry))) (length (now (times .entry))) (length (now (places .entry))) (length (now (heads .entry))) (length (now (heap .entry))))
-        (rightStreams (length (now (buffer .entry))) (now (cuts .entry)) (length (now (hints .entry)))) (length (now (cuts .entry)) - 1) ⌝ }
-    ensures { λ r. ⌜ ((arraysFit 0 (length (now (marks .entry))) (length (now (times .entry))) (length (now (places .entry))) (length (now (heads .entry))) (length (now (heap .entry)))
-        && rightStreams (length (now (buffer .entry))) (now (cuts .entry)) (length (now (hints .entry)))) ≡ false
-        → Untouched (now (marks .entry)) (now (times .entry)) (now (places .entry)) (now (heads .entry)) (now (heap .entry)) (now (marks .exit)) (now (times .exit)) (now (places .exit)) (now (heads .exit)) (now (heap .exit))) ⌝ }
-    ensures { λ r. ⌜ ((arraysFit 0 (length (now (marks .entry))) (length (now (times .entry))) (length (now (places .entry))) (length (now (heads .entry))) (length (now (heap .entry)))
-        && rightStreams (length (now (buffer .entry))) (now (cuts .entry)) (length (now (hints .entry)))) ≡ true
-        → StreamsOpened (length (now (cuts .entry)) - 1) (now (hints .entry)) (now (marks .exit)) (now (times .exit)) (now (places .exit)) (now (heads .exit)) (now (heap .exit))) ⌝ }
+    ensures { λ r. ⌜ OpenSays (now (buffer .entry)) (now (cuts .entry)) (now (hints .entry))
+        (arrays (now (marks .entry)) (now (times .entry)) (now (places .entry)) (now (heads .entry)) (now (heap .entry))) (openingOf r)
+        (arrays (now (marks .exit)) (now (times .exit)) (now (places .exit)) (now (heads .exit)) (now (heap .exit))) ⌝ }
 {
     if !arrays_fit(
         0,

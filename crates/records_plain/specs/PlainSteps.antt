@@ -6,13 +6,13 @@ use Prim.Native.Nat.{ℕ, _+_, _-_, _%_, _≤_, _<_, _^_}
 use native.Mathlib.Omega.{arith}
 use mathlib.Core.List.{List}
 use lib.ListN.{length, getD, set, length-set, replicate}
-use mathlib.Core.Bool.{true, false, _&&_}
+use mathlib.Core.Bool.{true}
 use Rattle.theory.specs.Answer.{Answer}
 use Rattle.records_rules.specs.Machine.{Stream, says, end, record-at, damage-at, turn}
 use Rattle.records_rules.specs.Machine as machine
 use Rattle.records_rules.specs.View.{recIn, statusesOf}
 use Rattle.records_rules.specs.Holds.{Chosen}
-use Rattle.records_rules.specs.State.{answerOf, arraysFit, rightStreams, opening, gotOf, Small, Untouched, StreamsOpened, Room}
+use Rattle.records_rules.specs.State.{answerOf, gotOf, Small, Room, Arrays, arrays, OpenSays}
 use Rattle.records_rules.specs.StateLaws.{law-end, law-record, law-ended, law-damaged, law-whole, law-small, small-set, small-move}
 use Rattle.records_rules.specs.Opening.{arrays-room}
 use Rattle.records_plain.specs.Plain.{plainFits, PlainRoom, PlainSays, PlainOpens}
@@ -119,21 +119,21 @@ plain-room n ms ts cs hs e =
     (r .0, r .1, r .2, r .3, r .4)
 
 -- the heap engine's opening, on a heap of its own that has 256 places
-pub plain-opens : {buffer cuts hints ms ts cs hs hp : List ℕ} {x : Answer} {ms' ts' cs' hs' hp' : List ℕ} (k : ℕ) → 256 ≡ k
-    → (let memory = arraysFit 0 (length ms) (length ts) (length cs) (length hs) k in
-    let right = rightStreams (length buffer) cuts (length hints) in
-    x ≡ opening memory right (length cuts - 1)
-    → ((memory && right) ≡ false → Untouched ms ts cs hs hp ms' ts' cs' hs' hp')
-    → ((memory && right) ≡ true → StreamsOpened (length cuts - 1) hints ms' ts' cs' hs' hp')
-    → PlainOpens buffer cuts hints ms ts cs hs x ms' ts' cs' hs')
-plain-opens k long told refused opened =
+pub plain-opens : {buffer cuts hints ms ts cs hs hp : List ℕ} {x : Answer} {ms' ts' cs' hs' hp' : List ℕ} → 256 ≡ length hp
+    → OpenSays buffer cuts hints (arrays ms ts cs hs hp) x (arrays ms' ts' cs' hs' hp') → PlainOpens buffer cuts hints ms ts cs hs x ms' ts' cs' hs'
+plain-opens long told =
     record {
-      answers = rw long told;
+      answers = rw long (told .answers);
       refused = λ e.
-          let u = refused (rw (sym long) e) in
-          record { marks = u .marks; times = u .times; places = u .places; heads = u .heads };
+          let u = told .refused (rw (sym long) e) in
+          record {
+            marks = ap (λ (a : Arrays). a .marks) u;
+            times = ap (λ (a : Arrays). a .times) u;
+            places = ap (λ (a : Arrays). a .places) u;
+            heads = ap (λ (a : Arrays). a .heads) u;
+          };
       opened = λ e.
-          let o = opened (rw (sym long) e) in
+          let o = told .opened (rw (sym long) e) in
           record {
             starts = o .starts;
             small = o .sound .small;

@@ -11,27 +11,23 @@ use Rattle.records_rules.specs.Machine as machine
 use Rattle.records_rules.specs.Kept.{size, total, TurnOk, next-ok}
 use Rattle.records_rules.specs.Whole.{bytes, run, run-ends, run-calls, Ends, stays, total-start, counted}
 use Rattle.records_rules.specs.Literal.{literalRun, told-run, told-keeps}
-use Rattle.records_rules.specs.View.{statusesOf, length-tab}
-use Rattle.records_rules.specs.State.{answerOf, padded, Says, StreamsOpened}
+use Rattle.records_rules.specs.View.{length-tab}
+use Rattle.records_rules.specs.State.{answerOf, padded, Arrays, statusesAt, SaysIn, OpenedIn}
 
 -- what the caller lends, and how much of the heap is in use
 pub record Lent : Type 0 where
   pub held : ℕ
-  pub marks : List ℕ
-  pub times : List ℕ
-  pub places : List ℕ
-  pub heads : List ℕ
-  pub heap : List ℕ
+  pub arrays : Arrays
 
 -- the statuses of the first n streams
 abbrev pub statusesIn : ℕ → Lent → List Status
-statusesIn n s = statusesOf n (s .marks) (s .times) (s .places) (s .heads)
+statusesIn n s = statusesAt n (s .arrays)
 
 -- calls of `next` from the state s on, and what they answered
 pub data Calls (b : ℕ → Stream) (n : ℕ) : Lent → List Answer → Type 0 where
   stop : {s : Lent} → Calls b n s []
   call : {s s' : Lent} {x : Answer} {xs : List Answer}
-      → Says b n (s .marks) (s .times) (s .places) (s .heads) x (s' .held) (s' .marks) (s' .times) (s' .places) (s' .heads) (s' .heap)
+      → SaysIn b n (s .arrays) x (s' .held) (s' .arrays)
       → Calls b n s' xs → Calls b n s (x ∷ xs)
 
 -- the answers are the machine's
@@ -41,16 +37,18 @@ calls-are stop = refl
 calls-are {b} {n} {s} (call {xs = xs} told more) =
     ap₂ _∷_ (told .heard) (calls-are more ∙ ap (λ (ss : List Status). map answerOf (answersF (length xs) b ss)) (told .leaves))
 
+-- equally many answers that are the machine's from equal statuses on are equal
+pub answers-alike : (b : ℕ → Stream) {ss ts : List Status} {xs ys : List Answer} → ss ≡ ts → length xs ≡ length ys
+    → xs ≡ map answerOf (answersF (length xs) b ss) → ys ≡ map answerOf (answersF (length ys) b ts) → xs ≡ ys
+answers-alike b e l x y = x ∙ ap₂ (λ (f : ℕ) (ss : List Status). map answerOf (answersF f b ss)) l e ∙ sym y
+
 -- states of equal statuses answer equally for ever
 pub equal-for-ever : {b : ℕ → Stream} {n : ℕ} {s t : Lent} {xs ys : List Answer} → statusesIn n s ≡ statusesIn n t
     → Calls b n s xs → Calls b n t ys → length xs ≡ length ys → xs ≡ ys
-equal-for-ever {b} {n} {s} {t} {xs} {ys} e x y l =
-    calls-are x
-    ∙ ap₂ (λ (f : ℕ) (ss : List Status). map answerOf (answersF f b ss)) l e
-    ∙ sym (calls-are y)
+equal-for-ever {b} e x y l = answers-alike b e l (calls-are x) (calls-are y)
 
 -- from an opening on they are the machine's from the hints on
-pub opened-calls : {b : ℕ → Stream} {n : ℕ} {hints : List ℕ} {s : Lent} {xs : List Answer} → StreamsOpened n hints (s .marks) (s .times) (s .places) (s .heads) (s .heap)
+pub opened-calls : {b : ℕ → Stream} {n : ℕ} {hints : List ℕ} {s : Lent} {xs : List Answer} → OpenedIn n hints (s .arrays)
     → Calls b n s xs → xs ≡ map answerOf (answersF (length xs) b (start (padded n hints)))
 opened-calls {b} {xs = xs} o x = calls-are x ∙ ap (λ (ss : List Status). map answerOf (answersF (length xs) b ss)) (o .starts)
 
@@ -92,7 +90,7 @@ pub record ToldWhole (b : ℕ → Stream) (n : ℕ) (hints : List ℕ) (xs : Lis
 
 -- THE THEOREM: an opening and then any number of calls
 pub opened-told : {b : ℕ → Stream} {n : ℕ} {hints : List ℕ} {s : Lent} {xs : List Answer}
-    → StreamsOpened n hints (s .marks) (s .times) (s .places) (s .heads) (s .heap) → Calls b n s xs → ToldWhole b n hints xs
+    → OpenedIn n hints (s .arrays) → Calls b n s xs → ToldWhole b n hints xs
 unfolding run padded
 opened-told {b} {n} {hints} {s} {xs} o x =
     let hs = padded n hints in

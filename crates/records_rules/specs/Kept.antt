@@ -15,7 +15,7 @@ use Rattle.leaves.specs.Frame.{Read, whole, ended, damaged}
 use Rattle.records_rules.specs.Machine.{rec, Fits, Stream, Said, record-at, damage-at, ownOn, ownF, own}
 use Rattle.records_rules.specs.Machine.{Status, waiting, standing, gone, key, First, nobody, first, least}
 use Rattle.records_rules.specs.Machine.{Answer, says, end, Step, done, again, afterRead, chosen, stepAt, step, Turn, turn, onward, nextF, next, answer, rest, upTo, runF, tell, mine}
-use Rattle.records_rules.specs.Least.{cond-case, LeastOk, least-ok}
+use Rattle.records_rules.specs.Least.{cond-case, IsFirst, LeastOk, least-ok}
 
 -- ---- what a stream says by itself
 
@@ -190,13 +190,35 @@ idle : (b : ℕ → Stream) (ss : List Status) → DoneOk b ss end ss
 unfolding tell size
 idle b ss = record { kept = λ p. refl; less = omega arith; long = refl }
 
-pub step-ok : (b : ℕ → Stream) (ss : List Status) → StepOk b ss (step b ss)
+-- of a step it is enough to show what nobody, and whoever comes first, leads-on to
+pub step-by : (b : ℕ → Stream) (ss : List Status) (P : Step → Type 0) → (LeastOk ss nobody → P (done end ss))
+    → ((t p : ℕ) → p < length ss → IsFirst ss t p → P (chosen b ss p (getD ss p gone))) → P (step b ss)
 unfolding step stepAt
-step-ok b ss = go (least ss) (least-ok ss)
+step-by b ss P no-one one = go (least ss) (least-ok ss)
   where
-    go : (r : First) → LeastOk ss r → StepOk b ss (stepAt b ss r)
-    go nobody k = (idle b ss, k)
-    go (first t p) k = chosen-ok b ss p (inside ss p t (k .has)) (getD ss p gone) refl t (k .has)
+    go : (r : First) → LeastOk ss r → P (stepAt b ss r)
+    go nobody k = no-one k
+    go (first t p) k = one t p (inside ss p t (k .has)) k
+
+-- of a call it is enough to show where each step leads-on: to the answer, or on to statuses of which the rest of the call holds
+abbrev pub LeadsOn : (ℕ → List Status → Type 0) → (List Status → Turn → Type 0) → ℕ → List Status → Step → Type 0
+LeadsOn Good Ok f ss (done x ss') = Ok ss (turn x ss')
+LeadsOn Good Ok f ss (again ss') = Good f ss' × ((r : Turn) → Ok ss' r → Ok ss r)
+
+pub nextF-by : (b : ℕ → Stream) (Good : ℕ → List Status → Type 0) (Ok : List Status → Turn → Type 0) → ((ss : List Status) → Good 0 ss → Ok ss (turn end ss))
+    → ((f : ℕ) (ss : List Status) → Good (suc f) ss → LeadsOn Good Ok f ss (step b ss))
+    → (f : ℕ) (ss : List Status) → Good f ss → Ok ss (nextF f b ss)
+unfolding nextF onward
+nextF-by b Good Ok over leads-on zero ss h = over ss h
+nextF-by b Good Ok over leads-on (suc f) ss h = go (step b ss) (leads-on f ss h) (λ ss' k. nextF-by b Good Ok over leads-on f ss' k)
+  where
+    go : (r : Step) → LeadsOn Good Ok f ss r → ((ss' : List Status) → Good f ss' → Ok ss' (nextF f b ss')) → Ok ss (onward (λ ss'. nextF f b ss') r)
+    go (done x ss') k ih = k
+    go (again ss') (g, k) ih = k (nextF f b ss') (ih ss' g)
+
+pub step-ok : (b : ℕ → Stream) (ss : List Status) → StepOk b ss (step b ss)
+step-ok b ss =
+    step-by b ss (StepOk b ss) (λ k. (idle b ss, k)) (λ t p h k. chosen-ok b ss p h (getD ss p gone) refl t (k .has))
 
 abbrev pub TurnOk : (ℕ → Stream) → List Status → Turn → Type 0
 TurnOk b ss (turn x ss') = DoneOk b ss x ss' × Closed ss' x
@@ -205,19 +227,15 @@ later : (b : ℕ → Stream) (ss ss' : List Status) → AgainOk b ss ss' → (r 
 later b ss ss' k (turn x ss″) (h, c) =
     (record { kept = λ p. h .kept p ∙ k .kept p; less = h .less ∙ k .less; long = h .long ∙ k .long }, c)
 
-nextF-ok : (f : ℕ) (b : ℕ → Stream) (ss : List Status) → waits ss < f → TurnOk b ss (nextF f b ss)
-unfolding nextF onward
-nextF-ok zero b ss h = absurd (omega arith)
-nextF-ok (suc f) b ss h = go (step b ss) (step-ok b ss) (λ ss' k. nextF-ok f b ss' k)
-  where
-    go : (r : Step) → StepOk b ss r → ((ss' : List Status) → waits ss' < f → TurnOk b ss' (nextF f b ss'))
-        → TurnOk b ss (onward (λ ss'. nextF f b ss') r)
-    go (done x ss') k ih = k
-    go (again ss') k ih = later b ss ss' k (nextF f b ss') (ih ss' (omega (arith, k .read)))
+leads-on : (b : ℕ → Stream) (f : ℕ) (ss : List Status) → waits ss < suc f → (r : Step) → StepOk b ss r → LeadsOn (λ f ss. waits ss < f) (TurnOk b) f ss r
+leads-on b f ss h (done x ss') k = k
+leads-on b f ss h (again ss') k = (omega (arith, k .read), later b ss ss' k)
 
 pub next-ok : (b : ℕ → Stream) (ss : List Status) → TurnOk b ss (next b ss)
 unfolding next
-next-ok b ss = nextF-ok (suc (length ss)) b ss (omega (arith, waits-le ss))
+next-ok b ss =
+    nextF-by b (λ f ss. waits ss < f) (TurnOk b) (λ ss h. absurd (omega arith)) (λ f ss h. leads-on b f ss h (step b ss) (step-ok b ss))
+    (suc (length ss)) ss (omega (arith, waits-le ss))
 
 pub closed-left : (b : ℕ → Stream) (p : ℕ) (s : Status) → key s ≡ none → leftOf (b p) s ≡ []
 unfolding leftOf key

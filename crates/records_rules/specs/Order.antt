@@ -14,8 +14,8 @@ use Rattle.leaves.specs.Frame.{Read, whole, ended, damaged}
 use Rattle.records_rules.specs.Machine.{rec, Fits, Stream, Said, record-at, damage-at, ownOn, own}
 use Rattle.records_rules.specs.Machine.{Status, waiting, standing, gone, key, First, nobody, first, least}
 use Rattle.records_rules.specs.Machine.{Answer, says, end, Step, done, again, afterRead, chosen, stepAt, step, Turn, turn, onward, nextF, next, answer, rest, upTo, runF}
-use Rattle.records_rules.specs.Least.{Upto, upto-refl, upto-trans, IsFirst, LeastOk, least-ok}
-use Rattle.records_rules.specs.Kept.{own-step, inside}
+use Rattle.records_rules.specs.Least.{Upto, upto-refl, upto-trans, IsFirst}
+use Rattle.records_rules.specs.Kept.{own-step, step-by, LeadsOn, nextF-by}
 
 -- ---- the hypothesis: times that rise, from the time t on
 
@@ -155,12 +155,8 @@ idle : (b : ℕ → Stream) (ss : List Status) → Rise b ss → DoneOk b ss end
 idle b ss ri = record { rise = ri; over = λ t p a k. (tt, k); led = tt }
 
 step-ok : (b : ℕ → Stream) (ss : List Status) → Rise b ss → StepOk b ss (step b ss)
-unfolding step stepAt
-step-ok b ss ri = go (least ss) (least-ok ss)
-  where
-    go : (r : First) → LeastOk ss r → StepOk b ss (stepAt b ss r)
-    go nobody k = idle b ss ri
-    go (first t p) k = chosen-ok b ss p (inside ss p t (k .has)) ri (getD ss p gone) refl t k
+step-ok b ss ri =
+    step-by b ss (StepOk b ss) (λ k. idle b ss ri) (λ t p h k. chosen-ok b ss p h ri (getD ss p gone) refl t k)
 
 -- ---- a call
 
@@ -170,19 +166,14 @@ TurnOk b ss (turn x ss') = DoneOk b ss x ss'
 later-ok : (b : ℕ → Stream) (ss ss' : List Status) → AgainOk b ss ss' → (r : Turn) → TurnOk b ss' r → TurnOk b ss r
 later-ok b ss ss' k (turn x ss″) h = record { rise = h .rise; over = λ t p a o. h .over t p a (k .over t p a o); led = h .led }
 
-nextF-ok : (f : ℕ) (b : ℕ → Stream) (ss : List Status) → Rise b ss → TurnOk b ss (nextF f b ss)
-unfolding nextF onward
-nextF-ok zero b ss h = idle b ss h
-nextF-ok (suc f) b ss h = go (step b ss) (step-ok b ss h) (λ ss' k. nextF-ok f b ss' k)
-  where
-    go : (r : Step) → StepOk b ss r → ((ss' : List Status) → Rise b ss' → TurnOk b ss' (nextF f b ss'))
-        → TurnOk b ss (onward (λ ss'. nextF f b ss') r)
-    go (done x ss') k ih = k
-    go (again ss') k ih = later-ok b ss ss' k (nextF f b ss') (ih ss' (k .rise))
+leads-on : (b : ℕ → Stream) (f : ℕ) (ss : List Status) (r : Step) → StepOk b ss r → LeadsOn (λ f ss. Rise b ss) (TurnOk b) f ss r
+leads-on b f ss (done x ss') k = k
+leads-on b f ss (again ss') k = (k .rise, later-ok b ss ss' k)
 
 next-ok : (b : ℕ → Stream) (ss : List Status) → Rise b ss → TurnOk b ss (next b ss)
 unfolding next
-next-ok b ss h = nextF-ok (suc (length ss)) b ss h
+next-ok b ss h =
+    nextF-by b (λ f ss. Rise b ss) (TurnOk b) (λ ss h. idle b ss h) (λ f ss h. leads-on b f ss (step b ss) (step-ok b ss h)) (suc (length ss)) ss h
 
 -- ---- a run
 

@@ -12,7 +12,7 @@ use Rattle.theory.specs.Answer as theory
 use Rattle.records_rules.specs.Machine.{record-at, damage-at, Answer, says, end}
 use Rattle.records_rules.specs.Bytes.{streamsOf}
 use Rattle.records_rules.specs.Literal.{literalRun}
-use Rattle.records_rules.specs.State.{padded, StreamsOpened}
+use Rattle.records_rules.specs.State.{padded, OpenedIn}
 use Rattle.records_rules.specs.Calls.{Lent, Calls}
 
 -- ---- the machine's answers
@@ -104,6 +104,6 @@ EndsFirst (theory.answer (suc n) vs ∷ xs) = EndsFirst xs
 -- first end
 pub record Trace (buffer cuts hints : List ℕ) (xs : List theory.Answer) : Type 0 where
   pub left : Lent
-  pub opened : StreamsOpened (length cuts - 1) hints (left .marks) (left .times) (left .places) (left .heads) (left .heap)
+  pub opened : OpenedIn (length cuts - 1) hints (left .arrays)
   pub calls : Calls (streamsOf buffer cuts) (length cuts - 1) left xs
   pub ends : EndsFirst xs

@@ -7,7 +7,7 @@ use lib.ListN.{length, getD}
 use lib.Dec.{eqb, leb}
 use Rattle.theory.specs.Answer.{Answer, answer}
 use Rattle.leaves.specs.Frame.{Read, whole, readFound}
-use Rattle.records_rules.specs.Machine.{Stream, record-at, damage-at, says, end, start}
+use Rattle.records_rules.specs.Machine.{Stream, Status, record-at, damage-at, says, end, start}
 use Rattle.records_rules.specs.Machine as machine
 use Rattle.records_rules.specs.View.{tab, statusesOf}
 use Rattle.records_rules.specs.Holds.{HeapOk}
@@ -32,13 +32,20 @@ arraysFit held marks times places heads heap =
 abbrev pub Room : ℕ → List ℕ → List ℕ → List ℕ → List ℕ → List ℕ → Type 0
 Room held ms ts cs hs hp = (held ≤ 256) × (256 ≤ length ms) × (256 ≤ length ts) × (256 ≤ length cs) × (256 ≤ length hs) × (256 ≤ length hp)
 
--- what is lent is as at entry
-pub record Untouched (ms ts cs hs hp ms' ts' cs' hs' hp' : List ℕ) : Type 0 where
-  pub marks : ms' ≡ ms
-  pub times : ts' ≡ ts
-  pub places : cs' ≡ cs
-  pub heads : hs' ≡ hs
-  pub heap : hp' ≡ hp
+-- the five arrays as one
+pub record Arrays : Type 0 where
+  pub marks : List ℕ
+  pub times : List ℕ
+  pub places : List ℕ
+  pub heads : List ℕ
+  pub heap : List ℕ
+
+abbrev pub arrays : List ℕ → List ℕ → List ℕ → List ℕ → List ℕ → Arrays
+arrays marks times places heads heap = record { marks = marks; times = times; places = places; heads = heads; heap = heap }
+
+-- they have their lengths, and no more of the heap is in use
+abbrev pub fitIn : ℕ → Arrays → Bool
+fitIn held a = arraysFit held (length (a .marks)) (length (a .times)) (length (a .places)) (length (a .heads)) (length (a .heap))
 
 -- ---- streams
 
@@ -92,3 +99,40 @@ pub record StreamsOpened (n : ℕ) (hints ms ts cs hs hp : List ℕ) : Type 0 wh
   pub sound : StateOk n n ms ts cs hs hp
   pub places : (q : ℕ) → q < 256 → (getD cs q 0 ≡ 0) × (getD hs q 0 ≡ 0)
   pub unused : (q : ℕ) → n ≤ q → q < 256 → (getD ms q 0 ≡ 0) × (getD ts q 0 ≡ 0) × (getD hp q 0 ≡ 0)
+
+-- ---- what the calls promise, over the arrays as one
+
+-- the statuses of the first n streams
+abbrev pub statusesAt : ℕ → Arrays → List Status
+statusesAt n a = statusesOf n (a .marks) (a .times) (a .places) (a .heads)
+
+abbrev pub SoundIn : ℕ → ℕ → Arrays → Type 0
+SoundIn n held a = StateOk n held (a .marks) (a .times) (a .places) (a .heads) (a .heap)
+
+abbrev pub SaysIn : (ℕ → Stream) → ℕ → Arrays → Answer → ℕ → Arrays → Type 0
+SaysIn b n a x held a' =
+    Says b n (a .marks) (a .times) (a .places) (a .heads) x held (a' .marks) (a' .times) (a' .places) (a' .heads) (a' .heap)
+
+abbrev pub OpenedIn : ℕ → List ℕ → Arrays → Type 0
+OpenedIn n hints a = StreamsOpened n hints (a .marks) (a .times) (a .places) (a .heads) (a .heap)
+
+-- a call on arrays that have the room: the heap holds no more than before, and a sound state says what the machine says
+pub record TurnSays (b : ℕ → Stream) (held : ℕ) (a : Arrays) (x : Answer) (held' : ℕ) (a' : Arrays) : Type 0 where
+  pub fewer : held' ≤ held
+  pub says : (n : ℕ) → n ≤ 256 → SoundIn n held a → SaysIn b n a x held' a'
+
+-- `next`: 15 and nothing changed where what is lent is not right; else as above
+pub record NextSays (b : ℕ → Stream) (held : ℕ) (a : Arrays) (x : Answer) (held' : ℕ) (a' : Arrays) : Type 0 where
+  pub fewer : held' ≤ held
+  pub refused : fitIn held a ≡ false → (x ≡ answer 15 []) × (held' ≡ held) × (a' ≡ a)
+  pub says : fitIn held a ≡ true → (n : ℕ) → n ≤ 256 → SoundIn n held a → SaysIn b n a x held' a'
+
+-- what `open` answers of a buffer, its cuts and its hints
+abbrev pub openAnswer : List ℕ → List ℕ → List ℕ → Arrays → Answer
+openAnswer buffer cuts hints a = opening (fitIn 0 a) (rightStreams (length buffer) cuts (length hints)) (length cuts - 1)
+
+-- `open`: a refusal leaves everything as it was
+pub record OpenSays (buffer cuts hints : List ℕ) (a : Arrays) (x : Answer) (a' : Arrays) : Type 0 where
+  pub answers : x ≡ openAnswer buffer cuts hints a
+  pub refused : (fitIn 0 a && rightStreams (length buffer) cuts (length hints)) ≡ false → a' ≡ a
+  pub opened : (fitIn 0 a && rightStreams (length buffer) cuts (length hints)) ≡ true → OpenedIn (length cuts - 1) hints a'

@@ -13,7 +13,7 @@ use Rattle.records_rules.specs.Heap.{at}
 use Rattle.records_rules.specs.State.{answerOf, gotOf}
 use Rattle.records_rules.specs.StateLaws.{law-end, law-record, law-ended, law-damaged, law-whole, law-small, small-set, small-move}
 use Rattle.records_rules.specs.Holds.{Chosen, ok-chosen, ok-none, holds-moved, holds-kind, holds-drop, but-drop, but-key}
-use Rattle.records_rules.specs.State.{Room, StateOk, Says}
+use Rattle.records_rules.specs.State.{Room, StateOk, Says, arrays, TurnSays}
 use Rattle.records_rules.specs.Sift.{Sifted}
 
 -- this state is sound, and the machine goes on from it as from the call's entry
@@ -43,8 +43,7 @@ heard-by y e k = record { heard = ap (λ (r : machine.Turn). answerOf (machine.a
 
 -- what a return has to show
 abbrev pub Done : (b : ℕ → Stream) (held : ℕ) (ks₀ ts₀ cs₀ ls₀ hp₀ : List ℕ) (x : Answer) (size : ℕ) (ms ts cs hs hp : List ℕ) → Type 0
-Done b held ks₀ ts₀ cs₀ ls₀ hp₀ x size ms ts cs hs hp =
-    (size ≤ held) × ((n : ℕ) → n ≤ 256 → StateOk n held ks₀ ts₀ cs₀ ls₀ hp₀ → Says b n ks₀ ts₀ cs₀ ls₀ x size ms ts cs hs hp)
+Done b held ks₀ ts₀ cs₀ ls₀ hp₀ x size ms ts cs hs hp = TurnSays b held (arrays ks₀ ts₀ cs₀ ls₀ hp₀) x size (arrays ms ts cs hs hp)
 
 module _ {b : ℕ → Stream} {held : ℕ} {ks₀ ts₀ cs₀ ls₀ hp₀ : List ℕ} {size : ℕ} {ms ts cs hs hp : List ℕ}
     (g : Going b held ks₀ ts₀ cs₀ ls₀ hp₀ size ms ts cs hs hp) (room : Room held ks₀ ts₀ cs₀ ls₀ hp₀) where
@@ -67,12 +66,12 @@ module _ {b : ℕ → Stream} {held : ℕ} {ks₀ ts₀ cs₀ ls₀ hp₀ : List
   hz = omega (arith, room .0, g .few)
 
   pub step-end : size ≡ 0 → Done b held ks₀ ts₀ cs₀ ls₀ hp₀ (answerOf end) size ms ts cs hs hp
-  step-end e = (
-    g .few,
-    λ n hn k.
+  step-end e = record {
+    fewer = g .few;
+    says = λ n hn k.
         let x = g .keeps n hn k in
-        heard-by end (sym (x .same) ∙ law-end b n ms ts cs hs n (ok-none n ms ts hp size (x .sound .heaped) e) (omega arith)) (x .sound),
-  )
+        heard-by end (sym (x .same) ∙ law-end b n ms ts cs hs n (ok-none n ms ts hp size (x .sound .heaped) e) (omega arith)) (x .sound);
+  }
 
   module _ {p : ℕ} (e : p ≡ at hp 0) (pos : 0 < size) where
     module _ (n : ℕ) (hn : n ≤ 256) (ok : StateOk n size ms ts cs hs hp) where
@@ -88,9 +87,9 @@ module _ {b : ℕ → Stream} {held : ℕ} {ks₀ ts₀ cs₀ ls₀ hp₀ : List
     -- the root stands at a record
     pub step-record : getD ms p 0 ≢ 1 → (a : ℕ) → (getD cs p 0 + getD hs p 0 % 65536 < 2 ^ 64 → a ≡ getD cs p 0 + getD hs p 0 % 65536)
         → Done b held ks₀ ts₀ cs₀ ls₀ hp₀ (answerOf (says p (record-at (getD cs p 0) (recIn (getD hs p 0) (getD ts p 0))))) size (set ms p 1) ts (set cs p a) (set hs p 0) hp
-    step-record d a f = (
-      g .few,
-      λ n hn k.
+    step-record d a f = record {
+      fewer = g .few;
+      says = λ n hn k.
           let x = g .keeps n hn k in
           let ok = x .sound in
           let r : p < n = root n hn ok in
@@ -100,8 +99,8 @@ module _ {b : ℕ → Stream} {held : ℕ} {ks₀ ts₀ cs₀ ls₀ hp₀ : List
           (record {
             small = small-move n cs hs p (getD cs p 0 + getD hs p 0 % 65536) (omega (arith, hc)) (omega (arith, hl)) (ok .small) fit;
             heaped = record { holds = holds-kind p 1 (omega (arith, hk)) (live n hn ok) (λ z. omega arith) (ok .heaped .holds); heap = ok .heaped .heap };
-          })),
-    )
+          }));
+    }
 
     module _ (w : getD ms p 0 ≡ 1) (k t l : ℕ) (got : gotOf k t l ≡ b p .read (getD cs p 0)) where
       module _ {hq : List ℕ} (sf : Sifted ts (size - 1) 0 (set hp 0 (at hp (size - 1))) hq) where
@@ -139,15 +138,15 @@ module _ {b : ℕ → Stream} {held : ℕ} {ks₀ ts₀ cs₀ ls₀ hp₀ : List
 
         -- it is damaged
         pub step-damaged : k ≢ 0 → k < 4 → Done b held ks₀ ts₀ cs₀ ls₀ hp₀ (answerOf (says p (damage-at (getD cs p 0) k))) (size - 1) (set ms p 0) ts cs hs hq
-        step-damaged d h = (
-          omega (arith, g .few),
-          λ n hn z.
+        step-damaged d h = record {
+          fewer = omega (arith, g .few);
+          says = λ n hn z.
               let x = g .keeps n hn z in
               let ok = x .sound in
               heard-by (says p (damage-at (getD cs p 0) k))
               (sym (x .same) ∙ law-damaged b n ms ts cs hs p (ch n hn ok) (root n hn ok) (omega (arith, hk)) (omega (arith, ht)) (omega (arith, hc)) (omega (arith, hl)) w k t l got d h)
-              (dropped n hn ok),
-        )
+              (dropped n hn ok);
+        }
 
       -- it stands at a record now
       pub step-whole : 4 ≤ k → b p .size < 2 ^ 64 → {hq : List ℕ} → Sifted (set ts p t) size 0 hp hq → length hq ≡ length hp

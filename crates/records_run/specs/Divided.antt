@@ -9,8 +9,7 @@ use Rattle.run_rules.specs.Rows.{Note, goesOn, runOf}
 use Rattle.run_rules.specs.Shown.{Gave, shown, seen, seen-is}
 use Rattle.records_rules.specs.Machine.{Stream, Status, answersBy, answersF, start}
 use Rattle.records_rules.specs.Machine as machine
-use Rattle.records_rules.specs.View.{statusesOf}
-use Rattle.records_rules.specs.State.{padded, StreamsOpened}
+use Rattle.records_rules.specs.State.{padded, OpenedIn}
 use Rattle.records_rules.specs.Calls.{Lent, statusesIn}
 use Rattle.records_run.specs.Run.{noteOf, say, go, ranOf, RunSays}
 
@@ -36,8 +35,7 @@ single (suc k) b ss = ap (λ (xs : List Answer). shown (say b ss) ∷ xs) (singl
 pub data Runs (b : ℕ → Stream) (n : ℕ) : Lent → List ℕ → List Gave → Lent → Type 0 where
   stop : {s : Lent} → Runs b n s [] [] s
   call : {s s' t : Lent} {k : ℕ} {ks ws : List ℕ} {g : Gave} {gs : List Gave}
-      → RunSays b n k (s .marks) (s .times) (s .places) (s .heads) ws (g .calls) (g .written) (s' .held) (g .last)
-      (s' .marks) (s' .times) (s' .places) (s' .heads) (s' .heap) (g .list)
+      → RunSays b n k (s .arrays) ws (g .calls) (g .written) (s' .held) (g .last) (s' .arrays) (g .list)
       → Runs b n s' ks gs t → Runs b n s (k ∷ ks) (g ∷ gs) t
 
 -- the calls of all of them, and what they show
@@ -103,7 +101,7 @@ runs-alike {b} e x y c =
 
 -- from an opening on they are the machine's from the hints on
 pub opened-runs : {b : ℕ → Stream} {n : ℕ} {hints : List ℕ} {s t : Lent} {ks : List ℕ} {gs : List Gave}
-    → StreamsOpened n hints (s .marks) (s .times) (s .places) (s .heads) (s .heap) → Runs b n s ks gs t
+    → OpenedIn n hints (s .arrays) → Runs b n s ks gs t
     → Single b n (start (padded n hints)) gs t
 opened-runs {b} {n} {gs = gs} o x =
     let i = runs-single x in

@@ -1,18 +1,19 @@
 -- A run over whole buffers: at most a stated number of calls of the record merge, and what it hands back (RULES, Requests, No. 14).
 -- Assumes nothing.
 use mathlib.Core.Path.{_≡_, refl, ap}
-use Prim.Native.Nat.{ℕ}
+use Prim.Native.Nat.{ℕ, _≤_}
+use mathlib.Core.Bool.{true, false}
+use lib.ListN.{length}
 use native.Mathlib.Omega.{arith}
 use mathlib.Core.List.{List, [], _∷_}
 use Rattle.theory.specs.Answer.{Answer, answer}
 use Rattle.leaves.specs.Refusal.{numberOf, refused}
 use Rattle.leaves.specs.RefusalLaws.{refused-not-done, refused-one}
 use Rattle.run_rules.specs.Batch.{Ran}
-use Rattle.run_rules.specs.Rows.{Note, writes, stops, runOf, going, ended, Gives}
+use Rattle.run_rules.specs.Rows.{runFits, most, Note, writes, stops, runOf, going, ended, Gives}
 use Rattle.records_rules.specs.Machine.{Stream, record-at, damage-at, Status, says, end, next, rest}
 use Rattle.records_rules.specs.Machine as machine
-use Rattle.records_rules.specs.View.{statusesOf}
-use Rattle.records_rules.specs.State.{StateOk, Untouched}
+use Rattle.records_rules.specs.State.{Arrays, fitIn, statusesAt, SoundIn}
 use Rattle.records_run.specs.declared.run.Last.{Last}
 use Rattle.records_run.specs.declared.run.Last.the-variants as last
 
@@ -58,16 +59,22 @@ last-one (last.Refused r) (last.Refused q) z = ap last.Refused (refused-one r q 
 -- ---- a run's contract
 
 -- bad memory or allowance: 15, nothing was called, and everything is as at entry
-pub record RunRefused (ms ts cs hs hp ws : List ℕ) (size c w size' : ℕ) (x : Answer) (ms' ts' cs' hs' hp' ws' : List ℕ) : Type 0 where
+pub record RunRefused (a : Arrays) (ws : List ℕ) (size c w size' : ℕ) (x : Answer) (a' : Arrays) (ws' : List ℕ) : Type 0 where
   pub answers : x ≡ answer 15 []
   pub calls : c ≡ 0
   pub written : w ≡ 0
   pub held : size' ≡ size
-  pub untouched : Untouched ms ts cs hs hp ms' ts' cs' hs' hp'
+  pub untouched : a' ≡ a
   pub list : ws' ≡ ws
 
 -- a run of at most k calls: its numbers, its list and the statuses left are those of the machine's run, and the state left is sound
-pub record RunSays (b : ℕ → Stream) (n k : ℕ) (ms ts cs hs ws : List ℕ) (c w size : ℕ) (x : Answer) (ms' ts' cs' hs' hp' ws' : List ℕ) : Type 0 where
-  pub gives : Gives (ranOf k b (statusesOf n ms ts cs hs)) ws c w x ws'
-  pub leaves : statusesOf n ms' ts' cs' hs' ≡ ranOf k b (statusesOf n ms ts cs hs) .left
-  pub sound : StateOk n size ms' ts' cs' hs' hp'
+pub record RunSays (b : ℕ → Stream) (n k : ℕ) (a : Arrays) (ws : List ℕ) (c w size : ℕ) (x : Answer) (a' : Arrays) (ws' : List ℕ) : Type 0 where
+  pub gives : Gives (ranOf k b (statusesAt n a)) ws c w x ws'
+  pub leaves : statusesAt n a' ≡ ranOf k b (statusesAt n a) .left
+  pub sound : SoundIn n size a'
+
+-- `run`: the first where what is lent or the allowance is not right, else the second
+pub record RunGives (b : ℕ → Stream) (allowance size : ℕ) (a : Arrays) (ws : List ℕ) (c w size' : ℕ) (x : Answer) (a' : Arrays) (ws' : List ℕ) : Type 0 where
+  pub refused : runFits (fitIn size a) allowance (length ws) ≡ false → RunRefused a ws size c w size' x a' ws'
+  pub says : runFits (fitIn size a) allowance (length ws) ≡ true
+      → (n : ℕ) → n ≤ 256 → SoundIn n size a → RunSays b n (most allowance (length ws)) a ws c w size' x a' ws'

@@ -9,17 +9,15 @@ use run_list::list::limit_of;
 use run_list::list::put_row;
 use run_list::list::run_fits;
 ghost use mathlib.Core.Path.{_≡_};
-ghost use mathlib.Core.Bool.{true, false};
-ghost use Prim.Native.Nat.{ℕ, _+_, _*_, _≤_};
+ghost use Prim.Native.Nat.{_+_, _*_, _≤_};
 ghost use lib.ListN.{length};
 ghost use Rattle.records_rules.specs.Machine as machine;
 ghost use Rattle.records_rules.specs.Bytes.{streamsOf};
-ghost use Rattle.records_rules.specs.State.{answerOf, arraysFit, Room, StateOk};
+ghost use Rattle.records_rules.specs.State.{answerOf, Room, arrays};
 ghost use Rattle.records.specs.Merge.{turnOf};
-ghost use Rattle.run_rules.specs.Rows.{runFits, most};
 ghost use Rattle.run_rules.specs.RowsLaws.{Noted};
-ghost use Rattle.records_run.specs.Run.{noteOf, lastOf, RunRefused, RunSays};
-ghost use Rattle.records_run.specs.Running.{Told};
+ghost use Rattle.records_run.specs.Run.{noteOf, lastOf, RunGives};
+ghost use Rattle.records_run.specs.Running.{StepSays, StepsSay};
 
 // How a run stopped: a further call may be made; the end; or a refusal, damage being 13.
 pub enum Last {
@@ -101,9 +99,8 @@ fn step(
     at: usize,
 ) -> Stepped
     requires { ⌜ Room held (now marks) (now times) (now places) (now heads) (now heap) × (3 * at + 3 ≤ length (now list)) ⌝ }
-    ensures { λ r. ⌜ (r .held ≤ held) × ((n : ℕ) → n ≤ 256 → StateOk n held (now (marks .entry)) (now (times .entry)) (now (places .entry)) (now (heads .entry)) (now (heap .entry))
-        → Told (streamsOf (now (buffer .entry)) (now (cuts .entry))) n (now (marks .entry)) (now (times .entry)) (now (places .entry)) (now (heads .entry)) (now (list .entry)) at
-        (r .held) (r .more) (lastOf (r .last)) (now (marks .exit)) (now (times .exit)) (now (places .exit)) (now (heads .exit)) (now (heap .exit)) (now (list .exit))) ⌝ }
+    ensures { λ r. ⌜ StepSays (streamsOf (now (buffer .entry)) (now (cuts .entry))) held (arrays (now (marks .entry)) (now (times .entry)) (now (places .entry)) (now (heads .entry)) (now (heap .entry))) (now (list .entry)) at
+        (r .held) (r .more) (lastOf (r .last)) (arrays (now (marks .exit)) (now (times .exit)) (now (places .exit)) (now (heads .exit)) (now (heap .exit))) (now (list .exit)) ⌝ }
 {
     let turned = turns(buffer, cuts, held, marks, times, places, heads, heap);
     let answer = turned.answer;
@@ -130,9 +127,8 @@ fn steps(
     limit: usize,
 ) -> Made
     requires { ⌜ Room held (now marks) (now times) (now places) (now heads) (now heap) × (3 * limit ≤ length (now list)) ⌝ }
-    ensures { λ r. ⌜ (r .held ≤ held) × ((n : ℕ) → n ≤ 256 → StateOk n held (now (marks .entry)) (now (times .entry)) (now (places .entry)) (now (heads .entry)) (now (heap .entry))
-        → RunSays (streamsOf (now (buffer .entry)) (now (cuts .entry))) n limit (now (marks .entry)) (now (times .entry)) (now (places .entry)) (now (heads .entry)) (now (list .entry))
-        (r .calls) (r .written) (r .held) (lastOf (r .last)) (now (marks .exit)) (now (times .exit)) (now (places .exit)) (now (heads .exit)) (now (heap .exit)) (now (list .exit))) ⌝ }
+    ensures { λ r. ⌜ StepsSay (streamsOf (now (buffer .entry)) (now (cuts .entry))) limit held (arrays (now (marks .entry)) (now (times .entry)) (now (places .entry)) (now (heads .entry)) (now (heap .entry))) (now (list .entry))
+        (r .calls) (r .written) (r .held) (lastOf (r .last)) (arrays (now (marks .exit)) (now (times .exit)) (now (places .exit)) (now (heads .exit)) (now (heap .exit))) (now (list .exit)) ⌝ }
 {
     let mut size = held;
     let mut calls = 0;
@@ -184,15 +180,8 @@ pub fn run(
     allowance: usize,
     list: &mut [u64],
 ) -> Made
-    ensures { λ r. ⌜ (runFits (arraysFit held (length (now (marks .entry))) (length (now (times .entry))) (length (now (places .entry)))
-        (length (now (heads .entry))) (length (now (heap .entry)))) allowance (length (now (list .entry))) ≡ false
-        → RunRefused (now (marks .entry)) (now (times .entry)) (now (places .entry)) (now (heads .entry)) (now (heap .entry)) (now (list .entry)) held
-        (r .calls) (r .written) (r .held) (lastOf (r .last)) (now (marks .exit)) (now (times .exit)) (now (places .exit)) (now (heads .exit)) (now (heap .exit)) (now (list .exit))) ⌝ }
-    ensures { λ r. ⌜ (runFits (arraysFit held (length (now (marks .entry))) (length (now (times .entry))) (length (now (places .entry)))
-        (length (now (heads .entry))) (length (now (heap .entry)))) allowance (length (now (list .entry))) ≡ true
-        → (n : ℕ) → n ≤ 256 → StateOk n held (now (marks .entry)) (now (times .entry)) (now (places .entry)) (now (heads .entry)) (now (heap .entry))
-        → RunSays (streamsOf (now (buffer .entry)) (now (cuts .entry))) n (most allowance (length (now (list .entry)))) (now (marks .entry)) (now (times .entry)) (now (places .entry)) (now (heads .entry)) (now (list .entry))
-        (r .calls) (r .written) (r .held) (lastOf (r .last)) (now (marks .exit)) (now (times .exit)) (now (places .exit)) (now (heads .exit)) (now (heap .exit)) (now (list .exit))) ⌝ }
+    ensures { λ r. ⌜ RunGives (streamsOf (now (buffer .entry)) (now (cuts .entry))) allowance held (arrays (now (marks .entry)) (now (times .entry)) (now (places .entry)) (now (heads .entry)) (now (heap .entry))) (now (list .entry))
+        (r .calls) (r .written) (r .held) (lastOf (r .last)) (arrays (now (marks .exit)) (now (times .exit)) (now (places .exit)) (now (heads .exit)) (now (heap .exit))) (now (list .exit)) ⌝ }
 {
     let arrays = arrays_fit(
         held,

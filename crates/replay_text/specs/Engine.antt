@@ -1,7 +1,7 @@
 -- Either engine of the merge (RULES, Requests, No. 12): when its state is sound, and what a call and an opening leave. What is promised
 -- of the answers names no engine. Assumes nothing.
 use mathlib.Core.Path.{_≡_, refl, sym, ap, subst, _∙_}
-use Prim.Native.Nat.{ℕ, _≤_}
+use Prim.Native.Nat.{ℕ, _-_, _≤_}
 use mathlib.Core.Bool.{Bool, true, false}
 use mathlib.Core.List.{List}
 use lib.ListN.{length}
@@ -10,8 +10,7 @@ use borrow.Author.Tests.{le-leb, eq-eqb}
 use Rattle.theory.specs.Answer.{Answer}
 use Rattle.records_rules.specs.Machine.{Stream, start}
 use Rattle.records_rules.specs.Machine as machine
-use Rattle.records_rules.specs.View.{statusesOf}
-use Rattle.records_rules.specs.State.{answerOf, arraysFit, padded, Small, StateOk, Says, StreamsOpened}
+use Rattle.records_rules.specs.State.{answerOf, arraysFit, Small, padded, rightStreams, opening, Arrays, statusesAt, SoundIn, SaysIn, OpenedIn}
 use Rattle.records_plain.specs.Plain.{PlainSays, PlainOpened}
 
 -- the arrays have their 256 places
@@ -42,28 +41,38 @@ pub places-plain : {held : ℕ} {ms ts cs hs hp : List ℕ} → Places held ms t
 places-plain {held} {ms} {ts} {cs} {hs} {hp} p =
     ap (λ (k : ℕ). arraysFit held (length ms) (length ts) (length cs) (length hs) k) (sym (p .heap)) ∙ places-right p
 
+abbrev pub PlacesIn : ℕ → Arrays → Type 0
+PlacesIn held a = Places held (a .marks) (a .times) (a .places) (a .heads) (a .heap)
+
 -- a sound state of n streams: the heap's, or for the plain engine, whose streams are all held, places behind records that fit
-pub record EngineOk (plain : Bool) (n held : ℕ) (ms ts cs hs hp : List ℕ) : Type 0 where
-  pub by-heap : plain ≡ false → StateOk n held ms ts cs hs hp
-  pub by-scan : plain ≡ true → (held ≡ n) × Small n cs hs
+pub record EngineOk (plain : Bool) (n held : ℕ) (a : Arrays) : Type 0 where
+  pub by-heap : plain ≡ false → SoundIn n held a
+  pub by-scan : plain ≡ true → (held ≡ n) × Small n (a .places) (a .heads)
 
 -- the answer x and the statuses left are those of the machine's `next`, and the state left is sound
-pub record EngineSays (plain : Bool) (b : ℕ → Stream) (n : ℕ) (ms ts cs hs : List ℕ) (x : Answer) (held : ℕ)
-    (ms' ts' cs' hs' hp' : List ℕ) : Type 0 where
-  pub heard : x ≡ answerOf (machine.answer (machine.next b (statusesOf n ms ts cs hs)))
-  pub leaves : statusesOf n ms' ts' cs' hs' ≡ machine.rest (machine.next b (statusesOf n ms ts cs hs))
-  pub sound : EngineOk plain n held ms' ts' cs' hs' hp'
+pub record EngineSays (plain : Bool) (b : ℕ → Stream) (n : ℕ) (a : Arrays) (x : Answer) (held : ℕ) (a' : Arrays) : Type 0 where
+  pub heard : x ≡ answerOf (machine.answer (machine.next b (statusesAt n a)))
+  pub leaves : statusesAt n a' ≡ machine.rest (machine.next b (statusesAt n a))
+  pub sound : EngineOk plain n held a'
 
 -- what an accepted opening of n streams leaves: each waits at its hint, and the state is sound
-pub record EngineOpened (plain : Bool) (n : ℕ) (hints ms ts cs hs hp : List ℕ) : Type 0 where
-  pub starts : statusesOf n ms ts cs hs ≡ start (padded n hints)
-  pub sound : EngineOk plain n n ms ts cs hs hp
+pub record EngineOpened (plain : Bool) (n : ℕ) (hints : List ℕ) (a : Arrays) : Type 0 where
+  pub starts : statusesAt n a ≡ start (padded n hints)
+  pub sound : EngineOk plain n n a
+
+-- a call by an engine, and an opening
+pub record EngineTurns (plain : Bool) (b : ℕ → Stream) (held : ℕ) (a : Arrays) (x : Answer) (held' : ℕ) (a' : Arrays) : Type 0 where
+  pub fewer : held' ≤ held
+  pub says : (n : ℕ) → n ≤ 256 → EngineOk plain n held a → EngineSays plain b n a x held' a'
+
+pub record EngineOpens (plain : Bool) (buffer cuts hints : List ℕ) (x : Answer) (a' : Arrays) : Type 0 where
+  pub answers : x ≡ opening true (rightStreams (length buffer) cuts (length hints)) (length cuts - 1)
+  pub opened : rightStreams (length buffer) cuts (length hints) ≡ true → EngineOpened plain (length cuts - 1) hints a'
 
 -- ---- each engine's promise is this one
 
-module _ {plain : Bool} {b : ℕ → Stream} {n : ℕ} {ms ts cs hs : List ℕ} {x : Answer} {held : ℕ} {ms' ts' cs' hs' hp' : List ℕ} where
-  pub says-by-heap : plain ≡ false → Says b n ms ts cs hs x held ms' ts' cs' hs' hp'
-      → EngineSays plain b n ms ts cs hs x held ms' ts' cs' hs' hp'
+module _ {plain : Bool} {b : ℕ → Stream} {n : ℕ} {a : Arrays} {x : Answer} {held : ℕ} {a' : Arrays} where
+  pub says-by-heap : plain ≡ false → SaysIn b n a x held a' → EngineSays plain b n a x held a'
   says-by-heap e s =
       record {
         heard = s .heard;
@@ -71,21 +80,22 @@ module _ {plain : Bool} {b : ℕ → Stream} {n : ℕ} {ms ts cs hs : List ℕ} 
         sound = record { by-heap = λ d. s .sound; by-scan = λ d. absurd (subst T (sym d ∙ e) tt) };
       }
 
-  pub says-by-scan : plain ≡ true → held ≡ n → PlainSays b held ms ts cs hs x ms' ts' cs' hs'
-      → EngineSays plain b n ms ts cs hs x held ms' ts' cs' hs' hp'
+  pub says-by-scan : plain ≡ true → held ≡ n
+      → PlainSays b held (a .marks) (a .times) (a .places) (a .heads) x (a' .marks) (a' .times) (a' .places) (a' .heads)
+      → EngineSays plain b n a x held a'
   says-by-scan e h s =
-      let p : PlainSays b n ms ts cs hs x ms' ts' cs' hs' = rw h at s in
+      let p : PlainSays b n (a .marks) (a .times) (a .places) (a .heads) x (a' .marks) (a' .times) (a' .places) (a' .heads) = rw h at s in
       record {
         heard = p .heard;
         leaves = p .leaves;
         sound = record { by-heap = λ d. absurd (subst T (sym e ∙ d) tt); by-scan = λ d. (h, p .small) };
       }
 
-module _ {plain : Bool} {n : ℕ} {hints ms ts cs hs hp : List ℕ} where
-  pub opened-by-heap : plain ≡ false → StreamsOpened n hints ms ts cs hs hp → EngineOpened plain n hints ms ts cs hs hp
+module _ {plain : Bool} {n : ℕ} {hints : List ℕ} {a : Arrays} where
+  pub opened-by-heap : plain ≡ false → OpenedIn n hints a → EngineOpened plain n hints a
   opened-by-heap e o =
       record { starts = o .starts; sound = record { by-heap = λ d. o .sound; by-scan = λ d. absurd (subst T (sym d ∙ e) tt) } }
 
-  pub opened-by-scan : plain ≡ true → PlainOpened n hints ms ts cs hs → EngineOpened plain n hints ms ts cs hs hp
+  pub opened-by-scan : plain ≡ true → PlainOpened n hints (a .marks) (a .times) (a .places) (a .heads) → EngineOpened plain n hints a
   opened-by-scan e o =
       record { starts = o .starts; sound = record { by-heap = λ d. absurd (subst T (sym e ∙ d) tt); by-scan = λ d. (refl, o .small) } }

@@ -10,11 +10,11 @@ use Rattle.theory.specs.Answer as theory
 use Rattle.records_rules.specs.Machine.{Stream, record-at, damage-at, Status, Answer, says, end, Turn, turn, next, answer, rest, start}
 use Rattle.records_rules.specs.Bytes.{streamsOf}
 use Rattle.records_rules.specs.Kept.{total}
-use Rattle.records_rules.specs.View.{tab, statusesOf}
-use Rattle.records_rules.specs.State.{answerOf, rightStreams, padded, opening}
+use Rattle.records_rules.specs.View.{tab}
+use Rattle.records_rules.specs.State.{answerOf, rightStreams, padded, opening, Arrays, statusesAt}
 use Rattle.lines.specs.Lines.{recordLine, damageLine, endLine, Lays}
 use Rattle.replay_text.specs.Replay.{lineOf}
-use Rattle.replay_text.specs.Engine.{Places, EngineOk, EngineOpened}
+use Rattle.replay_text.specs.Engine.{Places, PlacesIn, EngineOk, EngineOpened}
 use Rattle.replay_text.specs.ReplayLaws.{linesLeft, left-says, Writing, writing-start, writing-says, writing-end}
 
 -- whether an answer is the last
@@ -62,17 +62,22 @@ module _ (text : List ℕ) (at r : ℕ) (text′ : List ℕ) (short : r ≤ at +
 -- ---- a call
 
 -- a call's line is laid, and what it leaves is the machine's
-pub record Told (plain : Bool) (b : ℕ → Stream) (n : ℕ) (ms ts cs hs text : List ℕ) (at r : ℕ) (last : Bool) (held : ℕ) (ms' ts' cs' hs' hp' text' : List ℕ) : Type 0 where
-  pub line : Line text at (answer (next b (statusesOf n ms ts cs hs))) r last text'
-  pub leaves : statusesOf n ms' ts' cs' hs' ≡ rest (next b (statusesOf n ms ts cs hs))
-  pub sound : EngineOk plain n held ms' ts' cs' hs' hp'
+pub record Told (plain : Bool) (b : ℕ → Stream) (n : ℕ) (a : Arrays) (text : List ℕ) (at r : ℕ) (last : Bool) (held : ℕ) (a' : Arrays) (text' : List ℕ) : Type 0 where
+  pub line : Line text at (answer (next b (statusesAt n a))) r last text'
+  pub leaves : statusesAt n a' ≡ rest (next b (statusesAt n a))
+  pub sound : EngineOk plain n held a'
+
+-- what a call whose line is laid promises
+pub record StepSays (plain : Bool) (b : ℕ → Stream) (held : ℕ) (a : Arrays) (text : List ℕ) (at r : ℕ) (last : Bool) (held' : ℕ) (a' : Arrays) (text' : List ℕ) : Type 0 where
+  pub fewer : held' ≤ held
+  pub told : (n : ℕ) → n ≤ 256 → EngineOk plain n held a → Told plain b n a text at r last held' a' text'
 
 -- the state is sound, and the lines to come have room
-pub record Ready (plain : Bool) (b : ℕ → Stream) (n held : ℕ) (ms ts cs hs hp text : List ℕ) : Type 0 where
-  pub places : Places held ms ts cs hs hp
+pub record Ready (plain : Bool) (b : ℕ → Stream) (n held : ℕ) (a : Arrays) (text : List ℕ) : Type 0 where
+  pub places : PlacesIn held a
   pub few : n ≤ 256
-  pub sound : EngineOk plain n held ms ts cs hs hp
-  pub room : 63 * total b (statusesOf n ms ts cs hs) + 63 ≤ length text
+  pub sound : EngineOk plain n held a
+  pub room : 63 * total b (statusesAt n a) + 63 ≤ length text
 
 -- ---- call after call
 
@@ -97,21 +102,21 @@ module _ {b : ℕ → Stream} {whole text₀ : List ℕ} {ss : List Status} {tex
       go (turn end ss') e m = writing-end w e (m .lays)
 
 -- the loop: the state is sound, and so much is written
-pub record Stepping (plain : Bool) (b : ℕ → Stream) (n : ℕ) (whole text₀ : List ℕ) (size : ℕ) (ms ts cs hs hp text : List ℕ) (at : ℕ) : Type 0 where
-  pub places : Places size ms ts cs hs hp
-  pub sound : EngineOk plain n size ms ts cs hs hp
-  pub writing : Writing b whole text₀ (statusesOf n ms ts cs hs) text at
+pub record Stepping (plain : Bool) (b : ℕ → Stream) (n : ℕ) (whole text₀ : List ℕ) (size : ℕ) (a : Arrays) (text : List ℕ) (at : ℕ) : Type 0 where
+  pub places : PlacesIn size a
+  pub sound : EngineOk plain n size a
+  pub writing : Writing b whole text₀ (statusesAt n a) text at
 
-pub stepping-start : {plain : Bool} {b : ℕ → Stream} {n held : ℕ} {ms ts cs hs hp text : List ℕ} → Ready plain b n held ms ts cs hs hp text
-    → Stepping plain b n (linesLeft b (statusesOf n ms ts cs hs)) text held ms ts cs hs hp text 0
-stepping-start {plain} {b} {n} {held} {ms} {ts} {cs} {hs} {hp} {text} r =
-    record { places = r .places; sound = r .sound; writing = writing-start b text (statusesOf n ms ts cs hs) (r .room) }
+pub stepping-start : {plain : Bool} {b : ℕ → Stream} {n held : ℕ} {a : Arrays} {text : List ℕ} → Ready plain b n held a text
+    → Stepping plain b n (linesLeft b (statusesAt n a)) text held a text 0
+stepping-start {plain} {b} {n} {held} {a} {text} r =
+    record { places = r .places; sound = r .sound; writing = writing-start b text (statusesAt n a) (r .room) }
 
-module _ {plain : Bool} {b : ℕ → Stream} {n : ℕ} {whole text₀ : List ℕ} {size : ℕ} {ms ts cs hs hp text : List ℕ} {at : ℕ}
-    (s : Stepping plain b n whole text₀ size ms ts cs hs hp text at) {r : ℕ} {last : Bool} {held : ℕ} {ms' ts' cs' hs' hp' text' : List ℕ}
-    (t : Told plain b n ms ts cs hs text at r last held ms' ts' cs' hs' hp' text') where
-  pub stepping-more : last ≡ false → length text' ≡ length text → Places held ms' ts' cs' hs' hp'
-      → Stepping plain b n whole text₀ held ms' ts' cs' hs' hp' text' r × (total b (statusesOf n ms' ts' cs' hs') < total b (statusesOf n ms ts cs hs))
+module _ {plain : Bool} {b : ℕ → Stream} {n : ℕ} {whole text₀ : List ℕ} {size : ℕ} {a : Arrays} {text : List ℕ} {at : ℕ}
+    (s : Stepping plain b n whole text₀ size a text at) {r : ℕ} {last : Bool} {held : ℕ} {a' : Arrays} {text' : List ℕ}
+    (t : Told plain b n a text at r last held a' text') where
+  pub stepping-more : last ≡ false → length text' ≡ length text → PlacesIn held a'
+      → Stepping plain b n whole text₀ held a' text' r × (total b (statusesAt n a') < total b (statusesAt n a))
   stepping-more d k p =
       let w = writing-more (s .writing) (t .line) d k in (
         record { places = p; sound = t .sound; writing = rw (t .leaves) (w .0) },
@@ -157,13 +162,13 @@ module _ {buffer cuts ms₀ ts₀ cs₀ hs₀ hp₀ text : List ℕ} (m : Mergea
   opening-done e = let d = done in cc
 
   -- and what it leaves is ready to be stepped through, from the machine's start
-  module _ {plain : Bool} {ms ts cs hs hp : List ℕ} (o : EngineOpened plain (length cuts - 1) [] ms ts cs hs hp) where
-    pub opened-starts : statusesOf (length cuts - 1) ms ts cs hs ≡ start (replicate (length cuts - 1) 0)
+  module _ {plain : Bool} {a : Arrays} (o : EngineOpened plain (length cuts - 1) [] a) where
+    pub opened-starts : statusesAt (length cuts - 1) a ≡ start (replicate (length cuts - 1) 0)
     opened-starts = o .starts ∙ ap start (no-hints (length cuts - 1))
 
-    pub opened-ready : {held : ℕ} → held ≡ length cuts - 1
-        → length ms ≡ length ms₀ → length ts ≡ length ts₀ → length cs ≡ length cs₀ → length hs ≡ length hs₀ → length hp ≡ length hp₀
-        → Ready plain (streamsOf buffer cuts) (length cuts - 1) held ms ts cs hs hp text
+    pub opened-ready : {held : ℕ} → held ≡ length cuts - 1 → length (a .marks) ≡ length ms₀ → length (a .times) ≡ length ts₀
+        → length (a .places) ≡ length cs₀ → length (a .heads) ≡ length hs₀ → length (a .heap) ≡ length hp₀
+        → Ready plain (streamsOf buffer cuts) (length cuts - 1) held a text
     opened-ready {held} e em et ec eh ep =
         let p = m .places in
         rw e (record {

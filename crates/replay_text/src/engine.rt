@@ -2,14 +2,10 @@
 // looks at no heap and counts every stream as held.
 use records::merge::Opening;
 use records::merge::Turned;
-ghost use mathlib.Core.Path.{_≡_};
-ghost use mathlib.Core.Bool.{true};
-ghost use Prim.Native.Nat.{ℕ, _-_, _≤_};
-ghost use lib.ListN.{length};
 ghost use Rattle.records_rules.specs.Bytes.{streamsOf};
-ghost use Rattle.records_rules.specs.State.{rightStreams, opening};
+ghost use Rattle.records_rules.specs.State.{arrays};
 ghost use Rattle.records.specs.Merge.{turnOf, openingOf};
-ghost use Rattle.replay_text.specs.Engine.{Places, EngineOk, EngineSays, EngineOpened};
+ghost use Rattle.replay_text.specs.Engine.{Places, EngineTurns, EngineOpens};
 
 // Opens the streams by an engine.
 pub fn open_by(
@@ -24,11 +20,8 @@ pub fn open_by(
     heap: &mut [u8],
 ) -> Opening
     requires { ⌜ Places 0 (now marks) (now times) (now places) (now heads) (now heap) ⌝ }
-    ensures { λ r. ⌜ openingOf r
-        ≡ opening true (rightStreams (length (now (buffer .entry))) (now (cuts .entry)) (length (now (hints .entry)))) (length (now (cuts .entry)) - 1) ⌝ }
-    ensures { λ r. ⌜ (rightStreams (length (now (buffer .entry))) (now (cuts .entry)) (length (now (hints .entry))) ≡ true
-        → EngineOpened plain (length (now (cuts .entry)) - 1) (now (hints .entry))
-        (now (marks .exit)) (now (times .exit)) (now (places .exit)) (now (heads .exit)) (now (heap .exit))) ⌝ }
+    ensures { λ r. ⌜ EngineOpens plain (now (buffer .entry)) (now (cuts .entry)) (now (hints .entry)) (openingOf r)
+        (arrays (now (marks .exit)) (now (times .exit)) (now (places .exit)) (now (heads .exit)) (now (heap .exit))) ⌝ }
 {
     if plain {
         return records_plain::plain::open(buffer, cuts, hints, marks, times, places, heads);
@@ -49,12 +42,9 @@ pub fn next_by(
     heap: &mut [u8],
 ) -> Turned
     requires { ⌜ Places held (now marks) (now times) (now places) (now heads) (now heap) ⌝ }
-    ensures { λ r. ⌜ (r .held ≤ held) × ((n : ℕ) → n ≤ 256
-        → EngineOk plain n held (now (marks .entry)) (now (times .entry)) (now (places .entry)) (now (heads .entry)) (now (heap .entry))
-        → EngineSays plain (streamsOf (now (buffer .entry)) (now (cuts .entry))) n
-        (now (marks .entry)) (now (times .entry)) (now (places .entry)) (now (heads .entry))
-        (turnOf (r .answer)) (r .held)
-        (now (marks .exit)) (now (times .exit)) (now (places .exit)) (now (heads .exit)) (now (heap .exit))) ⌝ }
+    ensures { λ r. ⌜ EngineTurns plain (streamsOf (now (buffer .entry)) (now (cuts .entry))) held
+        (arrays (now (marks .entry)) (now (times .entry)) (now (places .entry)) (now (heads .entry)) (now (heap .entry))) (turnOf (r .answer)) (r .held)
+        (arrays (now (marks .exit)) (now (times .exit)) (now (places .exit)) (now (heads .exit)) (now (heap .exit))) ⌝ }
 {
     if plain {
         let answer = records_plain::plain::next(buffer, cuts, held, marks, times, places, heads);

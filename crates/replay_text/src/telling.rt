@@ -11,17 +11,16 @@ use records::merge::Turn;
 use records::merge::empty_bytes;
 use records::merge::empty_numbers;
 ghost use mathlib.Core.Path.{_≡_};
-ghost use Prim.Native.Nat.{ℕ, _+_, _-_, _≤_};
+ghost use Prim.Native.Nat.{_+_, _-_, _≤_};
 ghost use lib.ListN.{length, replicate};
 ghost use Rattle.records_rules.specs.Machine as machine;
 ghost use Rattle.records_rules.specs.Bytes.{streamsOf};
-ghost use Rattle.records_rules.specs.View.{statusesOf};
-ghost use Rattle.records_rules.specs.State.{answerOf};
+ghost use Rattle.records_rules.specs.State.{answerOf, arrays, statusesAt};
 ghost use Rattle.records.specs.Merge.{turnOf};
 ghost use Rattle.lines.specs.Lines.{Lays};
 ghost use Rattle.replay_text.specs.ReplayLaws.{linesLeft};
-ghost use Rattle.replay_text.specs.Engine.{Places, EngineOk};
-ghost use Rattle.replay_text.specs.Telling.{Line, Told, Ready, Cut, Mergeable};
+ghost use Rattle.replay_text.specs.Engine.{Places};
+ghost use Rattle.replay_text.specs.Telling.{Line, StepSays, Ready, Cut, Mergeable};
 
 // A line that was written: the place behind it, and whether it is the last.
 struct Wrote {
@@ -86,9 +85,9 @@ fn step(
     at: usize,
 ) -> Stepped
     requires { ⌜ Places held (now marks) (now times) (now places) (now heads) (now heap) × (at + 63 ≤ length (now text)) ⌝ }
-    ensures { λ r. ⌜ (r .held ≤ held) × ((n : ℕ) → n ≤ 256 → EngineOk plain n held (now (marks .entry)) (now (times .entry)) (now (places .entry)) (now (heads .entry)) (now (heap .entry))
-        → Told plain (streamsOf (now (buffer .entry)) (now (cuts .entry))) n (now (marks .entry)) (now (times .entry)) (now (places .entry)) (now (heads .entry))
-        (now (text .entry)) at (r .at) (r .last) (r .held) (now (marks .exit)) (now (times .exit)) (now (places .exit)) (now (heads .exit)) (now (heap .exit)) (now (text .exit))) ⌝ }
+    ensures { λ r. ⌜ StepSays plain (streamsOf (now (buffer .entry)) (now (cuts .entry))) held
+        (arrays (now (marks .entry)) (now (times .entry)) (now (places .entry)) (now (heads .entry)) (now (heap .entry))) (now (text .entry)) at
+        (r .at) (r .last) (r .held) (arrays (now (marks .exit)) (now (times .exit)) (now (places .exit)) (now (heads .exit)) (now (heap .exit))) (now (text .exit)) ⌝ }
 {
     let turned = next_by(plain, buffer, cuts, held, marks, times, places, heads, heap);
     let answer = turned.answer;
@@ -113,9 +112,9 @@ fn steps(
     heap: &mut [u8],
     text: &mut [u8],
 ) -> usize
-    requires { ⌜ Ready plain (streamsOf (now buffer) (now cuts)) (length (now cuts) - 1) held (now marks) (now times) (now places) (now heads) (now heap) (now text) ⌝ }
+    requires { ⌜ Ready plain (streamsOf (now buffer) (now cuts)) (length (now cuts) - 1) held (arrays (now marks) (now times) (now places) (now heads) (now heap)) (now text) ⌝ }
     ensures { λ r. ⌜ Lays (now (text .entry)) 0 (linesLeft (streamsOf (now (buffer .entry)) (now (cuts .entry)))
-        (statusesOf (length (now (cuts .entry)) - 1) (now (marks .entry)) (now (times .entry)) (now (places .entry)) (now (heads .entry)))) r (now (text .exit)) ⌝ }
+        (statusesAt (length (now (cuts .entry)) - 1) (arrays (now (marks .entry)) (now (times .entry)) (now (places .entry)) (now (heads .entry)) (now (heap .entry))))) r (now (text .exit)) ⌝ }
 {
     let mut at = 0;
     let mut size = held;

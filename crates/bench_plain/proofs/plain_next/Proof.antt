@@ -47,19 +47,12 @@ returns : tie.Need-returns
 returns c =
     let call = c .before .before .before .before .before .before .before .before .before .before .before in
     let x = call .next .ensures in
-    let a = call .before .before .before .before .before .before .before .before .before .before .before .args in (
-      λ w. (
-        handed-record (a .found .now) (a .stream .now) (a .place .now) (a .long .now) (a .kind .now) (a .instrument .now) (a .time .now) (a .reason .now)
-            (answer-same turnOf (x .refused w .0) (c .before .answer .given .1)),
-        x .refused w .1,
-      ),
-      λ w s.
-          let y = x .told w s in (
-            handed-record (a .found .now) (a .stream .now) (a .place .now) (a .long .now) (a .kind .now) (a .instrument .now) (a .time .now) (a .reason .now)
-                (answer-same turnOf (y .heard) (c .before .answer .given .1)),
-            record { heard = refl; leaves = y .leaves; small = y .small },
-          ),
-    )
+    record {
+      refused = λ w. (handed-record _ (answer-same turnOf (x .refused w .0) (c .before .answer .given .1)), x .refused w .1);
+      told = λ w s.
+          let y = x .told w s in
+          (handed-record _ (answer-same turnOf (y .heard) (c .before .answer .given .1)), record { heard = refl; leaves = y .leaves; small = y .small });
+    }
 
 same-length-5 : tie.Need-same-length-5
 same-length-5 c = search needs
@@ -77,19 +70,12 @@ returns-2 : tie.Need-returns-2
 returns-2 c =
     let call = c .before .before .before .before .before .before .before .before .before .before in
     let x = call .next .ensures in
-    let a = call .before .before .before .before .before .before .before .before .before .before .before .args in (
-      λ w. (
-        handed-end (a .found .now) (a .stream .now) (a .place .now) (a .long .now) (a .kind .now) (a .instrument .now) (a .time .now) (a .reason .now)
-            (answer-same turnOf (x .refused w .0) (c .enum-told .given .1)),
-        x .refused w .1,
-      ),
-      λ w s.
-          let y = x .told w s in (
-            handed-end (a .found .now) (a .stream .now) (a .place .now) (a .long .now) (a .kind .now) (a .instrument .now) (a .time .now) (a .reason .now)
-                (answer-same turnOf (y .heard) (c .enum-told .given .1)),
-            record { heard = refl; leaves = y .leaves; small = y .small },
-          ),
-    )
+    record {
+      refused = λ w. (handed-end _ (answer-same turnOf (x .refused w .0) (c .enum-told .given .1)), x .refused w .1);
+      told = λ w s.
+          let y = x .told w s in
+          (handed-end _ (answer-same turnOf (y .heard) (c .enum-told .given .1)), record { heard = refl; leaves = y .leaves; small = y .small });
+    }
 
 same-length-9 : tie.Need-same-length-9
 same-length-9 c = search needs
@@ -107,21 +93,19 @@ returns-3 : tie.Need-returns-3
 returns-3 c =
     let call = c .before .before .before .before .before .before .before .before .before .before .before .before .before .before .before .before .before .before in
     let x = call .next .ensures in
-    let a = call .before .before .before .before .before .before .before .before .before .before .before .args in (
-      λ w. (
-        handed-not (a .found .now) (a .stream .now) (a .place .now) (a .long .now) (a .kind .now) (a .instrument .now) (a .time .now) (a .reason .now)
-            (c .before .before .before .before .before .before .before .before .answer2 .given .0 .0) (c .number .ensures) (c .before .before .before .before .before .stream-in .ensures) (c .before .before .before .place-in .ensures) (c .before .reason-in .ensures)
-            (answer-same turnOf (x .refused w .0) (c .before .before .before .before .before .before .before .before .answer2 .given .1)),
-        x .refused w .1,
-      ),
-      λ w s.
+    let given = c .before .before .before .before .before .before .before .before .answer2 .given in
+    let n₁ = c .number .ensures in
+    let s₁ = c .before .before .before .before .before .stream-in .ensures in
+    let p₁ = c .before .before .before .place-in .ensures in
+    let r₁ = c .before .reason-in .ensures in
+    record {
+      refused = λ w. (handed-not _ (given .0 .0) n₁ s₁ p₁ r₁ (answer-same turnOf (x .refused w .0) (given .1)), x .refused w .1);
+      told = λ w s.
           let y = x .told w s in (
-            handed-not (a .found .now) (a .stream .now) (a .place .now) (a .long .now) (a .kind .now) (a .instrument .now) (a .time .now) (a .reason .now)
-                (c .before .before .before .before .before .before .before .before .answer2 .given .0 .0) (c .number .ensures) (c .before .before .before .before .before .stream-in .ensures) (c .before .before .before .place-in .ensures) (c .before .reason-in .ensures)
-                (answer-same turnOf (y .heard) (c .before .before .before .before .before .before .before .before .answer2 .given .1)),
+            handed-not _ (given .0 .0) n₁ s₁ p₁ r₁ (answer-same turnOf (y .heard) (given .1)),
             record { heard = refl; leaves = y .leaves; small = y .small },
-          ),
-    )
+          );
+    }
 
 pub plain-next-spec : {M : Type 1} → statement M
 plain-next-spec =

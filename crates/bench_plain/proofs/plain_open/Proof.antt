@@ -1,4 +1,5 @@
 -- Each arm of the match is what its case says. Assumes nothing.
+use mathlib.Core.Path.{refl}
 use Rattle.records.specs.Merge.{openingOf}
 use Rattle.door_answers.specs.AnswersLaws.{answer-same, done-number, done-value, not-number, not-value}
 use borrow.Author.Needs.{needs}
@@ -35,7 +36,11 @@ returns c =
     let o = call .«open» .ensures in
     let before = call .before .before .before .before .before .before .before .before .before .before .before .before .args .streams .now in
     let e = answer-same openingOf (o .answers) (c .before .opened .given .1) in
-    (done-number e, (done-value before 0 e, (o .refused, o .opened)))
+    record {
+      returns = done-number e;
+      counts = done-value before 0 e;
+      opens = record { answers = refl; refused = o .refused; opened = o .opened };
+    }
 
 same-length-5 : tie.Need-same-length-5
 same-length-5 c = search needs
@@ -56,7 +61,11 @@ returns-2 c =
     let before = call .before .before .before .before .before .before .before .before .before .before .before .before .args .streams .now in
     let r = c .before .before .opened2 .given .0 .0 in
     let e = answer-same openingOf (o .answers) (c .before .before .opened2 .given .1) in
-    (not-number r (c .number .ensures) e, (not-value r before 0 e, (o .refused, o .opened)))
+    record {
+      returns = not-number r (c .number .ensures) e;
+      counts = not-value r before 0 e;
+      opens = record { answers = refl; refused = o .refused; opened = o .opened };
+    }
 
 pub plain-open-spec : {M : Type 1} → statement M
 plain-open-spec =

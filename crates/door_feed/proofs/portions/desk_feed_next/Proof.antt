@@ -53,11 +53,15 @@ same-length-6 c = search needs
 
 returns : tie.Need-returns
 returns c =
-    let o = c .before .before .before .before .before .before .before .before .before .before .before .before .before .before .before .next .ensures .1 in
-    let g = c .before .answer .given .1 in (
-      (λ w. let x = o .0 w in (fed-record _ _ _ _ _ _ _ _ _ (answer-same fedOf (x .0) g), x .1, x .2)),
-      (λ w n h s. let x = o .1 .0 w n h s in (fed-record _ _ _ _ _ _ _ _ _ (answer-same fedOf (x .heard) g), rw (← x .heard) x, rw (← x .heard) (o .1 .1 w))),
-    )
+    let o = c .before .before .before .before .before .before .before .before .before .before .before .before .before .before .before .next .ensures in
+    let g = c .before .answer .given .1 in
+    record {
+      refused = λ w. let x = o .refused w in (fed-record _ (answer-same fedOf (x .0) g), x .1, x .2);
+      says = λ w n h s.
+          let t = o .told w in
+          let x = t .says n h s in
+          (fed-record _ (answer-same fedOf (x .heard) g), rw (← x .heard) x, rw (← x .heard) (t .needs));
+    }
 
 same-length-7 : tie.Need-same-length-7
 same-length-7 c = search needs
@@ -79,11 +83,15 @@ same-length-12 c = search needs
 
 returns-2 : tie.Need-returns-2
 returns-2 c =
-    let o = c .before .before .before .before .before .before .before .before .before .before .before .before .before .before .next .ensures .1 in
-    let g = c .enum-told .given .1 in (
-      (λ w. let x = o .0 w in (fed-end _ _ _ _ _ _ _ _ _ (answer-same fedOf (x .0) g), x .1, x .2)),
-      (λ w n h s. let x = o .1 .0 w n h s in (fed-end _ _ _ _ _ _ _ _ _ (answer-same fedOf (x .heard) g), rw (← x .heard) x, rw (← x .heard) (o .1 .1 w))),
-    )
+    let o = c .before .before .before .before .before .before .before .before .before .before .before .before .before .before .next .ensures in
+    let g = c .enum-told .given .1 in
+    record {
+      refused = λ w. let x = o .refused w in (fed-end _ (answer-same fedOf (x .0) g), x .1, x .2);
+      says = λ w n h s.
+          let t = o .told w in
+          let x = t .says n h s in
+          (fed-end _ (answer-same fedOf (x .heard) g), rw (← x .heard) x, rw (← x .heard) (t .needs));
+    }
 
 same-length-13 : tie.Need-same-length-13
 same-length-13 c = search needs
@@ -105,11 +113,15 @@ same-length-18 c = search needs
 
 returns-3 : tie.Need-returns-3
 returns-3 c =
-    let o = c .before .before .before .before .before .before .before .before .before .before .before .before .before .before .before .next .ensures .1 in
-    let g = c .before .answer2 .given .1 in (
-      (λ w. let x = o .0 w in (fed-need _ _ _ _ _ _ _ _ _ (answer-same fedOf (x .0) g), x .1, x .2)),
-      (λ w n h s. let x = o .1 .0 w n h s in (fed-need _ _ _ _ _ _ _ _ _ (answer-same fedOf (x .heard) g), rw (← x .heard) x, rw (← x .heard) (o .1 .1 w))),
-    )
+    let o = c .before .before .before .before .before .before .before .before .before .before .before .before .before .before .before .next .ensures in
+    let g = c .before .answer2 .given .1 in
+    record {
+      refused = λ w. let x = o .refused w in (fed-need _ (answer-same fedOf (x .0) g), x .1, x .2);
+      says = λ w n h s.
+          let t = o .told w in
+          let x = t .says n h s in
+          (fed-need _ (answer-same fedOf (x .heard) g), rw (← x .heard) x, rw (← x .heard) (t .needs));
+    }
 
 same-length-19 : tie.Need-same-length-19
 same-length-19 c = search needs
@@ -134,23 +146,19 @@ returns-4 c =
     let c3 = c .before .before .before in
     let c8 = c3 .before .before .before .before .before in
     let c22 = c8 .before .before .before .before .before .before .before .before .before .before .before .before .before .before in
-    let o = c22 .next .ensures .1 in
-    let g = c8 .answer3 .given .1 in (
-      (λ w. let x = o .0 w in (
-        fed-not _ _ _ _ _ _ _ _ _
-            (c8 .answer3 .given .0 .0) (c .number .ensures) (c3 .before .before .stream-in .ensures) (c3 .place-in .ensures) (c .before .reason-in .ensures)
-            (answer-same fedOf (x .0) g),
-        x .1,
-        x .2,
-      )),
-      (λ w n h s. let x = o .1 .0 w n h s in (
-        fed-not _ _ _ _ _ _ _ _ _
-            (c8 .answer3 .given .0 .0) (c .number .ensures) (c3 .before .before .stream-in .ensures) (c3 .place-in .ensures) (c .before .reason-in .ensures)
-            (answer-same fedOf (x .heard) g),
-        rw (← x .heard) x,
-        rw (← x .heard) (o .1 .1 w),
-      )),
-    )
+    let o = c22 .next .ensures in
+    let g = c8 .answer3 .given in
+    let n₁ = c .number .ensures in
+    let s₁ = c3 .before .before .stream-in .ensures in
+    let p₁ = c3 .place-in .ensures in
+    let r₁ = c .before .reason-in .ensures in
+    record {
+      refused = λ w. let x = o .refused w in (fed-not _ (g .0 .0) n₁ s₁ p₁ r₁ (answer-same fedOf (x .0) (g .1)), x .1, x .2);
+      says = λ w n h s.
+          let t = o .told w in
+          let x = t .says n h s in
+          (fed-not _ (g .0 .0) n₁ s₁ p₁ r₁ (answer-same fedOf (x .heard) (g .1)), rw (← x .heard) x, rw (← x .heard) (t .needs));
+    }
 
 pub desk-feed-next-spec : {M : Type 1} → statement M
 desk-feed-next-spec =

@@ -1,4 +1,5 @@
 -- Each arm of the match is what its case says. Assumes nothing.
+use mathlib.Core.Path.{refl}
 use Rattle.feed.specs.Answers.{openedOf}
 use Rattle.door_answers.specs.AnswersLaws.{answer-same, done-number, done-value, not-number, not-value}
 use borrow.Author.Needs.{needs}
@@ -40,8 +41,12 @@ returns c =
     let c15 = c .before .before .before .before .before .before .before .before .before .before .before .before .before .before .before in
     let c29 = c15 .before .before .before .before .before .before .before .before .before .before .before .before .before .before in
     let o = c15 .«open» .ensures in
-    let e = answer-same openedOf (o .0) (c .before .opened .given .1) in
-    (done-number e, (done-value (c29 .args .held .now) 1 e, o .1))
+    let e = answer-same openedOf (o .answers) (c .before .opened .given .1) in
+    record {
+      returns = done-number e;
+      holds = done-value (c29 .args .held .now) 1 e;
+      opens = record { answers = refl; refused = o .refused; accepted = o .accepted };
+    }
 
 same-length-7 : tie.Need-same-length-7
 same-length-7 c = search needs
@@ -66,9 +71,13 @@ returns-2 c =
     let c16 = c .before .before .before .before .before .before .before .before .before .before .before .before .before .before .before .before in
     let c30 = c16 .before .before .before .before .before .before .before .before .before .before .before .before .before .before in
     let o = c16 .«open» .ensures in
-    let e = answer-same openedOf (o .0) (c .before .before .opened2 .given .1) in
+    let e = answer-same openedOf (o .answers) (c .before .before .opened2 .given .1) in
     let r = c .before .before .opened2 .given .0 .0 in
-    (not-number r (c .number .ensures) e, (not-value r (c30 .args .held .now) 1 e, o .1))
+    record {
+      returns = not-number r (c .number .ensures) e;
+      holds = not-value r (c30 .args .held .now) 1 e;
+      opens = record { answers = refl; refused = o .refused; accepted = o .accepted };
+    }
 
 pub desk-feed-open-spec : {M : Type 1} → statement M
 desk-feed-open-spec =

@@ -63,30 +63,20 @@ same-length-7 c = search needs
 returns : tie.Need-returns
 returns c =
     let c16 = c .before .before .before .before .before .before .before .before .before .before .before .before .before .before .before .before in
-    let c33 = c16 .before .before .before .before .before .before .before .before .before .before .before .before .before .before .before .before .before in
-    let a = c33 .args in
-    let ran = c16 .run .ensures in (
-      (λ w.
-          let x = ran .0 w in (
-            ran-done (a .calls .now) (a .written .now) (a .last .now) (a .stream .now) (a .place .now) (a .reason .now) (x .calls) (x .written)
-                (answer-same lastOf (x .answers) (c .enum-told .given .1)),
-            x .held,
-            x .untouched,
-            x .list,
-          )),
-      (λ w n h s.
-          let x = ran .1 w n h s in
+    let ran = c16 .run .ensures in
+    record {
+      refused = λ w.
+          let x = ran .refused w in
+          (ran-done _ (x .calls) (x .written) (answer-same lastOf (x .answers) (c .enum-told .given .1)), x .held, x .untouched, x .list);
+      made = λ w n h s.
+          let x = ran .says w n h s in
           let g = x .gives in
           record {
-            hands = record {
-              handed = ran-done (a .calls .now) (a .written .now) (a .last .now) (a .stream .now) (a .place .now) (a .reason .now) (g .calls)
-                  (g .written) (answer-same lastOf (g .answers) (c .enum-told .given .1));
-              list = g .list;
-            };
+            hands = record { handed = ran-done _ (g .calls) (g .written) (answer-same lastOf (g .answers) (c .enum-told .given .1)); list = g .list };
             leaves = x .leaves;
             sound = x .sound;
-          }),
-    )
+          };
+    }
 
 same-length-8 : tie.Need-same-length-8
 same-length-8 c = search needs
@@ -112,30 +102,20 @@ same-length-14 c = search needs
 returns-2 : tie.Need-returns-2
 returns-2 c =
     let c16 = c .before .before .before .before .before .before .before .before .before .before .before .before .before .before .before .before in
-    let c33 = c16 .before .before .before .before .before .before .before .before .before .before .before .before .before .before .before .before .before in
-    let a = c33 .args in
-    let ran = c16 .run .ensures in (
-      (λ w.
-          let x = ran .0 w in (
-            ran-done (a .calls .now) (a .written .now) (a .last .now) (a .stream .now) (a .place .now) (a .reason .now) (x .calls) (x .written)
-                (answer-same lastOf (x .answers) (c .enum-told2 .given .1)),
-            x .held,
-            x .untouched,
-            x .list,
-          )),
-      (λ w n h s.
-          let x = ran .1 w n h s in
+    let ran = c16 .run .ensures in
+    record {
+      refused = λ w.
+          let x = ran .refused w in
+          (ran-done _ (x .calls) (x .written) (answer-same lastOf (x .answers) (c .enum-told2 .given .1)), x .held, x .untouched, x .list);
+      made = λ w n h s.
+          let x = ran .says w n h s in
           let g = x .gives in
           record {
-            hands = record {
-              handed = ran-done (a .calls .now) (a .written .now) (a .last .now) (a .stream .now) (a .place .now) (a .reason .now) (g .calls)
-                  (g .written) (answer-same lastOf (g .answers) (c .enum-told2 .given .1));
-              list = g .list;
-            };
+            hands = record { handed = ran-done _ (g .calls) (g .written) (answer-same lastOf (g .answers) (c .enum-told2 .given .1)); list = g .list };
             leaves = x .leaves;
             sound = x .sound;
-          }),
-    )
+          };
+    }
 
 same-length-15 : tie.Need-same-length-15
 same-length-15 c = search needs
@@ -161,30 +141,20 @@ same-length-21 c = search needs
 returns-3 : tie.Need-returns-3
 returns-3 c =
     let c17 = c .before .before .before .before .before .before .before .before .before .before .before .before .before .before .before .before .before in
-    let c34 = c17 .before .before .before .before .before .before .before .before .before .before .before .before .before .before .before .before .before in
-    let a = c34 .args in
-    let ran = c17 .run .ensures in (
-      (λ w.
-          let x = ran .0 w in (
-            ran-needs (a .calls .now) (a .written .now) (a .last .now) (a .stream .now) (a .place .now) (a .reason .now) (x .calls) (x .written)
-                (answer-same lastOf (x .answers) (c .before .answer .given .1)),
-            x .held,
-            x .untouched,
-            x .list,
-          )),
-      (λ w n h s.
-          let x = ran .1 w n h s in
+    let ran = c17 .run .ensures in
+    record {
+      refused = λ w.
+          let x = ran .refused w in
+          (ran-needs _ (x .calls) (x .written) (answer-same lastOf (x .answers) (c .before .answer .given .1)), x .held, x .untouched, x .list);
+      made = λ w n h s.
+          let x = ran .says w n h s in
           let g = x .gives in
           record {
-            hands = record {
-              handed = ran-needs (a .calls .now) (a .written .now) (a .last .now) (a .stream .now) (a .place .now) (a .reason .now) (g .calls)
-                  (g .written) (answer-same lastOf (g .answers) (c .before .answer .given .1));
-              list = g .list;
-            };
+            hands = record { handed = ran-needs _ (g .calls) (g .written) (answer-same lastOf (g .answers) (c .before .answer .given .1)); list = g .list };
             leaves = x .leaves;
             sound = x .sound;
-          }),
-    )
+          };
+    }
 
 same-length-22 : tie.Need-same-length-22
 same-length-22 c = search needs
@@ -211,31 +181,29 @@ returns-4 : tie.Need-returns-4
 returns-4 c =
     let c12 = c .before .before .before .before .before .before .before .before .before .before .before .before in
     let c28 = c12 .before .before .before .before .before .before .before .before .before .before .before .before .before .before .before .before in
-    let c45 = c28 .before .before .before .before .before .before .before .before .before .before .before .before .before .before .before .before .before in
-    let a = c45 .args in
     let ran = c28 .run .ensures in
     let known = c12 .answer2 .given in
     let k = c .before .before .before .before .before .before .before .before .before .moved .ensures in
     let m = c .before .before .before .before .before .before .before .moved2 .ensures in
     let i = c .before .before .before .before .before .stream-in .ensures in
     let p = c .before .before .before .place-in .ensures in
-    let q = c .before .reason-in .ensures in (
-      (λ w.
-          let x = ran .0 w in
-          let hand = ran-not (a .calls .now) (a .written .now) (a .last .now) (a .stream .now) (a .place .now) (a .reason .now) (x .calls) (x .written)
-          (known .0 .0) (c .number .ensures) k m i p q in
-          (hand (answer-same lastOf (x .answers) (known .1)), x .held, x .untouched, x .list)),
-      (λ w n h s.
-          let x = ran .1 w n h s in
+    let q = c .before .reason-in .ensures in
+    let r = known .0 .0 in
+    record {
+      refused = λ w.
+          let x = ran .refused w in
+          let e = answer-same lastOf (x .answers) (known .1) in
+          (ran-not _ (x .calls) (x .written) r (c .number .ensures) k m i p q e, x .held, x .untouched, x .list);
+      made = λ w n h s.
+          let x = ran .says w n h s in
           let g = x .gives in
-          let hand = ran-not (a .calls .now) (a .written .now) (a .last .now) (a .stream .now) (a .place .now) (a .reason .now) (g .calls) (g .written)
-          (known .0 .0) (c .number .ensures) k m i p q in
+          let e = answer-same lastOf (g .answers) (known .1) in
           record {
-            hands = record { handed = hand (answer-same lastOf (g .answers) (known .1)); list = g .list };
+            hands = record { handed = ran-not _ (g .calls) (g .written) r (c .number .ensures) k m i p q e; list = g .list };
             leaves = x .leaves;
             sound = x .sound;
-          }),
-    )
+          };
+    }
 
 pub desk-feed-run-spec : {M : Type 1} → statement M
 desk-feed-run-spec =

@@ -49,22 +49,15 @@ same-length-5 c = search needs
 returns : tie.Need-returns
 returns c =
     let c13 = c .before .before .before .before .before .before .before .before .before .before .before .before .before in
-    let c27 = c13 .before .before .before .before .before .before .before .before .before .before .before .before .before .before in
-    let a = c27 .args in (
-      λ w.
-          let x = c13 .next .ensures .1 .0 w in (
-            handed-record (a .found .now) (a .stream .now) (a .place .now) (a .long .now) (a .kind .now) (a .instrument .now) (a .time .now) (a .reason .now)
-                (answer-same turnOf (x .0) (c .before .answer .given .1)),
-            x .1,
-            x .2,
-          ),
-      λ w n h s.
-          let x = c13 .next .ensures .1 .1 w n h s in (
-            handed-record (a .found .now) (a .stream .now) (a .place .now) (a .long .now) (a .kind .now) (a .instrument .now) (a .time .now) (a .reason .now)
-                (answer-same turnOf (x .heard) (c .before .answer .given .1)),
-            record { heard = refl; leaves = x .leaves; sound = x .sound },
-          ),
-    )
+    let told = c13 .next .ensures in
+    record {
+      refused = λ w.
+          let x = told .refused w in
+          (handed-record _ (answer-same turnOf (x .0) (c .before .answer .given .1)), x .1, x .2);
+      says = λ w n h s.
+          let x = told .says w n h s in
+          (handed-record _ (answer-same turnOf (x .heard) (c .before .answer .given .1)), record { heard = refl; leaves = x .leaves; sound = x .sound });
+    }
 
 same-length-6 : tie.Need-same-length-6
 same-length-6 c = search needs
@@ -84,22 +77,15 @@ same-length-10 c = search needs
 returns-2 : tie.Need-returns-2
 returns-2 c =
     let c12 = c .before .before .before .before .before .before .before .before .before .before .before .before in
-    let c26 = c12 .before .before .before .before .before .before .before .before .before .before .before .before .before .before in
-    let a = c26 .args in (
-      λ w.
-          let x = c12 .next .ensures .1 .0 w in (
-            handed-end (a .found .now) (a .stream .now) (a .place .now) (a .long .now) (a .kind .now) (a .instrument .now) (a .time .now) (a .reason .now)
-                (answer-same turnOf (x .0) (c .enum-told .given .1)),
-            x .1,
-            x .2,
-          ),
-      λ w n h s.
-          let x = c12 .next .ensures .1 .1 w n h s in (
-            handed-end (a .found .now) (a .stream .now) (a .place .now) (a .long .now) (a .kind .now) (a .instrument .now) (a .time .now) (a .reason .now)
-                (answer-same turnOf (x .heard) (c .enum-told .given .1)),
-            record { heard = refl; leaves = x .leaves; sound = x .sound },
-          ),
-    )
+    let told = c12 .next .ensures in
+    record {
+      refused = λ w.
+          let x = told .refused w in
+          (handed-end _ (answer-same turnOf (x .0) (c .enum-told .given .1)), x .1, x .2);
+      says = λ w n h s.
+          let x = told .says w n h s in
+          (handed-end _ (answer-same turnOf (x .heard) (c .enum-told .given .1)), record { heard = refl; leaves = x .leaves; sound = x .sound });
+    }
 
 same-length-11 : tie.Need-same-length-11
 same-length-11 c = search needs
@@ -121,24 +107,22 @@ returns-3 c =
     let c3 = c .before .before .before in
     let c8 = c3 .before .before .before .before .before in
     let c20 = c8 .before .before .before .before .before .before .before .before .before .before .before .before in
-    let c34 = c20 .before .before .before .before .before .before .before .before .before .before .before .before .before .before in
-    let a = c34 .args in (
-      λ w.
-          let x = c20 .next .ensures .1 .0 w in (
-            handed-not (a .found .now) (a .stream .now) (a .place .now) (a .long .now) (a .kind .now) (a .instrument .now) (a .time .now) (a .reason .now)
-                (c8 .answer2 .given .0 .0) (c .number .ensures) (c3 .before .before .stream-in .ensures) (c3 .place-in .ensures) (c .before .reason-in .ensures)
-                (answer-same turnOf (x .0) (c8 .answer2 .given .1)),
-            x .1,
-            x .2,
-          ),
-      λ w n h s.
-          let x = c20 .next .ensures .1 .1 w n h s in (
-            handed-not (a .found .now) (a .stream .now) (a .place .now) (a .long .now) (a .kind .now) (a .instrument .now) (a .time .now) (a .reason .now)
-                (c8 .answer2 .given .0 .0) (c .number .ensures) (c3 .before .before .stream-in .ensures) (c3 .place-in .ensures) (c .before .reason-in .ensures)
-                (answer-same turnOf (x .heard) (c8 .answer2 .given .1)),
+    let told = c20 .next .ensures in
+    let given = c8 .answer2 .given in
+    let n₁ = c .number .ensures in
+    let s₁ = c3 .before .before .stream-in .ensures in
+    let p₁ = c3 .place-in .ensures in
+    let r₁ = c .before .reason-in .ensures in
+    record {
+      refused = λ w.
+          let x = told .refused w in
+          (handed-not _ (given .0 .0) n₁ s₁ p₁ r₁ (answer-same turnOf (x .0) (given .1)), x .1, x .2);
+      says = λ w n h s.
+          let x = told .says w n h s in (
+            handed-not _ (given .0 .0) n₁ s₁ p₁ r₁ (answer-same turnOf (x .heard) (given .1)),
             record { heard = refl; leaves = x .leaves; sound = x .sound },
-          ),
-    )
+          );
+    }
 
 pub desk-next-spec : {M : Type 1} → statement M
 desk-next-spec =

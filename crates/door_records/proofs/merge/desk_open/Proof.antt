@@ -1,4 +1,5 @@
 -- Each arm of the match is what its case says. Assumes nothing.
+use mathlib.Core.Path.{refl}
 use Rattle.records.specs.Merge.{openingOf}
 use Rattle.door_answers.specs.AnswersLaws.{answer-same, done-number, done-value, not-number, not-value}
 use borrow.Author.Needs.{needs}
@@ -36,8 +37,14 @@ returns : tie.Need-returns
 returns c =
     let c13 = c .before .before .before .before .before .before .before .before .before .before .before .before .before in
     let a = c13 .before .before .before .before .before .before .before .before .before .before .before .before .before .before .args in
-    let e = answer-same openingOf (c13 .«open» .ensures .0) (c .before .opened .given .1) in
-    (done-number e, (done-value (a .streams .now) 0 e, (done-value (a .held .now) 1 e, c13 .«open» .ensures .1)))
+    let o = c13 .«open» .ensures in
+    let e = answer-same openingOf (o .answers) (c .before .opened .given .1) in
+    record {
+      returns = done-number e;
+      counts = done-value (a .streams .now) 0 e;
+      holds = done-value (a .held .now) 1 e;
+      opens = record { answers = refl; refused = o .refused; opened = o .opened };
+    }
 
 same-length-6 : tie.Need-same-length-6
 same-length-6 c = search needs
@@ -58,9 +65,15 @@ returns-2 : tie.Need-returns-2
 returns-2 c =
     let c14 = c .before .before .before .before .before .before .before .before .before .before .before .before .before .before in
     let a = c14 .before .before .before .before .before .before .before .before .before .before .before .before .before .before .args in
-    let e = answer-same openingOf (c14 .«open» .ensures .0) (c .before .before .opened2 .given .1) in
+    let o = c14 .«open» .ensures in
+    let e = answer-same openingOf (o .answers) (c .before .before .opened2 .given .1) in
     let r = c .before .before .opened2 .given .0 .0 in
-    (not-number r (c .number .ensures) e, (not-value r (a .streams .now) 0 e, (not-value r (a .held .now) 1 e, c14 .«open» .ensures .1)))
+    record {
+      returns = not-number r (c .number .ensures) e;
+      counts = not-value r (a .streams .now) 0 e;
+      holds = not-value r (a .held .now) 1 e;
+      opens = record { answers = refl; refused = o .refused; opened = o .opened };
+    }
 
 pub desk-open-spec : {M : Type 1} → statement M
 desk-open-spec =

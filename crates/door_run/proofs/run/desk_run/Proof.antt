@@ -57,30 +57,20 @@ same-length-6 c = search needs
 returns : tie.Need-returns
 returns c =
     let c14 = c .before .before .before .before .before .before .before .before .before .before .before .before .before .before in
-    let c30 = c14 .before .before .before .before .before .before .before .before .before .before .before .before .before .before .before .before in
-    let a = c30 .args in
-    let ran = c14 .run .ensures in (
-      (λ w.
-          let x = ran .0 w in (
-            ran-done (a .calls .now) (a .written .now) (a .last .now) (a .stream .now) (a .place .now) (a .reason .now) (x .calls) (x .written)
-                (answer-same lastOf (x .answers) (c .enum-told .given .1)),
-            x .held,
-            x .untouched,
-            x .list,
-          )),
-      (λ w n h s.
-          let x = ran .1 w n h s in
+    let ran = c14 .run .ensures in
+    record {
+      refused = λ w.
+          let x = ran .refused w in
+          (ran-done _ (x .calls) (x .written) (answer-same lastOf (x .answers) (c .enum-told .given .1)), x .held, x .untouched, x .list);
+      made = λ w n h s.
+          let x = ran .says w n h s in
           let g = x .gives in
           record {
-            hands = record {
-              handed = ran-done (a .calls .now) (a .written .now) (a .last .now) (a .stream .now) (a .place .now) (a .reason .now) (g .calls)
-                  (g .written) (answer-same lastOf (g .answers) (c .enum-told .given .1));
-              list = g .list;
-            };
+            hands = record { handed = ran-done _ (g .calls) (g .written) (answer-same lastOf (g .answers) (c .enum-told .given .1)); list = g .list };
             leaves = x .leaves;
             sound = x .sound;
-          }),
-    )
+          };
+    }
 
 same-length-7 : tie.Need-same-length-7
 same-length-7 c = search needs
@@ -103,30 +93,20 @@ same-length-12 c = search needs
 returns-2 : tie.Need-returns-2
 returns-2 c =
     let c14 = c .before .before .before .before .before .before .before .before .before .before .before .before .before .before in
-    let c30 = c14 .before .before .before .before .before .before .before .before .before .before .before .before .before .before .before .before in
-    let a = c30 .args in
-    let ran = c14 .run .ensures in (
-      (λ w.
-          let x = ran .0 w in (
-            ran-done (a .calls .now) (a .written .now) (a .last .now) (a .stream .now) (a .place .now) (a .reason .now) (x .calls) (x .written)
-                (answer-same lastOf (x .answers) (c .enum-told2 .given .1)),
-            x .held,
-            x .untouched,
-            x .list,
-          )),
-      (λ w n h s.
-          let x = ran .1 w n h s in
+    let ran = c14 .run .ensures in
+    record {
+      refused = λ w.
+          let x = ran .refused w in
+          (ran-done _ (x .calls) (x .written) (answer-same lastOf (x .answers) (c .enum-told2 .given .1)), x .held, x .untouched, x .list);
+      made = λ w n h s.
+          let x = ran .says w n h s in
           let g = x .gives in
           record {
-            hands = record {
-              handed = ran-done (a .calls .now) (a .written .now) (a .last .now) (a .stream .now) (a .place .now) (a .reason .now) (g .calls)
-                  (g .written) (answer-same lastOf (g .answers) (c .enum-told2 .given .1));
-              list = g .list;
-            };
+            hands = record { handed = ran-done _ (g .calls) (g .written) (answer-same lastOf (g .answers) (c .enum-told2 .given .1)); list = g .list };
             leaves = x .leaves;
             sound = x .sound;
-          }),
-    )
+          };
+    }
 
 same-length-13 : tie.Need-same-length-13
 same-length-13 c = search needs
@@ -150,31 +130,29 @@ returns-3 : tie.Need-returns-3
 returns-3 c =
     let c12 = c .before .before .before .before .before .before .before .before .before .before .before .before in
     let c26 = c12 .before .before .before .before .before .before .before .before .before .before .before .before .before .before in
-    let c42 = c26 .before .before .before .before .before .before .before .before .before .before .before .before .before .before .before .before in
-    let a = c42 .args in
     let ran = c26 .run .ensures in
     let known = c12 .answer .given in
     let k = c .before .before .before .before .before .before .before .before .before .moved .ensures in
     let m = c .before .before .before .before .before .before .before .moved2 .ensures in
     let i = c .before .before .before .before .before .stream-in .ensures in
     let p = c .before .before .before .place-in .ensures in
-    let q = c .before .reason-in .ensures in (
-      (λ w.
-          let x = ran .0 w in
-          let hand = ran-not (a .calls .now) (a .written .now) (a .last .now) (a .stream .now) (a .place .now) (a .reason .now) (x .calls) (x .written)
-          (known .0 .0) (c .number .ensures) k m i p q in
-          (hand (answer-same lastOf (x .answers) (known .1)), x .held, x .untouched, x .list)),
-      (λ w n h s.
-          let x = ran .1 w n h s in
+    let q = c .before .reason-in .ensures in
+    let r = known .0 .0 in
+    record {
+      refused = λ w.
+          let x = ran .refused w in
+          let e = answer-same lastOf (x .answers) (known .1) in
+          (ran-not _ (x .calls) (x .written) r (c .number .ensures) k m i p q e, x .held, x .untouched, x .list);
+      made = λ w n h s.
+          let x = ran .says w n h s in
           let g = x .gives in
-          let hand = ran-not (a .calls .now) (a .written .now) (a .last .now) (a .stream .now) (a .place .now) (a .reason .now) (g .calls) (g .written)
-          (known .0 .0) (c .number .ensures) k m i p q in
+          let e = answer-same lastOf (g .answers) (known .1) in
           record {
-            hands = record { handed = hand (answer-same lastOf (g .answers) (known .1)); list = g .list };
+            hands = record { handed = ran-not _ (g .calls) (g .written) r (c .number .ensures) k m i p q e; list = g .list };
             leaves = x .leaves;
             sound = x .sound;
-          }),
-    )
+          };
+    }
 
 pub desk-run-spec : {M : Type 1} → statement M
 desk-run-spec =

@@ -8,7 +8,6 @@ use borrow.Author.Tests.{not-true, not-false}
 use Rattle.records_rules.specs.State.{Room, opening}
 use Rattle.records_rules.specs.Opening.{opened}
 use Rattle.feed_rules.specs.Adding.{openFits, rightCount}
-use Rattle.feed_rules.specs.SpansLaws.{untouched}
 use Rattle.feed_rules.specs.OpeningLaws.{open-room, count-room, feed-opened}
 use borrow.Author.Needs.{needs}
 use Rattle.feed.proofs.opening.open.Statement.{statement}
@@ -48,7 +47,7 @@ returns : tie.Need-returns
 unfolding opening
 returns c =
     let no : openFits _ _ _ _ _ _ ≡ false = sym (c .before .open-fits .ensures) ∙ not-true _ (c .if1 .taken) in
-    rw no (refl, ((λ e. untouched), (λ e. absurd (true≢false (sym e)))))
+    record { answers = rw no refl; refused = λ e. refl; accepted = rw no (λ e. absurd (true≢false (sym e))) }
 
 count-right-requires : tie.Need-count-right-requires
 count-right-requires c κs = search needs
@@ -57,7 +56,8 @@ returns-2 : tie.Need-returns-2
 unfolding opening
 returns-2 c =
     let no : rightCount _ _ ≡ false = sym (c .before .count-right .ensures) ∙ not-true _ (c .if2 .taken) in
-    rw (fits (c .before .before), no) (refl, ((λ e. untouched), (λ e. absurd (true≢false (sym e)))))
+    let yes = fits (c .before .before) in
+    record { answers = rw (yes, no) refl; refused = λ e. refl; accepted = rw (yes, no) (λ e. absurd (true≢false (sym e))) }
 
 lay-streams-requires : tie.Need-lay-streams-requires
 lay-streams-requires c κs = let there = c .before .before .before .before .before in omega (arith, count there, room there)
@@ -96,8 +96,12 @@ returns-3 c =
     let lay = c .before .before .before .before .before .before .before .before .before .before .before .before .before .before .before .before .before .before .before .lay-streams in
     let many = count there in
     let laid = opened (many .1) (many .2) (lay .ensures) (c .before .before .before .before .before .before .heapify .ensures) in
-    rw (fits (first there), right there)
-    (refl, ((λ e. absurd (true≢false e)), (λ e. feed-opened (many .1) (omega (arith, room there, lay .kept .1 .1 .0)) laid (c .before .before .clear .ensures))))
+    let yes = fits (first there) in
+    record {
+      answers = rw (yes, right there) refl;
+      refused = rw (yes, right there) (λ e. absurd (true≢false e));
+      accepted = λ e. feed-opened (many .1) (omega (arith, room there, lay .kept .1 .1 .0)) laid (c .before .before .clear .ensures);
+    }
 
 pub open-spec : {M : Type 1} → statement M
 open-spec =

@@ -4,7 +4,7 @@ use mathlib.Core.Bool.{true, false, true≢false}
 use native.Mathlib.Omega.{arith}
 use borrow.Author.Tests.{not-true, not-false}
 use Rattle.feed_rules.specs.Spans.{feedFits}
-use Rattle.feed_rules.specs.SpansLaws.{fits-room, untouched}
+use Rattle.feed_rules.specs.SpansLaws.{fits-room}
 use borrow.Author.Needs.{needs}
 use Rattle.feed.proofs.turns.next.Statement.{statement}
 use Rattle.feed.proofs.turns.next.Tie as tie
@@ -15,7 +15,7 @@ feed-fits-requires c κs = search needs
 returns : tie.Need-returns
 returns c =
     let no : feedFits _ _ _ _ _ _ _ _ ≡ false = sym (c .before .feed-fits .ensures) ∙ not-true _ (c .if1 .taken) in
-    (omega arith, ((λ e. (refl, refl, untouched)), ((λ e. absurd (true≢false (sym e ∙ no))), (λ e. absurd (true≢false (sym e ∙ no))))))
+    record { fewer = omega arith; refused = λ e. (refl, refl, refl); told = λ e. absurd (true≢false (sym e ∙ no)) }
 
 turns-requires : tie.Need-turns-requires
 turns-requires c κs =
@@ -46,7 +46,7 @@ returns-2 c =
     let turn = c .before .before .before .before .before .before .before .before .before .before .before .before .turns in
     let there = c .before .before .before .before .before .before .before .before .before .before .before .before .before .before .before .before .before .before .before in
     let yes : feedFits _ _ _ _ _ _ _ _ ≡ true = sym (there .before .feed-fits .ensures) ∙ not-false _ (there .if1 .left) in
-    (turn .ensures .0, ((λ e. absurd (true≢false (sym yes ∙ e))), ((λ e. turn .ensures .1), (λ e. turn .ensures .2))))
+    record { fewer = turn .ensures .fewer; refused = λ e. absurd (true≢false (sym yes ∙ e)); told = λ e. turn .ensures }
 
 pub next-spec : {M : Type 1} → statement M
 next-spec =

@@ -25,17 +25,11 @@ returns c =
     let no : runFits (feedFits _ _ _ _ _ _ _ _) (a .allowance) (length (a .list .now)) ≡ false =
     ap (λ (m : Bool). runFits m (a .allowance) (length (a .list .now))) (sym (c .before .before .feed-fits .ensures))
     ∙ sym (c .before .run-fits .ensures)
-    ∙ not-true _ (c .if1 .taken) in (
-      (λ e. record {
-        answers = refl;
-        calls = refl;
-        written = refl;
-        held = refl;
-        untouched = record { marks = refl; times = refl; places = refl; heads = refl; heap = refl; spans = refl };
-        list = refl;
-      }),
-      (λ e. absurd (subst T (sym e ∙ no) tt)),
-    )
+    ∙ not-true _ (c .if1 .taken) in
+    record {
+      refused = λ e. record { answers = refl; calls = refl; written = refl; held = refl; untouched = refl; list = refl };
+      says = λ e. absurd (subst T (sym e ∙ no) tt);
+    }
 
 limit-of-requires : tie.Need-limit-of-requires
 limit-of-requires c κs = search needs
@@ -78,8 +72,8 @@ returns-2 c =
     ap (λ (m : Bool). runFits m (a .allowance) (length (a .list .now))) (sym (at .before .before .before .feed-fits .ensures))
     ∙ sym (at .before .before .run-fits .ensures)
     ∙ not-false _ (at .before .if1 .left) in
-    let ran = c .before .before .before .before .before .before .before .before .before .before .before .before .before .before .steps .ensures .1 in
-    ((λ e. absurd (subst T (sym fit ∙ e) tt)), (λ e n few ok. rw (← (at .limit-of .ensures)) (ran n few ok)))
+    let ran = c .before .before .before .before .before .before .before .before .before .before .before .before .before .before .steps .ensures .says in
+    record { refused = λ e. absurd (subst T (sym fit ∙ e) tt); says = λ e n few ok. rw (← (at .limit-of .ensures)) (ran n few ok) }
 
 pub run-spec : {M : Type 1} → statement M
 run-spec =

@@ -34,7 +34,7 @@ same-length-7 c = search needs
 returns : tie.Need-returns
 returns c =
     let t = c .before .before .before .before .before .before .before .before .before .before .before .before .before .before .before .before .turns .ensures in
-    (t .0, λ n few ok. says-told (t .1 n few ok) (c .before .before .note .ensures))
+    says-told t (c .before .before .note .ensures)
 
 pub step-spec : {M : Type 1} → statement M
 step-spec =

@@ -3,20 +3,22 @@ use native.Mathlib.Omega.{arith}
 use mathlib.Core.Path.{_∙_}
 use Prim.Native.Nat.{_-_}
 use borrow.Author.Tests.{not-true, not-false}
+use Rattle.feed_rules.specs.Spans.{feedArrays}
 use Rattle.feed_run.specs.Running.{Under⁺, under-start, under-room, under-done, under-more, under-stop}
 use Rattle.feed_run.proofs.run.steps.Statement.{statement}
 use Rattle.feed_run.proofs.run.steps.Tie as tie
 
 abbrev Inv-loop : tie.InvT-loop
 Inv-loop window held marks₀ times₀ places₀ heads₀ heap₀ spans₀ list₀ limit size₀ calls₀ marks times places heads heap spans list size calls =
-    Under⁺ window limit held marks₀ times₀ places₀ heads₀ heap₀ spans₀ list₀ calls size marks times places heads heap spans list
+    Under⁺ window limit held (feedArrays marks₀ times₀ places₀ heads₀ heap₀ spans₀) list₀ calls
+    size (feedArrays marks times places heads heap spans) list
 
 abbrev μ-loop : tie.MeasureT-loop
 μ-loop window held marks₀ times₀ places₀ heads₀ heap₀ spans₀ list₀ limit size₀ calls₀ marks times places heads heap spans list size calls =
     limit - calls
 
 loop-holds : tie.Need-loop-holds Inv-loop μ-loop
-loop-holds c = under-start _ _ _ _ _ _ _ _ _ _
+loop-holds c = under-start _ _ _ _ _
 
 step-requires : tie.Need-step-requires Inv-loop μ-loop
 step-requires c κs =
@@ -70,8 +72,7 @@ returns c =
     let at = c .before .before .before .before .before .before .before .before .before .before .before .before .before .before .before .before in
     let test = at .before .before .before .before .before .before .before .before in
     let u = test .before .loop .inv in
-    let s = at .step .ensures in
-    (omega (arith, s .0, u .holds), under-stop u (s .1) (test .loop-test .taken) (not-true _ (c .if1 .taken)) (test .before .before .before .before .before .before .before .before .before .before .pre .1))
+    under-stop u (at .step .ensures) (test .loop-test .taken) (not-true _ (c .if1 .taken)) (test .before .before .before .before .before .before .before .before .before .before .pre .1)
 
 add-calls : tie.Need-add-calls Inv-loop μ-loop
 add-calls c =
@@ -86,9 +87,8 @@ loop-again c =
     let at = c .before .before .before .before .before .before .before .before .before .before .before .before .before .before .before .before in
     let test = at .before .before .before .before .before .before .before .before in
     let u = test .before .loop .inv in
-    let s = at .step .ensures in
     let k = at .step .kept .1 .1 in
-    under-more u (s .1) (test .loop-test .taken) (not-false _ (c .if1 .left)) (s .0)
+    under-more u (at .step .ensures) (test .loop-test .taken) (not-false _ (c .if1 .left))
     (record { marks = k .0; times = k .1 .0; places = k .1 .1 .0; heads = k .1 .1 .1 .0; heap = k .1 .1 .1 .1 .0; list = k .1 .1 .1 .1 .1 .1 .0 })
     (k .1 .1 .1 .1 .1 .0)
 
@@ -115,8 +115,7 @@ same-length-14 c = c .before .loop .inv .lengths .list
 
 returns-2 : tie.Need-returns-2 Inv-loop μ-loop
 returns-2 c =
-    let u = c .before .loop .inv in
-    (u .holds, under-done u (c .before .before .before .before .before .before .before .before .before .before .pre .1) (c .loop-test .left))
+    under-done (c .before .loop .inv) (c .before .before .before .before .before .before .before .before .before .before .pre .1) (c .loop-test .left)
 
 pub steps-spec : {M : Type 1} → statement M
 steps-spec =

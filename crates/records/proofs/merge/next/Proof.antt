@@ -15,10 +15,12 @@ arrays-fit-requires c κs = search needs
 
 returns : tie.Need-returns
 returns c =
-    let no : arraysFit _ _ _ _ _ _ ≡ false = sym (c .before .arrays-fit .ensures) ∙ not-true _ (c .if1 .taken) in (
-      omega arith,
-      ((λ e. (refl, refl, record { marks = refl; times = refl; places = refl; heads = refl; heap = refl })), (λ e. let z : _≡_ {A = ℕ} 0 1 = cc in absurd (omega arith))),
-    )
+    let no : arraysFit _ _ _ _ _ _ ≡ false = sym (c .before .arrays-fit .ensures) ∙ not-true _ (c .if1 .taken) in
+    record {
+      fewer = omega arith;
+      refused = λ e. (refl, refl, refl);
+      says = λ e. let z : _≡_ {A = ℕ} 0 1 = cc in absurd (omega arith);
+    }
 
 turns-requires : tie.Need-turns-requires
 turns-requires c κs =
@@ -47,7 +49,11 @@ returns-2 c =
     let c16 = c .before .before .before .before .before .before .before .before .before .before .before .before .before .before .before .before in
     let yes : arraysFit _ _ _ _ _ _ ≡ true = sym (c16 .before .arrays-fit .ensures) ∙ not-false _ (c16 .if1 .left) in
     let turn = c .before .before .before .before .before .before .before .before .before .before .turns in
-    (turn .ensures .0, ((λ e. let z : _≡_ {A = ℕ} 0 1 = cc in absurd (omega arith)), (λ e. turn .ensures .1)))
+    record {
+      fewer = turn .ensures .fewer;
+      refused = λ e. let z : _≡_ {A = ℕ} 0 1 = cc in absurd (omega arith);
+      says = λ e. turn .ensures .says;
+    }
 
 pub next-spec : {M : Type 1} → statement M
 next-spec =

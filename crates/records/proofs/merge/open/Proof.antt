@@ -19,7 +19,11 @@ unfolding opening
 returns c =
     let a = c .before .before .before .before .before .before .before .before .before .before .args in
     let no : arraysFit 0 (length (a .marks .now)) (length (a .times .now)) (length (a .places .now)) (length (a .heads .now)) (length (a .heap .now)) ≡ false = sym (c .before .arrays-fit .ensures) ∙ not-true _ (c .if1 .taken) in
-    rw no (refl, ((λ e. record { marks = refl; times = refl; places = refl; heads = refl; heap = refl }), (λ e. let z : _≡_ {A = ℕ} 0 1 = cc in absurd (omega arith))))
+    record {
+      answers = rw no refl;
+      refused = λ e. refl;
+      opened = rw no (λ e. let z : _≡_ {A = ℕ} 0 1 = cc in absurd (omega arith));
+    }
 
 streams-right-requires : tie.Need-streams-right-requires
 streams-right-requires c κs = search needs
@@ -33,13 +37,11 @@ returns-2 c =
     true = sym (c .before .before .before .arrays-fit .ensures) ∙ not-false _ (c .before .before .if1 .left) in
     let no : rightStreams (length (a .buffer .now)) (a .cuts .now) (length (a .hints .now)) ≡ false = sym (c .before .streams-right .ensures) ∙ not-true _
     (c .if2 .taken) in
-    rw (yes, no) (
-      refl,
-      (
-        (λ e. record { marks = refl; times = refl; places = refl; heads = refl; heap = refl }),
-        (λ e. let z : _≡_ {A = ℕ} 0 1 = cc in absurd (omega arith)),
-      ),
-    )
+    record {
+      answers = rw (yes, no) refl;
+      refused = λ e. refl;
+      opened = rw (yes, no) (λ e. let z : _≡_ {A = ℕ} 0 1 = cc in absurd (omega arith));
+    }
 
 sub-streams : tie.Need-sub-streams
 sub-streams c =
@@ -105,13 +107,11 @@ returns-3 c =
     true = sym (c24 .arrays-fit .ensures) ∙ not-false _ (c21 .before .before .if1 .left) in
     let yes₂ : rightStreams (length (a .buffer .now)) (a .cuts .now) (length (a .hints .now)) ≡ true = sym (c21 .before .streams-right .ensures) ∙ not-false _
     (c21 .if2 .left) in
-    rw (yes, yes₂) (
-      refl,
-      (
-        (λ e. let z : _≡_ {A = ℕ} 0 1 = cc in absurd (omega arith)),
-        (λ e. opened (omega (arith, count .1)) (count .2) (c15 .lay-streams .ensures) (c .before .before .heapify .ensures)),
-      ),
-    )
+    record {
+      answers = rw (yes, yes₂) refl;
+      refused = rw (yes, yes₂) (λ e. let z : _≡_ {A = ℕ} 0 1 = cc in absurd (omega arith));
+      opened = λ e. opened (omega (arith, count .1)) (count .2) (c15 .lay-streams .ensures) (c .before .before .heapify .ensures);
+    }
 
 pub open-spec : {M : Type 1} → statement M
 open-spec =

@@ -28,9 +28,8 @@ same-length-4 c = search needs
 returns : tie.Need-returns
 returns c =
     let there = c .before .before .before .before .before .before .before .before .before in
-    let o = there .«open» .ensures in
     let long = there .before .before .before .before .before .before .empty-bytes .ensures .1 in
-    plain-opens _ long (o .0) (o .1 .0) (o .1 .1)
+    plain-opens long (there .«open» .ensures)
 
 pub open-spec : {M : Type 1} → statement M
 open-spec =

@@ -23,17 +23,11 @@ returns : tie.Need-returns
 returns c =
     let a = c .before .before .before .before .before .before .before .before .before .before .before .args in
     let no : runFits (arraysFit _ _ _ _ _ _) (a .allowance) (length (a .list .now)) ≡ false =
-    ap (λ (m : Bool). runFits m (a .allowance) (length (a .list .now))) (sym (c .before .before .arrays-fit .ensures)) ∙ sym (c .before .run-fits .ensures) ∙ not-true _ (c .if1 .taken) in (
-      (λ e. record {
-        answers = refl;
-        calls = refl;
-        written = refl;
-        held = refl;
-        untouched = record { marks = refl; times = refl; places = refl; heads = refl; heap = refl };
-        list = refl;
-      }),
-      (λ e. absurd (subst T (sym e ∙ no) tt)),
-    )
+    ap (λ (m : Bool). runFits m (a .allowance) (length (a .list .now))) (sym (c .before .before .arrays-fit .ensures)) ∙ sym (c .before .run-fits .ensures) ∙ not-true _ (c .if1 .taken) in
+    record {
+      refused = λ e. record { answers = refl; calls = refl; written = refl; held = refl; untouched = refl; list = refl };
+      says = λ e. absurd (subst T (sym e ∙ no) tt);
+    }
 
 limit-of-requires : tie.Need-limit-of-requires
 limit-of-requires c κs = search needs
@@ -73,8 +67,8 @@ returns-2 c =
     let fit : runFits (arraysFit _ _ _ _ _ _) (a .allowance) (length (a .list .now)) ≡ true =
     ap (λ (m : Bool). runFits m (a .allowance) (length (a .list .now))) (sym (c22 .arrays-fit .ensures)) ∙ sym (c19 .before .before .run-fits .ensures) ∙
     not-false _ (c19 .before .if1 .left) in
-    let ran = c12 .steps .ensures .1 in
-    ((λ e. absurd (subst T (sym fit ∙ e) tt)), (λ e n few ok. rw (← (c19 .limit-of .ensures)) (ran n few ok)))
+    let ran = c12 .steps .ensures .says in
+    record { refused = λ e. absurd (subst T (sym fit ∙ e) tt); says = λ e n few ok. rw (← (c19 .limit-of .ensures)) (ran n few ok) }
 
 pub run-spec : {M : Type 1} → statement M
 run-spec =

@@ -29,12 +29,13 @@ same-length-6 c = search needs
 
 returns : tie.Need-returns
 returns c =
-    let t = c .before .before .before .before .before .before .before .before .before .before .before .before .before .before .turns .ensures in (
-      t .0,
-      λ n few ok.
-          let s = t .1 n few ok in
-          record { noted = c .before .before .note .ensures _ (s .heard); leaves = s .leaves; sound = s .sound },
-    )
+    let t = c .before .before .before .before .before .before .before .before .before .before .before .before .before .before .turns .ensures in
+    record {
+      fewer = t .fewer;
+      told = λ n few ok.
+          let s = t .says n few ok in
+          record { noted = c .before .before .note .ensures _ (s .heard); leaves = s .leaves; sound = s .sound };
+    }
 
 pub step-spec : {M : Type 1} → statement M
 step-spec =

@@ -4,20 +4,21 @@ use mathlib.Core.Path.{_∙_}
 use Prim.Native.Nat.{_-_}
 use borrow.Author.Tests.{not-true, not-false}
 use Rattle.records_rules.specs.Bytes.{streamsOf}
+use Rattle.records_rules.specs.State.{arrays}
 use Rattle.records_run.specs.Running.{Under, under-start, under-room, under-done, under-more, under-stop}
 use Rattle.records_run.proofs.run.steps.Statement.{statement}
 use Rattle.records_run.proofs.run.steps.Tie as tie
 
 abbrev Inv-loop : tie.InvT-loop
 Inv-loop buffer cuts held marks₀ times₀ places₀ heads₀ heap₀ list₀ limit size₀ calls₀ marks times places heads heap list size calls =
-    Under (streamsOf buffer cuts) limit held marks₀ times₀ places₀ heads₀ heap₀ list₀ calls size marks times places heads heap list
+    Under (streamsOf buffer cuts) limit held (arrays marks₀ times₀ places₀ heads₀ heap₀) list₀ calls size (arrays marks times places heads heap) list
 
 abbrev μ-loop : tie.MeasureT-loop
 μ-loop buffer cuts held marks₀ times₀ places₀ heads₀ heap₀ list₀ limit size₀ calls₀ marks times places heads heap list size calls =
     limit - calls
 
 loop-holds : tie.Need-loop-holds Inv-loop μ-loop
-loop-holds c = under-start _ _ _ _ _ _ _ _ _
+loop-holds c = under-start _ _ _ _ _
 
 step-requires : tie.Need-step-requires Inv-loop μ-loop
 step-requires c κs =
@@ -74,8 +75,7 @@ returns c =
     let c21 = c14 .before .before .before .before .before .before .before in
     let c31 = c21 .before .before .before .before .before .before .before .before .before .before in
     let u = c21 .before .loop .inv in
-    let s = c14 .step .ensures in
-    (omega (arith, s .0, u .holds), under-stop u (s .1) (c21 .loop-test .taken) (not-true _ (c .if1 .taken)) (c31 .pre .1))
+    under-stop u (c14 .step .ensures) (c21 .loop-test .taken) (not-true _ (c .if1 .taken)) (c31 .pre .1)
 
 add-calls : tie.Need-add-calls Inv-loop μ-loop
 add-calls c =
@@ -93,7 +93,7 @@ loop-again c =
     let c21 = c14 .before .before .before .before .before .before .before in
     let u = c21 .before .loop .inv in
     let s = c14 .step in
-    under-more u (s .ensures .1) (c21 .loop-test .taken) (not-false _ (c .if1 .left)) (s .ensures .0)
+    under-more u (s .ensures) (c21 .loop-test .taken) (not-false _ (c .if1 .left))
     (record {
       marks = s .kept .1 .1 .1 .0;
       times = s .kept .1 .1 .1 .1 .0;
@@ -123,8 +123,7 @@ same-length-12 c = c .before .loop .inv .lengths .list
 
 returns-2 : tie.Need-returns-2 Inv-loop μ-loop
 returns-2 c =
-    let u = c .before .loop .inv in
-    (u .holds, under-done u (c .before .before .before .before .before .before .before .before .before .before .pre .1) (c .loop-test .left))
+    under-done (c .before .loop .inv) (c .before .before .before .before .before .before .before .before .before .before .pre .1) (c .loop-test .left)
 
 pub steps-spec : {M : Type 1} → statement M
 steps-spec =

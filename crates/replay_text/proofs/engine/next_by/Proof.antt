@@ -24,12 +24,13 @@ returns : tie.Need-returns
 returns c =
     let turn = c .before .before .before .before .before .before .before .before in
     let there = turn .before .before .before .before .before in
-    let start = there .before .before .before .before .before .before .before .before in (
-      omega arith,
-      λ n few ok.
+    let start = there .before .before .before .before .before .before .before .before in
+    record {
+      fewer = omega arith;
+      says = λ n few ok.
           let s = ok .by-scan (there .if1 .taken) in
-          says-by-scan (there .if1 .taken) (s .0) (turn .next .ensures .told (places-plain (start .pre)) (rw (s .0) (s .1))),
-    )
+          says-by-scan (there .if1 .taken) (s .0) (turn .next .ensures .told (places-plain (start .pre)) (rw (s .0) (s .1)));
+    }
 
 next-requires-2 : tie.Need-next-requires-2
 next-requires-2 c κs = search needs
@@ -53,12 +54,13 @@ returns-2 : tie.Need-returns-2
 returns-2 c =
     let turn = c .before .before .before .before .before .before .before .before .before .before in
     let there = turn .before .before .before .before .before .before in
-    let start = there .before .before .before .before .before .before .before .before in (
-      turn .next2 .ensures .0,
-      λ n few ok.
+    let start = there .before .before .before .before .before .before .before .before in
+    record {
+      fewer = turn .next2 .ensures .fewer;
+      says = λ n few ok.
           let by = there .if1 .left in
-          says-by-heap by (turn .next2 .ensures .1 .1 (places-right (start .pre)) n few (ok .by-heap by)),
-    )
+          says-by-heap by (turn .next2 .ensures .says (places-right (start .pre)) n few (ok .by-heap by));
+    }
 
 pub next-by-spec : {M : Type 1} → statement M
 next-by-spec =

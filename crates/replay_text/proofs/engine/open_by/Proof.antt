@@ -26,7 +26,7 @@ returns c =
     let start = there .before .before .before .before .before .before .before .before .before in
     let m = places-plain (start .pre) in
     let o = call .«open» .ensures in
-    (rw m at (o .answers), λ r. opened-by-scan (there .if1 .taken) (o .opened (rw (m, r))))
+    record { answers = rw m at (o .answers); opened = λ r. opened-by-scan (there .if1 .taken) (o .opened (rw (m, r))) }
 
 open-requires-2 : tie.Need-open-requires-2
 open-requires-2 c κs = search needs
@@ -53,7 +53,7 @@ returns-2 c =
     let start = there .before .before .before .before .before .before .before .before .before in
     let m = places-right (start .pre) in
     let o = call .open2 .ensures in
-    (rw m at (o .0), λ r. opened-by-heap (there .if1 .left) (o .1 .1 (rw (m, r))))
+    record { answers = rw m at (o .answers); opened = λ r. opened-by-heap (there .if1 .left) (o .opened (rw (m, r))) }
 
 pub open-by-spec : {M : Type 1} → statement M
 open-by-spec =

@@ -7,6 +7,7 @@ use lib.ListN.{length}
 use Rattle.records_rules.specs.Bytes.{streamsOf}
 use Rattle.records_rules.specs.Kept.{total}
 use Rattle.records_rules.specs.View.{statusesOf}
+use Rattle.records_rules.specs.State.{arrays}
 use Rattle.replay_text.specs.ReplayLaws.{linesLeft}
 use Rattle.replay_text.specs.Telling.{Stepping, stepping-start, stepping-more, stepping-last}
 use Rattle.replay_text.proofs.telling.steps.Statement.{statement}
@@ -15,7 +16,7 @@ use Rattle.replay_text.proofs.telling.steps.Tie as tie
 abbrev Inv-loop : tie.InvT-loop
 Inv-loop plain buffer cuts held marks₀ times₀ places₀ heads₀ heap₀ text₀ at₀ size₀ marks times places heads heap text at size =
     Stepping plain (streamsOf buffer cuts) (length cuts - 1) (linesLeft (streamsOf buffer cuts) (statusesOf (length cuts - 1) marks₀ times₀ places₀ heads₀)) text₀
-    size marks times places heads heap text at
+    size (arrays marks times places heads heap) text at
 
 abbrev μ-loop : tie.MeasureT-loop
 μ-loop plain buffer cuts held marks₀ times₀ places₀ heads₀ heap₀ text₀ at₀ size₀ marks times places heads heap text at size =
@@ -76,7 +77,7 @@ returns c =
     let c20 = c13 .before .before .before .before .before .before .before in
     let c29 = c20 .before .before .before .before .before .before .before .before .before in
     let i = c20 .loop .inv in
-    stepping-last i (c13 .step .ensures .1 _ (c29 .pre .few) (i .sound)) (c .if1 .taken)
+    stepping-last i (c13 .step .ensures .told _ (c29 .pre .few) (i .sound)) (c .if1 .taken)
 
 loop-less : tie.Need-loop-less Inv-loop μ-loop
 loop-less c =
@@ -86,8 +87,8 @@ loop-less c =
     let i = c20 .loop .inv in
     let s = c13 .step in
     let p = i .places in
-    stepping-more i (s .ensures .1 _ (c29 .pre .few) (i .sound)) (c .if1 .left) (s .kept .1 .1 .1 .1 .1 .1 .1 .1 .1 .0) (record {
-      few = omega (arith, s .ensures .0, p .few);
+    stepping-more i (s .ensures .told _ (c29 .pre .few) (i .sound)) (c .if1 .left) (s .kept .1 .1 .1 .1 .1 .1 .1 .1 .1 .0) (record {
+      few = omega (arith, s .ensures .fewer, p .few);
       marks = s .kept .1 .1 .1 .1 .0 ∙ p .marks;
       times = s .kept .1 .1 .1 .1 .1 .0 ∙ p .times;
       places = s .kept .1 .1 .1 .1 .1 .1 .0 ∙ p .places;
@@ -103,8 +104,8 @@ loop-again c =
     let i = c20 .loop .inv in
     let s = c13 .step in
     let p = i .places in
-    stepping-more i (s .ensures .1 _ (c29 .pre .few) (i .sound)) (c .if1 .left) (s .kept .1 .1 .1 .1 .1 .1 .1 .1 .1 .0) (record {
-      few = omega (arith, s .ensures .0, p .few);
+    stepping-more i (s .ensures .told _ (c29 .pre .few) (i .sound)) (c .if1 .left) (s .kept .1 .1 .1 .1 .1 .1 .1 .1 .1 .0) (record {
+      few = omega (arith, s .ensures .fewer, p .few);
       marks = s .kept .1 .1 .1 .1 .0 ∙ p .marks;
       times = s .kept .1 .1 .1 .1 .1 .0 ∙ p .times;
       places = s .kept .1 .1 .1 .1 .1 .1 .0 ∙ p .places;

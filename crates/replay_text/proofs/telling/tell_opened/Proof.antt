@@ -26,8 +26,8 @@ steps-requires c κs =
     let c34 = c19 .before .before .before .before .before .before .before .before .before .before .before .before .before .before .before in
     let o = c19 .open-by in
     let m = c34 .pre in
-    let e = opening-held m (ap openingOf (sym (c .before .before .before .before .before .before .before .opening .given .1)) ∙ o .ensures .0) in
-    opened-ready m (o .ensures .1 (m .right)) e (o .kept .1 .1 .1 .1 .0) (o .kept .1 .1 .1 .1 .1 .0) (o .kept .1 .1 .1 .1 .1 .1 .0)
+    let e = opening-held m (ap openingOf (sym (c .before .before .before .before .before .before .before .opening .given .1)) ∙ o .ensures .answers) in
+    opened-ready m (o .ensures .opened (m .right)) e (o .kept .1 .1 .1 .1 .0) (o .kept .1 .1 .1 .1 .1 .0) (o .kept .1 .1 .1 .1 .1 .1 .0)
     (o .kept .1 .1 .1 .1 .1 .1 .1 .0) (o .kept .1 .1 .1 .1 .1 .1 .1 .1 .0)
 
 enum-told : tie.Need-enum-told
@@ -58,7 +58,7 @@ returns c =
     .before .before .before in
     let c47 = c32 .before .before .before .before .before .before .before .before .before .before .before .before .before .before .before in
     let m = c47 .pre in
-    rw (sym (opened-starts m (c32 .open-by .ensures .1 (m .right)))) (c12 .steps .ensures)
+    rw (sym (opened-starts m (c32 .open-by .ensures .opened (m .right)))) (c12 .steps .ensures)
 
 same-length-7 : tie.Need-same-length-7
 same-length-7 c = search needs
@@ -80,7 +80,7 @@ returns-2 c =
     let c12 = c .before .before .before .before .before .before .before .before .before .before .before .before in
     let c27 = c12 .before .before .before .before .before .before .before .before .before .before .before .before .before .before .before in
     let m = c27 .pre in
-    absurd (refused-not-done (c .enum-told .given .0 .0) (opening-done m (ap openingOf (sym (c .enum-told .given .1)) ∙ c12 .open-by .ensures .0)))
+    absurd (refused-not-done (c .enum-told .given .0 .0) (opening-done m (ap openingOf (sym (c .enum-told .given .1)) ∙ c12 .open-by .ensures .answers)))
 
 pub tell-opened-spec : {M : Type 1} → statement M
 tell-opened-spec =
