@@ -1,4 +1,4 @@
-// The lines of a text, one after the other, on memory that is lent.
+// The call that a line holds, on memory that is lent.
 use vectors_merge::print_line;
 use vectors_portions::answers::print_word;
 use vectors_portions::lines::add_line;
@@ -48,7 +48,7 @@ fn feed_line(
 }
 
 // Runs the call that a line holds, and answers how many streams the heap holds after it.
-fn run_line(
+pub fn run_line(
     text: &[u8],
     at: usize,
     held: usize,
@@ -70,34 +70,4 @@ fn run_line(
     }
     feed_line(text, kind, rest, held, marks, places, heads, spans, window);
     held
-}
-
-// Runs the lines of the text.
-pub fn run(
-    text: &[u8],
-    marks: &mut [u8],
-    times: &mut [u64],
-    places: &mut [u64],
-    heads: &mut [u64],
-    heap: &mut [u8],
-    spans: &mut [u64],
-    window: &mut [u8],
-) {
-    let mut at = 0;
-    let mut held = 0;
-    while at < text.len() {
-        held = run_line(
-            text,
-            at,
-            held,
-            marks,
-            times,
-            places,
-            heads,
-            heap,
-            spans,
-            window,
-        );
-        at = vectors_text::next_line(text, at);
-    }
 }

@@ -5,6 +5,10 @@
 // runs on marks of 255 places.
 mod calls;
 
+use crate::calls::run_line;
+use records::merge::empty_bytes;
+use records::merge::empty_numbers;
+use vectors_portions::lines::window_space;
 ghost use mathlib.Core.Path.{_≡_};
 ghost use lib.ListN.{length};
 
@@ -13,13 +17,6 @@ fn room() -> [u8; 16384]
     ensures { λ r. ⌜ 16384 ≡ length r ⌝ }
 {
     [0; 16384]
-}
-
-// Room for the window.
-fn window_space() -> [u8; 262144]
-    ensures { λ r. ⌜ 262144 ≡ length r ⌝ }
-{
-    [0; 262144]
 }
 
 // Too few places for marks.
@@ -41,43 +38,41 @@ fn few_from(text: &[u8]) -> usize {
     at
 }
 
-// Runs the lines of two texts, the second on too few marks, on memory of its own.
-fn run(text: &[u8], few: &[u8]) {
-    let mut marks = records::merge::empty_bytes();
-    let mut few_marks = few_bytes();
-    let mut times = records::merge::empty_numbers();
-    let mut places = records::merge::empty_numbers();
-    let mut heads = records::merge::empty_numbers();
-    let mut heap = records::merge::empty_bytes();
-    let mut spans = records::merge::empty_numbers();
+// Runs the lines of the text on these marks and on memory of its own.
+fn run(text: &[u8], marks: &mut [u8]) {
+    let mut times = empty_numbers();
+    let mut places = empty_numbers();
+    let mut heads = empty_numbers();
+    let mut heap = empty_bytes();
+    let mut spans = empty_numbers();
     let mut window = window_space();
-    calls::run(
-        text,
-        &mut marks,
-        &mut times,
-        &mut places,
-        &mut heads,
-        &mut heap,
-        &mut spans,
-        &mut window,
-    );
-    calls::run(
-        few,
-        &mut few_marks,
-        &mut times,
-        &mut places,
-        &mut heads,
-        &mut heap,
-        &mut spans,
-        &mut window,
-    );
+    let mut at = 0;
+    let mut held = 0;
+    while at < text.len() {
+        held = run_line(
+            text,
+            at,
+            held,
+            marks,
+            &mut times,
+            &mut places,
+            &mut heads,
+            &mut heap,
+            &mut spans,
+            &mut window,
+        );
+        at = vectors_text::next_line(text, at);
+    }
 }
 
-// Runs the lines of the text.
+// Runs the lines of the text, those from `x` on on too few marks.
 fn run_text(text: &[u8]) {
+    let mut marks = empty_bytes();
+    let mut few = few_bytes();
     let at = few_from(text);
     if at <= text.len() {
-        run(&text[..at], &text[at..]);
+        run(&text[..at], &mut marks);
+        run(&text[at..], &mut few);
     }
 }
 

@@ -1,8 +1,9 @@
 // What the programs over merges of streams share: streams and hints read from a case, and answers printed.
 use leaves::refusal::Refusal;
+use records::merge::Opening;
 use records::merge::Turn;
 ghost use mathlib.Core.Path.{_≡_};
-ghost use Prim.Native.Nat.{_≤_};
+ghost use Prim.Native.Nat.{_≤_, _<_};
 ghost use lib.ListN.{length};
 
 // Numbers read from the text: how many, and the place after them.
@@ -121,4 +122,43 @@ pub fn print_turn(answer: Turn) -> bool {
             false
         }
     }
+}
+
+// No case has more calls.
+const MOST_CALLS: u64 = 1000;
+
+// How a merge begins: its streams, how many of them the heap holds, and how many calls may come.
+pub struct Start {
+    pub streams: usize,
+    pub held: usize,
+    pub calls: u64,
+}
+
+// The start after an opening; a refusal is printed, and no call comes.
+pub fn start_of(opening: Opening) -> Start {
+    match opening {
+        Opening::Opened { streams, held } => Start {
+            streams,
+            held,
+            calls: MOST_CALLS,
+        },
+        Opening::Refused(refusal) => {
+            print_refusal(refusal);
+            Start {
+                streams: 0,
+                held: 0,
+                calls: 0,
+            }
+        }
+    }
+}
+
+// How many calls may still come after one of so many: behind the first end one more.
+pub fn calls_left(calls: u64, ended: bool) -> u64
+    ensures { λ r. ⌜ (0 < calls → r < calls) ⌝ }
+{
+    if calls <= 1 {
+        return 0;
+    }
+    if ended { 1 } else { calls - 1 }
 }

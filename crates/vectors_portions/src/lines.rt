@@ -27,8 +27,15 @@ pub fn print_at(spans: &[u64], stream: u64) {
     }
 }
 
+// Room for the window.
+pub fn window_space() -> [u8; 262144]
+    ensures { λ r. ⌜ 262144 ≡ length r ⌝ }
+{
+    [0; 262144]
+}
+
 // Hands in the first bytes of a portion.
-fn add_first(
+pub fn add_first(
     stream: u64,
     portion: &[u8],
     size: u64,

@@ -2,23 +2,23 @@
 use feed::opening::FeedOpening;
 use feed::opening::open;
 use feed_run::run::Last;
-use feed_window::portions::Added;
-use feed_window::portions::Ended;
-use feed_window::portions::add;
+use feed_run::run::Made;
 use feed_window::portions::end;
 use records::merge::empty_bytes;
 use records::merge::empty_numbers;
 use vectors_merge::buffer_space;
 use vectors_merge::numbers_space;
-use vectors_merge::print_number;
 use vectors_merge::print_refusal;
 use vectors_merge::read_numbers;
+use vectors_portions::answers::print_ended;
+use vectors_portions::answers::print_word;
+use vectors_portions::lines::add_first;
+use vectors_portions::lines::window_space;
 use vectors_wholes::answers::PAIRS;
-use vectors_wholes::answers::WORDS;
 use vectors_wholes::answers::list_space;
 use vectors_wholes::answers::print_list;
 use vectors_wholes::answers::print_made;
-ghost use mathlib.Core.Path.{_≡_};
+use vectors_wholes::answers::words_of;
 ghost use Prim.Native.Nat.{_≤_};
 ghost use lib.ListN.{length};
 
@@ -27,15 +27,10 @@ const STREAM: u64 = 10000;
 
 const END: u64 = 20000;
 
-// Room for the window.
-fn window_space() -> [u8; 262144]
-    ensures { λ r. ⌜ 262144 ≡ length r ⌝ }
-{
-    [0; 262144]
-}
-
-// How a run stopped.
-fn print_last(last: Last) {
+// What a run answered, and the list that it was lent.
+fn print_ran(made: Made, list: &[u64]) {
+    print_made(made.calls, made.written);
+    let last = made.last;
     match last {
         Last::Going => {
             io::write_all(1, b"going\n");
@@ -43,36 +38,13 @@ fn print_last(last: Last) {
         Last::End => {
             io::write_all(1, b"end\n");
         }
-        Last::NeedMore(stream) => {
-            io::write_all(1, b"need");
-            print_number(stream);
-            io::write_all(1, b"\n");
-        }
+        Last::NeedMore(stream) => print_word(b"need", stream),
         Last::Refused(refusal) => print_refusal(refusal),
     }
+    print_list(list);
 }
 
-fn print_added(answer: Added) {
-    match answer {
-        Added::Taken(n) => {
-            io::write_all(1, b"taken");
-            print_number(n);
-            io::write_all(1, b"\n");
-        }
-        Added::Refused(refusal) => print_refusal(refusal),
-    }
-}
-
-fn print_ended(answer: Ended) {
-    match answer {
-        Ended::Done => {
-            io::write_all(1, b"done\n");
-        }
-        Ended::Refused(refusal) => print_refusal(refusal),
-    }
-}
-
-// A run with a list, printed; how many streams the heap holds after it.
+// The run that a pair asks for, printed; how many streams the heap holds after it.
 fn ask(
     window: &[u8],
     held: usize,
@@ -82,9 +54,12 @@ fn ask(
     heads: &mut [u64],
     heap: &mut [u8],
     spans: &mut [u64],
-    allowance: u64,
+    what: u64,
     list: &mut [u64],
 ) -> usize {
+    if STREAM <= what {
+        return held;
+    }
     let made = feed_run::run::run(
         window,
         held,
@@ -94,96 +69,27 @@ fn ask(
         heads,
         heap,
         spans,
-        allowance as usize,
+        what as usize,
         list,
     );
-    print_made(made.calls, made.written);
-    let last = made.last;
-    print_last(last);
-    print_list(list);
-    made.held
+    let after = made.held;
+    print_ran(made, list);
+    after
 }
 
-// A run with a list of so many words.
-fn ask_words(
-    window: &[u8],
-    held: usize,
-    marks: &mut [u8],
-    times: &mut [u64],
-    places: &mut [u64],
-    heads: &mut [u64],
-    heap: &mut [u8],
-    spans: &mut [u64],
-    allowance: u64,
-    words: u64,
-) -> usize {
-    let mut list = list_space();
-    if WORDS < words {
-        return held;
-    }
-    let n = words as usize;
-    ask(
-        window,
-        held,
-        marks,
-        times,
-        places,
-        heads,
-        heap,
-        spans,
-        allowance,
-        &mut list[..n],
-    )
-}
-
-// A portion of a stream: so many of the bytes.
+// The portion that a pair hands in: so many of the bytes.
 fn hand_in(
-    stream: u64,
+    what: u64,
     bytes: &[u8],
-    size: u64,
+    many: u64,
     marks: &[u8],
     places: &[u64],
     heads: &[u64],
     spans: &mut [u64],
     window: &mut [u8],
 ) {
-    if size <= bytes.len() as u64 {
-        let n = size as usize;
-        let added = add(stream, &bytes[..n], marks, places, heads, spans, window);
-        print_added(added);
-    }
-}
-
-// What a pair asks for; how many streams the heap holds after it.
-fn step(
-    bytes: &[u8],
-    held: usize,
-    marks: &mut [u8],
-    times: &mut [u64],
-    places: &mut [u64],
-    heads: &mut [u64],
-    heap: &mut [u8],
-    spans: &mut [u64],
-    window: &mut [u8],
-    what: u64,
-    many: u64,
-) -> usize {
-    if what < STREAM {
-        return ask_words(
-            window,
-            held,
-            marks,
-            times,
-            places,
-            heads,
-            heap,
-            spans,
-            what,
-            many,
-        );
-    }
-    if what < END {
-        hand_in(
+    if STREAM <= what && what < END {
+        add_first(
             what - STREAM,
             bytes,
             many,
@@ -193,46 +99,14 @@ fn step(
             spans,
             window,
         );
-        return held;
     }
-    let ended = end(what - END, marks, spans);
-    print_ended(ended);
-    held
 }
 
-// What all pairs ask for.
-fn ask_all(
-    bytes: &[u8],
-    streams: usize,
-    marks: &mut [u8],
-    times: &mut [u64],
-    places: &mut [u64],
-    heads: &mut [u64],
-    heap: &mut [u8],
-    spans: &mut [u64],
-    window: &mut [u8],
-    pairs: &[u64],
-) {
-    let mut held = streams;
-    let mut i = 0;
-    while i < PAIRS {
-        if pairs.len() < 2 * i + 2 {
-            return;
-        }
-        held = step(
-            bytes,
-            held,
-            marks,
-            times,
-            places,
-            heads,
-            heap,
-            spans,
-            window,
-            pairs[2 * i],
-            pairs[2 * i + 1],
-        );
-        i += 1;
+// The stream that a pair ends.
+fn end_stream(what: u64, marks: &[u8], spans: &mut [u64]) {
+    if END <= what {
+        let ended = end(what - END, marks, spans);
+        print_ended(ended);
     }
 }
 
@@ -266,19 +140,41 @@ fn runs(streams: u64, bytes: &[u8], hints: &[u64], pairs: &[u64]) {
         &mut heap,
         &mut spans,
     );
-    let held = held_by(opening);
-    ask_all(
-        bytes,
-        held,
-        &mut marks,
-        &mut times,
-        &mut places,
-        &mut heads,
-        &mut heap,
-        &mut spans,
-        &mut window,
-        pairs,
-    );
+    let mut held = held_by(opening);
+    let mut i = 0;
+    while i < PAIRS {
+        if pairs.len() < 2 * i + 2 {
+            return;
+        }
+        let what = pairs[2 * i];
+        let many = pairs[2 * i + 1];
+        let mut list = list_space();
+        let words = words_of(many);
+        held = ask(
+            &window,
+            held,
+            &mut marks,
+            &mut times,
+            &mut places,
+            &mut heads,
+            &mut heap,
+            &mut spans,
+            what,
+            &mut list[..words],
+        );
+        hand_in(
+            what,
+            bytes,
+            many,
+            &marks,
+            &places,
+            &heads,
+            &mut spans,
+            &mut window,
+        );
+        end_stream(what, &marks, &mut spans);
+        i += 1;
+    }
 }
 
 // The parts of a case that are in use, with no hint.

@@ -185,7 +185,7 @@ fn number_too(text: &[u8], so_far: Compared, n: u64) -> Compared {
 }
 
 // Whether the list behind what was compared so far is this one, too, as many places of it as are lent.
-fn list_too(text: &[u8], so_far: Compared, list: &[u32]) -> Compared {
+pub fn list_too(text: &[u8], so_far: Compared, list: &[u32]) -> Compared {
     let lent = vectors_text::number_at(text, so_far.next);
     let given = vectors_text::number_at(text, lent.next);
     let ruled = rule_at(text, given.next);

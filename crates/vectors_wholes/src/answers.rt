@@ -1,13 +1,18 @@
 // A run's answer as a line, and room for its list.
 use vectors_merge::print_number;
 ghost use mathlib.Core.Path.{_≡_};
+ghost use Prim.Native.Nat.{_≤_};
 ghost use lib.ListN.{length};
-
-// The most words of a list here.
-pub const WORDS: u64 = 12288;
 
 // The most pairs of a case.
 pub const PAIRS: usize = 150;
+
+// So many words of a list, or none where there is no room for them.
+pub fn words_of(words: u64) -> usize
+    ensures { λ r. ⌜ r ≤ 12288 ⌝ }
+{
+    if words <= 12288 { words as usize } else { 0 }
+}
 
 // Room for a list: 9s.
 pub fn list_space() -> [u64; 12288]

@@ -1,14 +1,15 @@
 // Runs over whole buffers.
 use crate::answers::PAIRS;
-use crate::answers::WORDS;
 use crate::answers::list_space;
 use crate::answers::print_list;
 use crate::answers::print_made;
+use crate::answers::words_of;
 use records::merge::Opening;
 use records::merge::empty_bytes;
 use records::merge::empty_numbers;
 use records::merge::open;
 use records_run::run::Last;
+use records_run::run::Made;
 use vectors_merge::buffer_space;
 use vectors_merge::numbers_space;
 use vectors_merge::print_refusal;
@@ -27,6 +28,14 @@ fn print_last(last: Last) {
         }
         Last::Refused(refusal) => print_refusal(refusal),
     }
+}
+
+// What a run answered, and the list that it was lent.
+fn print_ran(made: Made, list: &[u64]) {
+    print_made(made.calls, made.written);
+    let last = made.last;
+    print_last(last);
+    print_list(list);
 }
 
 // A run with a list, printed; how many streams the heap holds after it.
@@ -54,77 +63,9 @@ fn ask(
         allowance as usize,
         list,
     );
-    print_made(made.calls, made.written);
-    let last = made.last;
-    print_last(last);
-    print_list(list);
-    made.held
-}
-
-// A run with a list of so many words.
-fn ask_words(
-    buffer: &[u8],
-    cuts: &[u64],
-    held: usize,
-    marks: &mut [u8],
-    times: &mut [u64],
-    places: &mut [u64],
-    heads: &mut [u64],
-    heap: &mut [u8],
-    allowance: u64,
-    words: u64,
-) -> usize {
-    let mut list = list_space();
-    if WORDS < words {
-        return held;
-    }
-    let n = words as usize;
-    ask(
-        buffer,
-        cuts,
-        held,
-        marks,
-        times,
-        places,
-        heads,
-        heap,
-        allowance,
-        &mut list[..n],
-    )
-}
-
-// The runs that pairs of numbers ask for.
-fn ask_all(
-    buffer: &[u8],
-    cuts: &[u64],
-    streams: usize,
-    marks: &mut [u8],
-    times: &mut [u64],
-    places: &mut [u64],
-    heads: &mut [u64],
-    heap: &mut [u8],
-    pairs: &[u64],
-) {
-    let mut held = streams;
-    let mut i = 0;
-    while i < PAIRS {
-        if pairs.len() < 2 * i + 2 {
-            return;
-        }
-        held = ask_words(
-            buffer,
-            cuts,
-            held,
-            marks,
-            times,
-            places,
-            heads,
-            heap,
-            pairs[2 * i],
-            pairs[2 * i + 1],
-        );
-        i += 1;
-    }
+    let after = made.held;
+    print_ran(made, list);
+    after
 }
 
 // How many streams the heap holds after an opening.
@@ -138,7 +79,7 @@ fn held_by(opening: Opening) -> usize {
     }
 }
 
-// Opens the streams, with arrays of its own, and runs on them.
+// Opens the streams, with arrays of its own, and makes the runs that pairs of numbers ask for.
 fn runs(buffer: &[u8], cuts: &[u64], hints: &[u64], pairs: &[u64]) {
     let mut marks = empty_bytes();
     let mut times = empty_numbers();
@@ -155,18 +96,28 @@ fn runs(buffer: &[u8], cuts: &[u64], hints: &[u64], pairs: &[u64]) {
         &mut heads,
         &mut heap,
     );
-    let held = held_by(opening);
-    ask_all(
-        buffer,
-        cuts,
-        held,
-        &mut marks,
-        &mut times,
-        &mut places,
-        &mut heads,
-        &mut heap,
-        pairs,
-    );
+    let mut held = held_by(opening);
+    let mut i = 0;
+    while i < PAIRS {
+        if pairs.len() < 2 * i + 2 {
+            return;
+        }
+        let mut list = list_space();
+        let words = words_of(pairs[2 * i + 1]);
+        held = ask(
+            buffer,
+            cuts,
+            held,
+            &mut marks,
+            &mut times,
+            &mut places,
+            &mut heads,
+            &mut heap,
+            pairs[2 * i],
+            &mut list[..words],
+        );
+        i += 1;
+    }
 }
 
 // The parts of a case that are in use, with no hint.

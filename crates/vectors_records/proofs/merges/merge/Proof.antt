@@ -1,112 +1,117 @@
--- Each of the three calls keeps the lengths. Assumes nothing.
-use mathlib.Core.Path.{_∙_}
+-- Loop: a call less may come each turn; the lengths stay. Assumes nothing.
+use mathlib.Core.Path.{_≡_}
+use native.Mathlib.Omega.{arith}
+use lib.ListN.{length}
 use borrow.Author.Needs.{needs}
 use Rattle.vectors_records.proofs.merges.merge.Statement.{statement}
 use Rattle.vectors_records.proofs.merges.merge.Tie as tie
 
-open-requires : tie.Need-open-requires
+abbrev Inv-loop : tie.InvT-loop
+Inv-loop buffer cuts hints marks₀ times₀ places₀ heads₀ heap₀ held₀ calls₀ marks times places heads heap held calls =
+    (256 ≡ length marks) × (256 ≡ length times) × (256 ≡ length places) × (256 ≡ length heads) × (256 ≡ length heap)
+
+abbrev μ-loop : tie.MeasureT-loop
+μ-loop buffer cuts hints marks₀ times₀ places₀ heads₀ heap₀ held₀ calls₀ marks times places heads heap held calls = calls
+
+empty-bytes-requires : tie.Need-empty-bytes-requires Inv-loop μ-loop
+empty-bytes-requires c κs = search needs
+
+empty-numbers-requires : tie.Need-empty-numbers-requires Inv-loop μ-loop
+empty-numbers-requires c κs = search needs
+
+empty-numbers-requires-2 : tie.Need-empty-numbers-requires-2 Inv-loop μ-loop
+empty-numbers-requires-2 c κs = search needs
+
+empty-numbers-requires-3 : tie.Need-empty-numbers-requires-3 Inv-loop μ-loop
+empty-numbers-requires-3 c κs = search needs
+
+empty-bytes-requires-2 : tie.Need-empty-bytes-requires-2 Inv-loop μ-loop
+empty-bytes-requires-2 c κs = search needs
+
+slice-aggregate-open : tie.Need-slice-aggregate-open Inv-loop μ-loop
+slice-aggregate-open c = search needs
+
+slice-aggregate-open-2 : tie.Need-slice-aggregate-open-2 Inv-loop μ-loop
+slice-aggregate-open-2 c = search needs
+
+slice-aggregate-open-3 : tie.Need-slice-aggregate-open-3 Inv-loop μ-loop
+slice-aggregate-open-3 c = search needs
+
+slice-aggregate-open-4 : tie.Need-slice-aggregate-open-4 Inv-loop μ-loop
+slice-aggregate-open-4 c = search needs
+
+slice-aggregate-open-5 : tie.Need-slice-aggregate-open-5 Inv-loop μ-loop
+slice-aggregate-open-5 c = search needs
+
+open-requires : tie.Need-open-requires Inv-loop μ-loop
 open-requires c κs = search needs
 
-enum-known-opening : tie.Need-enum-known-opening
-enum-known-opening c = search needs
+start-of-requires : tie.Need-start-of-requires Inv-loop μ-loop
+start-of-requires c κs = search needs
 
-to-end-requires : tie.Need-to-end-requires
-to-end-requires c κs = search needs
+loop-holds : tie.Need-loop-holds Inv-loop μ-loop
+loop-holds c = (search needs, search needs, search needs, search needs, search needs)
 
-call-requires : tie.Need-call-requires
-call-requires c κs = search needs
+slice-aggregate-next : tie.Need-slice-aggregate-next Inv-loop μ-loop
+slice-aggregate-next c = search needs
 
-enum-known-opening-2 : tie.Need-enum-known-opening-2
-enum-known-opening-2 c = search needs
+slice-aggregate-next-2 : tie.Need-slice-aggregate-next-2 Inv-loop μ-loop
+slice-aggregate-next-2 c = search needs
 
-print-refusal-requires : tie.Need-print-refusal-requires
-print-refusal-requires c κs = search needs
+slice-aggregate-next-3 : tie.Need-slice-aggregate-next-3 Inv-loop μ-loop
+slice-aggregate-next-3 c = search needs
 
-same-length : tie.Need-same-length
-same-length c =
-    let c26 = c .before .before .before .before .before .before .before .before .before .before .before .before .before .before .before .before .before .before
-    .before .before .before .before .before .before .before .before in
-    let c45 = c26 .before .before .before .before .before .before .before .before .before .before .before .before .before .before .before .before .before
-    .before .before in
-    c .before .before .before .before .before .before .before .before .before .before .call .kept .1 .1 .1 .0 ∙ c26 .to-end .kept .1 .1 .1 .0 ∙
-    c45 .«open» .kept .1 .1 .1 .0
+slice-aggregate-next-4 : tie.Need-slice-aggregate-next-4 Inv-loop μ-loop
+slice-aggregate-next-4 c = search needs
 
-same-length-2 : tie.Need-same-length-2
-same-length-2 c =
-    let c26 = c .before .before .before .before .before .before .before .before .before .before .before .before .before .before .before .before .before .before
-    .before .before .before .before .before .before .before .before in
-    let c45 = c26 .before .before .before .before .before .before .before .before .before .before .before .before .before .before .before .before .before
-    .before .before in
-    c .before .before .before .before .before .before .before .before .before .before .call .kept .1 .1 .1 .1 .0 ∙ c26 .to-end .kept .1 .1 .1 .1 .0 ∙
-    c45 .«open» .kept .1 .1 .1 .1 .0
+slice-aggregate-next-5 : tie.Need-slice-aggregate-next-5 Inv-loop μ-loop
+slice-aggregate-next-5 c = search needs
 
-same-length-3 : tie.Need-same-length-3
-same-length-3 c =
-    let c26 = c .before .before .before .before .before .before .before .before .before .before .before .before .before .before .before .before .before .before
-    .before .before .before .before .before .before .before .before in
-    let c45 = c26 .before .before .before .before .before .before .before .before .before .before .before .before .before .before .before .before .before
-    .before .before in
-    c .before .before .before .before .before .before .before .before .before .before .call .kept .1 .1 .1 .1 .1 .0 ∙ c26 .to-end .kept .1 .1 .1 .1 .1 .0 ∙
-    c45 .«open» .kept .1 .1 .1 .1 .1 .0
+next-requires : tie.Need-next-requires Inv-loop μ-loop
+next-requires c κs = search needs
 
-same-length-4 : tie.Need-same-length-4
-same-length-4 c =
-    let c26 = c .before .before .before .before .before .before .before .before .before .before .before .before .before .before .before .before .before .before
-    .before .before .before .before .before .before .before .before in
-    let c45 = c26 .before .before .before .before .before .before .before .before .before .before .before .before .before .before .before .before .before
-    .before .before in
-    c .before .before .before .before .before .before .before .before .before .before .call .kept .1 .1 .1 .1 .1 .1 .0 ∙ c26 .to-end .kept .1 .1 .1 .1 .1 .1 .0
-    ∙ c45 .«open» .kept .1 .1 .1 .1 .1 .1 .0
+print-turn-requires : tie.Need-print-turn-requires Inv-loop μ-loop
+print-turn-requires c κs = search needs
 
-same-length-5 : tie.Need-same-length-5
-same-length-5 c =
-    let c26 = c .before .before .before .before .before .before .before .before .before .before .before .before .before .before .before .before .before .before
-    .before .before .before .before .before .before .before .before in
-    let c45 = c26 .before .before .before .before .before .before .before .before .before .before .before .before .before .before .before .before .before
-    .before .before in
-    c .before .before .before .before .before .before .before .before .before .before .call .kept .1 .1 .1 .1 .1 .1 .1 .0 ∙
-    c26 .to-end .kept .1 .1 .1 .1 .1 .1 .1 .0 ∙ c45 .«open» .kept .1 .1 .1 .1 .1 .1 .1 .0
+calls-left-requires : tie.Need-calls-left-requires Inv-loop μ-loop
+calls-left-requires c κs = search needs
 
-returns : tie.Need-returns
+loop-less : tie.Need-loop-less Inv-loop μ-loop
+loop-less c = omega (arith, c .calls-left .ensures (omega arith))
+
+loop-again : tie.Need-loop-again Inv-loop μ-loop
+loop-again c = (search needs, search needs, search needs, search needs, search needs)
+
+returns : tie.Need-returns Inv-loop μ-loop
 returns c = search needs
-
-same-length-6 : tie.Need-same-length-6
-same-length-6 c = search needs
-
-same-length-7 : tie.Need-same-length-7
-same-length-7 c = search needs
-
-same-length-8 : tie.Need-same-length-8
-same-length-8 c = search needs
-
-same-length-9 : tie.Need-same-length-9
-same-length-9 c = search needs
-
-same-length-10 : tie.Need-same-length-10
-same-length-10 c = search needs
-
-returns-2 : tie.Need-returns-2
-returns-2 c = search needs
 
 pub merge-spec : {M : Type 1} → statement M
 merge-spec =
     tie.close
     (tie.spec
+    Inv-loop
+    μ-loop
+    empty-bytes-requires
+    empty-numbers-requires
+    empty-numbers-requires-2
+    empty-numbers-requires-3
+    empty-bytes-requires-2
+    slice-aggregate-open
+    slice-aggregate-open-2
+    slice-aggregate-open-3
+    slice-aggregate-open-4
+    slice-aggregate-open-5
     open-requires
-    enum-known-opening
-    to-end-requires
-    call-requires
-    enum-known-opening-2
-    print-refusal-requires
-    same-length
-    same-length-2
-    same-length-3
-    same-length-4
-    same-length-5
-    returns
-    same-length-6
-    same-length-7
-    same-length-8
-    same-length-9
-    same-length-10
-    returns-2)
+    start-of-requires
+    loop-holds
+    slice-aggregate-next
+    slice-aggregate-next-2
+    slice-aggregate-next-3
+    slice-aggregate-next-4
+    slice-aggregate-next-5
+    next-requires
+    print-turn-requires
+    calls-left-requires
+    loop-less
+    loop-again
+    returns)

@@ -2,8 +2,8 @@
 use mathlib.Core.Path.{sym}
 use Prim.Native.Nat.{ℕ}
 use lib.ListN.{length-replicate}
-use Rattle.vectors_feed.proofs.window_space.Statement.{statement}
-use Rattle.vectors_feed.proofs.window_space.Tie as tie
+use Rattle.vectors_portions.proofs.lines.window_space.Statement.{statement}
+use Rattle.vectors_portions.proofs.lines.window_space.Tie as tie
 
 returns : tie.Need-returns
 returns c = sym (length-replicate {0} {A = ℕ} 262144 0)
