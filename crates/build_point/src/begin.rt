@@ -6,6 +6,7 @@ use build_rules::reading::direction_by;
 use leaves::refusal::Refusal;
 use leaves_days::days::Day;
 use leaves_days::days::day_of;
+use leaves_limits::DAY_NANOSECONDS;
 use metadata_form::header::Header;
 ghost use mathlib.Core.Path.{_≡_};
 ghost use Prim.Native.Nat.{_≤_};
@@ -18,8 +19,6 @@ pub enum Begun {
     Refused(Refusal),
     On(Direction, u32),
 }
-
-const DAY_NANOSECONDS: u64 = 86400000000000;
 
 // Whether a day is before the start's day, or an end exists and the day starts at it or later; an end of 0 is none.
 fn outside_query(h: Header, day: u32) -> bool

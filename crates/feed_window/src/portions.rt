@@ -5,6 +5,7 @@ use crate::spans::PLACES;
 use crate::spans::WINDOW;
 use crate::spans::WINDOW_BYTES;
 use leaves::refusal::Refusal;
+use leaves_limits::STREAMS;
 use records_state::state::GONE;
 use records_state::state::WAITING;
 ghost use mathlib.Core.Path.{_≡_};
@@ -24,7 +25,7 @@ const MOST: u64 = 9223372036854775808;
 // The bytes of the window that a stream has, and the places, as other types have them.
 const PART: usize = 1024;
 
-const STREAMS: u64 = 256;
+const MOST_STREAMS: u64 = STREAMS as u64;
 
 // What a portion is answered: how many of its bytes were taken, or a refusal.
 pub enum Added {
@@ -181,7 +182,7 @@ pub fn add(
         let refusal = Refusal::BadMemory;
         return Added::Refused(refusal);
     }
-    if STREAMS <= stream {
+    if MOST_STREAMS <= stream {
         let refusal = Refusal::BadStreams;
         return Added::Refused(refusal);
     }
@@ -226,7 +227,7 @@ pub fn end(stream: u64, marks: &[u8], spans: &mut [u64]) -> Ended
         let refusal = Refusal::BadMemory;
         return Ended::Refused(refusal);
     }
-    if STREAMS <= stream {
+    if MOST_STREAMS <= stream {
         let refusal = Refusal::BadStreams;
         return Ended::Refused(refusal);
     }

@@ -2,6 +2,7 @@
 // A span is start + 65,536 x fill + 2^32 x ended; the window has 1,024 bytes a stream.
 use leaves::frame::Head;
 use leaves::frame::read_within;
+use leaves_limits::STREAMS;
 ghost use mathlib.Core.Path.{_≡_};
 ghost use mathlib.Core.Bool.{not};
 ghost use Prim.Native.Nat.{_<_, _/_};
@@ -16,7 +17,7 @@ pub const WINDOW: u64 = 1024;
 // The bytes of the window of all streams, and the places of the spans.
 pub const WINDOW_BYTES: usize = 262144;
 
-pub const PLACES: usize = 256;
+pub const PLACES: usize = STREAMS;
 
 // The factors of fill and of ended in a span; a record's head has its kind and its instrument at the same.
 pub const FILL: u64 = 65536;

@@ -6,6 +6,7 @@ ghost use Rattle.leaves_days.specs.CalendarLaws.{leapDay};
 ghost use Rattle.leaves_days.specs.CalendarDates.{YearOf, MonthOf};
 ghost use Rattle.leaves_days.specs.Days.{dayAnswerOf, dateAnswerOf, momentAnswerOf, knownDate, dayOf, dateOf, dayStart};
 use leaves::refusal::Refusal;
+use leaves_limits::DAY_NANOSECONDS;
 
 // A date's day.
 pub enum Day {
@@ -36,8 +37,6 @@ const FIRST_DATE: u32 = 19700101;
 const LAST_DATE: u32 = 25540721;
 
 const LAST_DAY: u32 = 213503;
-
-const DAY_NANOSECONDS: u64 = 86400000000000;
 
 // YYYYMMDD: month and day take two digits each, the year stands before four.
 const TWO_DIGITS: u32 = 100;

@@ -9,9 +9,9 @@ ghost use Rattle.leaves_names.specs.Names.{nameStart, nameEnd, namesOf, 
 ghost use Rattle.leaves_names.specs.NamesLaws.{standing, Ordered};
 ghost use Rattle.leaves_utf8.specs.Utf8Laws.{Upto};
 use leaves::refusal::Refusal;
-use leaves_limits::NAMES;
 use leaves_limits::NAME_BYTES;
 use leaves_limits::NAME_SIZE;
+use leaves_limits::NAMES;
 use leaves_utf8::utf8::is_plain;
 use leaves_utf8::utf8::is_utf8_within;
 

@@ -8,6 +8,7 @@ use mathlib.Core.List.{List, [], _∷_}
 use lib.ListN.{length, take}
 use lib.Dec.{leb, eqb}
 use borrow.Author.Tests.{leb-true, eqb-true}
+use Rattle.leaves_limits.specs.Limits.{mostEntries, mostIntervals, mostMappings}
 use Rattle.theory.specs.Bools.{and-left, and-right}
 use Rattle.theory.specs.Answer.{bit}
 use Rattle.metadata_rules.specs.Metadata.{Metadata, Fields, sameSchema}
@@ -66,7 +67,7 @@ metadataOf h l = record {
 
 -- a set's list is within the limit, and what is in use within the list
 unfoldable pub setFits : ℕ → ℕ → Bool
-setFits used lent = leb lent 4096 && leb used lent
+setFits used lent = leb lent mostEntries && leb used lent
 
 -- the lists are within their limits and made of whole mappings and intervals, and what is in use is within the lists
 unfoldable pub lengthsFit : Header → Lengths → Bool
@@ -75,8 +76,8 @@ lengthsFit h l =
     setFits (h .symbols) (l .symbols)
     && (setFits (h .partial) (l .partial)
     && (setFits (h .«not_found») (l .«not_found»)
-    && ((eqb (l .mappings % 2) 0 && (leb (l .mappings / 2) 4096 && leb (h .mappings) (l .mappings / 2)))
-    && (eqb (l .intervals % 3) 0 && leb (l .intervals / 3) 65536))))
+    && ((eqb (l .mappings % 2) 0 && (leb (l .mappings / 2) mostMappings && leb (h .mappings) (l .mappings / 2)))
+    && (eqb (l .intervals % 3) 0 && leb (l .intervals / 3) mostIntervals))))
 
 -- a metadata's memory is of the form: its lists, and the intervals in use, the sum of the mappings' counts, within the lent ones;
 -- where not, 15
@@ -136,11 +137,11 @@ outcomeFits c l =
 
 -- what a test of the form says, as facts
 pub record Fitting (h : Header) (l : Lengths) : Type 0 where
-  pub symbols-lent : l .symbols ≤ 4096
+  pub symbols-lent : l .symbols ≤ mostEntries
   pub symbols-used : h .symbols ≤ l .symbols
-  pub partial-lent : l .partial ≤ 4096
+  pub partial-lent : l .partial ≤ mostEntries
   pub partial-used : h .partial ≤ l .partial
-  pub not-found-lent : l .«not_found» ≤ 4096
+  pub not-found-lent : l .«not_found» ≤ mostEntries
   pub not-found-used : h .«not_found» ≤ l .«not_found»
   pub maps-lent : l .mappings ≤ 8192
   pub maps-used : 2 * h .mappings ≤ l .mappings
@@ -157,21 +158,21 @@ fitting h l e0 =
     let e2 = and-right (setFits (h .partial) (l .partial)) _ e1 in
     let a2 = and-left (setFits (h .«not_found») (l .«not_found»)) _ e2 in
     let e3 = and-right (setFits (h .«not_found») (l .«not_found»)) _ e2 in
-    let m = and-left (eqb (l .mappings % 2) 0 && (leb (l .mappings / 2) 4096 && leb (h .mappings) (l .mappings / 2))) _ e3 in
-    let e6 = and-right (eqb (l .mappings % 2) 0 && (leb (l .mappings / 2) 4096 && leb (h .mappings) (l .mappings / 2))) _ e3 in
+    let m = and-left (eqb (l .mappings % 2) 0 && (leb (l .mappings / 2) mostMappings && leb (h .mappings) (l .mappings / 2))) _ e3 in
+    let e6 = and-right (eqb (l .mappings % 2) 0 && (leb (l .mappings / 2) mostMappings && leb (h .mappings) (l .mappings / 2))) _ e3 in
     let a3 = eqb-true (l .mappings % 2) 0 (and-left (eqb (l .mappings % 2) 0) _ m) in
     let e4 = and-right (eqb (l .mappings % 2) 0) _ m in
-    let a4 = leb-true (l .mappings / 2) 4096 (and-left (leb (l .mappings / 2) 4096) _ e4) in
-    let a5 = leb-true (h .mappings) (l .mappings / 2) (and-right (leb (l .mappings / 2) 4096) _ e4) in
+    let a4 = leb-true (l .mappings / 2) mostMappings (and-left (leb (l .mappings / 2) mostMappings) _ e4) in
+    let a5 = leb-true (h .mappings) (l .mappings / 2) (and-right (leb (l .mappings / 2) mostMappings) _ e4) in
     let a6 = eqb-true (l .intervals % 3) 0 (and-left (eqb (l .intervals % 3) 0) _ e6) in
-    let a7 = leb-true (l .intervals / 3) 65536 (and-right (eqb (l .intervals % 3) 0) _ e6) in
+    let a7 = leb-true (l .intervals / 3) mostIntervals (and-right (eqb (l .intervals % 3) 0) _ e6) in
     record {
-      symbols-lent = leb-true (l .symbols) 4096 (and-left (leb (l .symbols) 4096) _ a0);
-      symbols-used = leb-true (h .symbols) (l .symbols) (and-right (leb (l .symbols) 4096) _ a0);
-      partial-lent = leb-true (l .partial) 4096 (and-left (leb (l .partial) 4096) _ a1);
-      partial-used = leb-true (h .partial) (l .partial) (and-right (leb (l .partial) 4096) _ a1);
-      not-found-lent = leb-true (l .«not_found») 4096 (and-left (leb (l .«not_found») 4096) _ a2);
-      not-found-used = leb-true (h .«not_found») (l .«not_found») (and-right (leb (l .«not_found») 4096) _ a2);
+      symbols-lent = leb-true (l .symbols) mostEntries (and-left (leb (l .symbols) mostEntries) _ a0);
+      symbols-used = leb-true (h .symbols) (l .symbols) (and-right (leb (l .symbols) mostEntries) _ a0);
+      partial-lent = leb-true (l .partial) mostEntries (and-left (leb (l .partial) mostEntries) _ a1);
+      partial-used = leb-true (h .partial) (l .partial) (and-right (leb (l .partial) mostEntries) _ a1);
+      not-found-lent = leb-true (l .«not_found») mostEntries (and-left (leb (l .«not_found») mostEntries) _ a2);
+      not-found-used = leb-true (h .«not_found») (l .«not_found») (and-right (leb (l .«not_found») mostEntries) _ a2);
       maps-lent = omega arith;
       maps-used = omega arith;
       maps-even = omega arith;

@@ -1,10 +1,14 @@
 // A metadata's header, the test of its memory (15), the six fields compared (6), and the fields of a merge.
+use leaves_limits::ENTRIES;
+use leaves_limits::INTERVALS;
+use leaves_limits::MAPPINGS;
 use metadata_words::words::INTERVAL_WORDS;
 use metadata_words::words::MAPPING_WORDS;
 use metadata_words::words::count_at;
 ghost use mathlib.Core.Path.{_≡_};
 ghost use Prim.Native.Nat.{_+_, _-_, _*_, _<_, _≤_, min, max};
 ghost use lib.ListN.{length};
+ghost use Rattle.leaves_limits.specs.Limits.{mostMappings};
 ghost use Rattle.metadata_rules.specs.Words.{before};
 ghost use Rattle.metadata_rules.specs.Metadata.{sameSchema, sameBool, differsAt};
 ghost use Rattle.metadata_form.specs.Header.{headerFields, lengthsBy, setFits, lengthsFit, metadataFits, mergedHeader, countedHeader, outcomeFits};
@@ -45,13 +49,6 @@ pub struct Counts {
     pub mappings: usize,
     pub intervals: usize,
 }
-
-// The rules' limits: entries of a set, mappings, intervals.
-const ENTRIES: usize = 4096;
-
-const MAPPINGS: usize = 4096;
-
-const INTERVALS: usize = 65536;
 
 const NO_SCHEMA: u16 = 65535;
 
@@ -98,7 +95,7 @@ fn lengths_fit(header: Header, lengths: Lengths) -> bool
 
 // How many intervals the first `count` mappings have together.
 pub fn total(mappings: &[u32], count: usize) -> usize
-    requires { ⌜ (2 * count ≤ length (now mappings)) × (count ≤ 4096) ⌝ }
+    requires { ⌜ (2 * count ≤ length (now mappings)) × (count ≤ mostMappings) ⌝ }
     ensures { λ r. ⌜ r ≡ before (now (mappings .entry)) count ⌝ }
 {
     let mut i = 0;

@@ -1,14 +1,12 @@
 // A set of both sides: equal entries once, in the order of first arrival.
 use crate::arrivals::add_all;
 use crate::judge::numbers_known;
+use leaves_limits::NAMES;
 ghost use mathlib.Core.Path.{_≡_};
 ghost use mathlib.Core.List.{[]};
 ghost use Prim.Native.Nat.{_+_, _<_, _≤_};
 ghost use lib.ListN.{length, take};
 ghost use Rattle.metadata_gather.specs.Sets.{IsUnited, AllUnited};
-
-// Numbers that an index finds: the rules' limit of names.
-const NAMES: usize = 4096;
 
 // Whether each entry was handed out, and how many the outcome has.
 pub struct United {

@@ -1,6 +1,7 @@
 // The mappings of two sides one after the other, the first side without its repeats: two words a mapping in `both_mappings`, three
 // an interval in `both_intervals`, as in lent memory. So many of each are laid already.
 use crate::picks::picks;
+use leaves_limits::MAPPINGS;
 use metadata_lists::link::offsets;
 use metadata_words::words::copy_intervals;
 use metadata_words::words::count_at;
@@ -17,9 +18,6 @@ ghost use Rattle.metadata_words.specs.Words.{layIntervals as layFrom};
 ghost use Rattle.metadata_lists.specs.Flat.{listAt};
 ghost use Rattle.metadata_lists.specs.Names.{placed, layAll};
 ghost use Rattle.metadata_gather.specs.Sides.{Within, Layable, pickedTo, Sound};
-
-// The rules' limit of mappings, and so of names that an index finds.
-const MAPPINGS: usize = 4096;
 
 // How many mappings and intervals are laid.
 pub struct Laid {

@@ -5,6 +5,10 @@ use crate::outcome::Verdict;
 use crate::outcome::commit;
 use crate::outcome::outcome;
 use leaves::refusal::Refusal;
+use leaves_limits::ENTRIES;
+use leaves_limits::INTERVALS;
+use leaves_limits::MAPPINGS;
+use leaves_limits::NAMES;
 use metadata_form::header::Counts;
 use metadata_form::header::Header;
 use metadata_form::header::Lengths;
@@ -16,6 +20,8 @@ use metadata_form::header::metadata_fits;
 use metadata_form::header::total;
 use metadata_gather::sets::alone;
 use metadata_gather::sides::lose_repeats;
+use metadata_words::words::INTERVAL_WORDS;
+use metadata_words::words::MAPPING_WORDS;
 ghost use mathlib.Core.Path.{_≡_};
 ghost use mathlib.Core.Bool.{_&&_};
 ghost use lib.ListN.{length};
@@ -40,22 +46,17 @@ pub enum FinishedMetadata {
     Refused(Refusal),
 }
 
-// The rules' limit of names.
-const NAMES: usize = 4096;
+// Scratch for one metadata at the limits: words of its mappings and of its intervals.
+const ONE_MAPPING_WORDS: usize = MAPPINGS * MAPPING_WORDS;
 
-// Scratch for one metadata at the rules' limits: entries of a set, words of its mappings and of its intervals.
-const ONE_ENTRIES: usize = 4096;
+const ONE_INTERVAL_WORDS: usize = INTERVALS * INTERVAL_WORDS;
 
-const ONE_MAPPING_WORDS: usize = 8192;
+// And for two, with the entries of a set.
+const BOTH_ENTRIES: usize = 2 * ENTRIES;
 
-const ONE_INTERVAL_WORDS: usize = 196608;
+const BOTH_MAPPING_WORDS: usize = 2 * ONE_MAPPING_WORDS;
 
-// And for two.
-const BOTH_ENTRIES: usize = 8192;
-
-const BOTH_MAPPING_WORDS: usize = 16384;
-
-const BOTH_INTERVAL_WORDS: usize = 393216;
+const BOTH_INTERVAL_WORDS: usize = 2 * ONE_INTERVAL_WORDS;
 
 // Whether the number of names and both sides' memory are of the form.
 fn both_fit(
@@ -99,9 +100,9 @@ pub fn open(
     if !metadata_fits(header, lengths, mappings) {
         return OpenedMetadata::Refused(Refusal::BadMemory);
     }
-    let mut out_symbols = [0u32; ONE_ENTRIES];
-    let mut out_partial = [0u32; ONE_ENTRIES];
-    let mut out_not_found = [0u32; ONE_ENTRIES];
+    let mut out_symbols = [0u32; ENTRIES];
+    let mut out_partial = [0u32; ENTRIES];
+    let mut out_not_found = [0u32; ENTRIES];
     let mut out_mappings = [0u32; ONE_MAPPING_WORDS];
     let mut out_intervals = [0u32; ONE_INTERVAL_WORDS];
     let used = total(mappings, header.mappings);

@@ -1,6 +1,9 @@
 // The mappings of a merge: both sides gathered, tested whole in the rules' order (11, 3, 1), then merged by name (7), all in
 // scratch. Helpers: the memory was tested before.
 use leaves::refusal::Refusal;
+use leaves_limits::INTERVALS;
+use leaves_limits::MAPPINGS;
+use leaves_limits::NAMES;
 use metadata_gather::judge::Judged;
 use metadata_gather::judge::judge;
 use metadata_gather::judge::numbers_known;
@@ -23,14 +26,12 @@ ghost use Rattle.metadata_lists.specs.NamesWords.{Stands};
 ghost use Rattle.metadata_gather.specs.Sides.{Sound};
 ghost use Rattle.metadata_plan.specs.Plan.{Gathered, Linkable, Planable, endPlan, planOf, bothSides};
 
-// Scratch holds both sides together: twice 4,096 mappings of two words, twice 65,536 intervals of three.
-const NAMES: usize = 4096;
+// Scratch holds both sides together: twice the mappings, the words of their mappings and of their intervals.
+const BOTH_MAPPINGS: usize = 2 * MAPPINGS;
 
-const BOTH_MAPPINGS: usize = 8192;
+const BOTH_MAPPING_WORDS: usize = BOTH_MAPPINGS * MAPPING_WORDS;
 
-const BOTH_MAPPING_WORDS: usize = 16384;
-
-const BOTH_INTERVAL_WORDS: usize = 393216;
+const BOTH_INTERVAL_WORDS: usize = 2 * INTERVALS * INTERVAL_WORDS;
 
 // What comes of a plan: 11, 3, 1 or 7, or the mappings and the intervals laid.
 pub enum Planned {

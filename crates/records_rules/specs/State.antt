@@ -5,6 +5,7 @@ use mathlib.Core.Bool.{Bool, true, false, cond, _&&_, _||_}
 use mathlib.Core.List.{List, [], _∷_}
 use lib.ListN.{length, getD}
 use lib.Dec.{eqb, leb}
+use Rattle.leaves_limits.specs.Limits.{mostStreams}
 use Rattle.theory.specs.Answer.{Answer, answer}
 use Rattle.leaves.specs.Frame.{Read, whole, readFound}
 use Rattle.records_rules.specs.Machine.{Stream, Status, record-at, damage-at, says, end, start}
@@ -26,7 +27,7 @@ answerOf end = answer 0 []
 -- "a heap in arrays of 256 places": a length or a number in use that is not right gets 15
 unfoldable pub arraysFit : ℕ → ℕ → ℕ → ℕ → ℕ → ℕ → Bool
 arraysFit held marks times places heads heap =
-    leb held 256 && (eqb marks 256 && (eqb times 256 && (eqb places 256 && (eqb heads 256 && eqb heap 256))))
+    leb held mostStreams && (eqb marks mostStreams && (eqb times mostStreams && (eqb places mostStreams && (eqb heads mostStreams && eqb heap mostStreams))))
 
 -- what the inner functions need of it
 abbrev pub Room : ℕ → List ℕ → List ℕ → List ℕ → List ℕ → List ℕ → Type 0
@@ -59,7 +60,7 @@ riseTo (suc n) cuts = leb (getD cuts n 0) (getD cuts (n + 1) 0) && riseTo n cuts
 unfoldable pub rightStreams : ℕ → List ℕ → ℕ → Bool
 unfolding riseTo
 rightStreams size cuts hints =
-    leb 2 (length cuts) && (leb (length cuts) 257 && (eqb (getD cuts 0 0) 0 && (eqb (getD cuts (length cuts - 1) 0) size
+    leb 2 (length cuts) && (leb (length cuts) (mostStreams + 1) && (eqb (getD cuts 0 0) 0 && (eqb (getD cuts (length cuts - 1) 0) size
     && ((eqb hints 0 || eqb hints (length cuts - 1)) && riseTo (length cuts - 1) cuts))))
 
 -- the hints of n streams: "an empty hint list means all hints 0"
@@ -119,13 +120,13 @@ OpenedIn n hints a = StreamsOpened n hints (a .marks) (a .times) (a .places) (a 
 -- a call on arrays that have the room: the heap holds no more than before, and a sound state says what the machine says
 pub record TurnSays (b : ℕ → Stream) (held : ℕ) (a : Arrays) (x : Answer) (held' : ℕ) (a' : Arrays) : Type 0 where
   pub fewer : held' ≤ held
-  pub says : (n : ℕ) → n ≤ 256 → SoundIn n held a → SaysIn b n a x held' a'
+  pub says : (n : ℕ) → n ≤ mostStreams → SoundIn n held a → SaysIn b n a x held' a'
 
 -- `next`: 15 and nothing changed where what is lent is not right; else as above
 pub record NextSays (b : ℕ → Stream) (held : ℕ) (a : Arrays) (x : Answer) (held' : ℕ) (a' : Arrays) : Type 0 where
   pub fewer : held' ≤ held
   pub refused : fitIn held a ≡ false → (x ≡ answer 15 []) × (held' ≡ held) × (a' ≡ a)
-  pub says : fitIn held a ≡ true → (n : ℕ) → n ≤ 256 → SoundIn n held a → SaysIn b n a x held' a'
+  pub says : fitIn held a ≡ true → (n : ℕ) → n ≤ mostStreams → SoundIn n held a → SaysIn b n a x held' a'
 
 -- what `open` answers of a buffer, its cuts and its hints
 abbrev pub openAnswer : List ℕ → List ℕ → List ℕ → Arrays → Answer

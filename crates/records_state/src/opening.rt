@@ -4,6 +4,7 @@ use crate::state::GONE;
 use crate::state::PLACES;
 use crate::state::WAITING;
 use crate::state::entry_or_zero;
+use leaves_limits::STREAMS;
 ghost use mathlib.Core.Path.{_≡_};
 ghost use mathlib.Core.Bool.{_||_};
 ghost use Prim.Native.Nat.{_-_, _<_, _≤_};
@@ -15,7 +16,7 @@ ghost use Rattle.records_rules.specs.Opening.{markAt, numberAt, Laid};
 // Cuts are one more than the streams.
 const FEWEST_CUTS: usize = 2;
 
-const MOST_CUTS: usize = 257;
+const MOST_CUTS: usize = STREAMS + 1;
 
 // Whether the cuts never fall.
 fn rising(cuts: &[u64]) -> bool

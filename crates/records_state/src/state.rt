@@ -1,10 +1,11 @@
 // What the tests and the laying of the merge's arrays share: the places, the marks, and the test of what is lent (15).
+use leaves_limits::STREAMS;
 ghost use mathlib.Core.Path.{_≡_};
 ghost use lib.ListN.{getD};
 ghost use Rattle.records_rules.specs.State.{arraysFit};
 
 // The places of each array that is lent, and what an empty one holds.
-pub const PLACES: usize = 256;
+pub const PLACES: usize = STREAMS;
 
 pub const EMPTY: u64 = 0;
 
