@@ -82,9 +82,11 @@ pub record FeedOpened (n : ℕ) (hints ms ts cs hs hp ps : List ℕ) : Type 0 wh
 
 -- ---- what an opening promises, over the arrays as one
 
+-- the arrays have their lengths
 abbrev pub openFitIn : FeedArrays → Bool
 openFitIn a = openFits (length (a .marks)) (length (a .times)) (length (a .places)) (length (a .heads)) (length (a .heap)) (length (a .spans))
 
+-- what an accepted opening leaves
 abbrev pub FeedOpenedIn : ℕ → List ℕ → FeedArrays → Type 0
 FeedOpenedIn n hints a = FeedOpened n hints (a .marks) (a .times) (a .places) (a .heads) (a .heap) (a .spans)
 

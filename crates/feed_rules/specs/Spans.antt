@@ -145,13 +145,16 @@ pub record FeedNeeds (window : List ℕ) (held : ℕ) (ms ts cs hs hp ps : List 
 abbrev pub feedAt : ℕ → List ℕ → FeedArrays → Feed
 feedAt n window a = feedOf n window (a .marks) (a .times) (a .places) (a .heads) (a .spans)
 
+-- a sound state of n streams, of which the heap holds so many
 abbrev pub FeedSound : ℕ → ℕ → FeedArrays → Type 0
 FeedSound n held a = FeedOk n held (a .marks) (a .times) (a .places) (a .heads) (a .heap) (a .spans)
 
+-- the answer and what is left are those of the call for the next answer
 abbrev pub FeedSaysIn : ℕ → List ℕ → FeedArrays → Answer → ℕ → FeedArrays → Type 0
 FeedSaysIn n window a x held a' =
     FeedSays n window (a .marks) (a .times) (a .places) (a .heads) (a .spans) x held (a' .marks) (a' .times) (a' .places) (a' .heads) (a' .heap) (a' .spans)
 
+-- what holds of need more
 abbrev pub FeedNeedsIn : List ℕ → ℕ → FeedArrays → Answer → ℕ → FeedArrays → Type 0
 FeedNeedsIn window held a x held' a' =
     FeedNeeds window held (a .marks) (a .times) (a .places) (a .heads) (a .heap) (a .spans)

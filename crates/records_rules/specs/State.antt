@@ -107,13 +107,16 @@ pub record StreamsOpened (n : ℕ) (hints ms ts cs hs hp : List ℕ) : Type 0 wh
 abbrev pub statusesAt : ℕ → Arrays → List Status
 statusesAt n a = statusesOf n (a .marks) (a .times) (a .places) (a .heads)
 
+-- a sound state of n streams, of which the heap holds so many
 abbrev pub SoundIn : ℕ → ℕ → Arrays → Type 0
 SoundIn n held a = StateOk n held (a .marks) (a .times) (a .places) (a .heads) (a .heap)
 
+-- the answer and what is left are those of the machine's `next`
 abbrev pub SaysIn : (ℕ → Stream) → ℕ → Arrays → Answer → ℕ → Arrays → Type 0
 SaysIn b n a x held a' =
     Says b n (a .marks) (a .times) (a .places) (a .heads) x held (a' .marks) (a' .times) (a' .places) (a' .heads) (a' .heap)
 
+-- what an accepted opening leaves
 abbrev pub OpenedIn : ℕ → List ℕ → Arrays → Type 0
 OpenedIn n hints a = StreamsOpened n hints (a .marks) (a .times) (a .places) (a .heads) (a .heap)
 
