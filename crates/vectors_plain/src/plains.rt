@@ -5,77 +5,57 @@ use records::merge::empty_numbers;
 use records_plain::plain::next;
 use records_plain::plain::open;
 use vectors_merge::buffer_space;
+use vectors_merge::calls_left;
 use vectors_merge::numbers_space;
 use vectors_merge::print_number;
 use vectors_merge::print_refusal;
 use vectors_merge::print_turn;
 use vectors_merge::read_numbers;
+use vectors_merge::start_of;
 ghost use mathlib.Core.Path.{_≡_};
 ghost use Prim.Native.Nat.{_≤_};
 ghost use lib.ListN.{length};
 
-// No case has more calls.
-const MOST_CALLS: u64 = 1000;
-
 // One stream more than there may be.
 const OVER: usize = 257;
 
-// Calls the engine to its first end.
-fn to_end(
-    buffer: &[u8],
-    cuts: &[u64],
-    streams: usize,
-    marks: &mut [u8],
-    times: &mut [u64],
-    places: &mut [u64],
-    heads: &mut [u64],
-) {
-    let mut calls = 0;
-    while calls < MOST_CALLS {
-        if print_turn(next(buffer, cuts, streams, marks, times, places, heads)) {
-            return;
-        }
-        calls += 1;
-    }
-}
-
-// Opens the streams and prints the answers to the end, and one more; or the refusal.
-fn merge(
-    buffer: &[u8],
-    cuts: &[u64],
-    hints: &[u64],
-    marks: &mut [u8],
-    times: &mut [u64],
-    places: &mut [u64],
-    heads: &mut [u64],
-) {
-    let opening = open(buffer, cuts, hints, marks, times, places, heads);
-    match opening {
-        Opening::Opened { streams, held: _ } => {
-            to_end(buffer, cuts, streams, marks, times, places, heads);
-            print_turn(next(buffer, cuts, streams, marks, times, places, heads));
-        }
-        Opening::Refused(refusal) => print_refusal(refusal),
-    }
-}
-
-// Merges the streams between the cuts, with arrays of its own.
-fn merge_parts(buffer: &[u8], size: usize, cuts: &[u64], cut: usize, hints: &[u64], hinted: usize)
-    requires { ⌜ (size ≤ length (now buffer)) × (cut ≤ length (now cuts)) × (hinted ≤ length (now hints)) ⌝ }
-{
+// Opens the streams, with arrays of its own, and prints the answers to the end, and one more; or the refusal.
+fn merge(buffer: &[u8], cuts: &[u64], hints: &[u64]) {
     let mut marks = empty_bytes();
     let mut times = empty_numbers();
     let mut places = empty_numbers();
     let mut heads = empty_numbers();
-    merge(
-        &buffer[..size],
-        &cuts[..cut],
-        &hints[..hinted],
+    let opening = open(
+        buffer,
+        cuts,
+        hints,
         &mut marks,
         &mut times,
         &mut places,
         &mut heads,
     );
+    let start = start_of(opening);
+    let streams = start.streams;
+    let mut calls = start.calls;
+    while 0 < calls {
+        let answer = next(
+            buffer,
+            cuts,
+            streams,
+            &mut marks,
+            &mut times,
+            &mut places,
+            &mut heads,
+        );
+        calls = calls_left(calls, print_turn(answer));
+    }
+}
+
+// The parts of a case that are in use.
+fn merge_parts(buffer: &[u8], size: usize, cuts: &[u64], cut: usize, hints: &[u64], hinted: usize)
+    requires { ⌜ (size ≤ length (now buffer)) × (cut ≤ length (now cuts)) × (hinted ≤ length (now hints)) ⌝ }
+{
+    merge(&buffer[..size], &cuts[..cut], &hints[..hinted]);
 }
 
 // Runs the case at a place: hints, cuts and the buffer.
