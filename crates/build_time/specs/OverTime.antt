@@ -12,7 +12,6 @@ use Rattle.metadata_rules.specs.declared.Interval.{Interval}
 use Rattle.map_rules.specs.Table.{Row}
 use Rattle.map_rules.specs.Memory.{roomOf, tableFits, rowsWritten}
 use Rattle.metadata_form.specs.declared.header.Header.{Header}
-use Rattle.metadata_form.specs.declared.header.Lengths.{Lengths}
 use Rattle.metadata_form.specs.Header.{Lists, lengthsOf, metadataOf}
 use Rattle.build_rules.specs.OverTime.{Step, stop, skip, give, forwardStep, inverseStep, Build, stopped, built, overTime, buildAnswer}
 use Rattle.build_rules.specs.Call.{buildFits}
@@ -35,9 +34,6 @@ wayStep texts (Forward name) = forwardStep texts name
 wayStep texts (Inverse instrument) = inverseStep texts instrument
 
 -- ---- the call
-
-abbrev pub lengthsBy : ℕ → ℕ → ℕ → ℕ → ℕ → Lengths
-lengthsBy a b c m v = record { symbols = a; partial = b; «not_found» = c; mappings = m; intervals = v }
 
 -- the build: 15, 14, then as its metadata says
 unfoldable pub overTimeBuild : List ℕ → Header → Lists → List ℕ → List ℕ → ℕ → ℕ → Build (Row ℕ)

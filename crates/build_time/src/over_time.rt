@@ -20,7 +20,7 @@ use map_table::table::table_fits;
 use map_time::insert::Inserted;
 use map_time::insert::enter;
 use metadata_form::header::Header;
-use metadata_form::header::Lengths;
+use metadata_form::header::lengths_by;
 use metadata_words::words::count_at;
 use metadata_words::words::interval_at;
 use metadata_words::words::name_at;
@@ -37,7 +37,7 @@ ghost use Rattle.map_rules.specs.Memory.{rows, roomOf};
 ghost use Rattle.build_rules.specs.Reading.{andThen, textOf, numberIn, directionBy, instrumentRead};
 ghost use Rattle.build_rules.specs.OverTime.{dated, taken, layIntervals, layMapping, layMappings, directed};
 ghost use Rattle.build_rules.specs.Call.{builtOf};
-ghost use Rattle.build_time.specs.OverTime.{askedOf, wayStep, lengthsBy, overTimeAnswer, overTimeMemory, overTimeRows};
+ghost use Rattle.build_time.specs.OverTime.{askedOf, wayStep, overTimeAnswer, overTimeMemory, overTimeRows};
 ghost use Rattle.build_time.specs.OverTimeLaws.{Holds, Took, Lays, Leaves};
 
 // How a mapping's intervals are read: its name is their symbol, or says their instrument's number.
@@ -301,25 +301,6 @@ fn build(
     }
 }
 
-// The lengths of five lists.
-fn lengths(
-    symbols: usize,
-    partial: usize,
-    not_found: usize,
-    mappings: usize,
-    intervals: usize,
-) -> Lengths
-    ensures { λ r. ⌜ r ≡ lengthsBy symbols partial «not_found» mappings intervals ⌝ }
-{
-    Lengths {
-        symbols: symbols,
-        partial: partial,
-        not_found: not_found,
-        mappings: mappings,
-        intervals: intervals,
-    }
-}
-
 // Builds the table over time from a metadata and a name list: 15 for all lent memory, 14 for the list, then 9, and per interval 3, the
 // skip, 8, 11, 1, (start = end is done), 3, 2. What the table held is discarded; a refusal leaves an empty table with every place 0.
 pub fn over_time(
@@ -349,7 +330,7 @@ pub fn over_time(
 {
     let of_form = table_fits(table.len(), 0);
     clear(table);
-    let l = lengths(
+    let l = lengths_by(
         symbols.len(),
         partial.len(),
         not_found.len(),

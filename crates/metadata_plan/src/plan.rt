@@ -14,6 +14,7 @@ use metadata_lists::link::link;
 use metadata_lists::link::offsets;
 use metadata_lists::names::NamesLaid;
 use metadata_lists::names::lay_names;
+use metadata_words::words::INTERVAL_WORDS;
 use metadata_words::words::MAPPING_WORDS;
 ghost use mathlib.Core.Path.{_≡_};
 ghost use Prim.Native.Nat.{ℕ, _+_, _-_, _*_, _<_, _≤_};

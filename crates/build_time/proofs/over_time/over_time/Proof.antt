@@ -13,11 +13,11 @@ table-fits-requires c κs = search needs
 clear-requires : tie.Need-clear-requires
 clear-requires c κs = search needs
 
-lengths-requires : tie.Need-lengths-requires
-lengths-requires c κs = search needs
+lengths-by-requires : tie.Need-lengths-by-requires
+lengths-by-requires c κs = search needs
 
 build-fits-requires : tie.Need-build-fits-requires
-build-fits-requires c κs = ap (λ (q : Lengths). q .mappings) (c .lengths .ensures)
+build-fits-requires c κs = ap (λ (q : Lengths). q .mappings) (c .lengths-by .ensures)
 
 same-length : tie.Need-same-length
 same-length c = search needs
@@ -27,7 +27,7 @@ returns c =
     let c15 = c .before .before .before .before .before .before .before .before .before .before .before .before .before .before .before in
     let a = c15 .before .args in
     over-15 (a .table .now) (a .header) (lists (a .symbols .now) (a .partial .now) (a .not-found .now) (a .mappings .now) (a .intervals .now)) (a .bytes .now)
-    (a .ends .now) (a .names) (a .name-bytes) (c .before .before .before .before .before .clear .ensures) (c .before .before .lengths .ensures)
+    (a .ends .now) (a .names) (a .name-bytes) (c .before .before .before .before .before .clear .ensures) (c .before .before .lengths-by .ensures)
     (c .before .before .before .before .before .before .before .table-fits .ensures) (c .before .build-fits .ensures) (c .if1 .taken)
 
 is-list-requires : tie.Need-is-list-requires
@@ -35,7 +35,7 @@ is-list-requires c κs =
     let c15 = c .before .before .before .before .before .before .before .before .before .before .before .before .before .before .before in
     let a = c15 .before .args in
     over-list (a .table .now) (a .header) (lists (a .symbols .now) (a .partial .now) (a .not-found .now) (a .mappings .now) (a .intervals .now)) (a .bytes .now)
-    (a .ends .now) (a .names) (a .name-bytes) (c .before .before .before .before .before .clear .ensures) (c .before .before .lengths .ensures)
+    (a .ends .now) (a .names) (a .name-bytes) (c .before .before .before .before .before .clear .ensures) (c .before .before .lengths-by .ensures)
     (c .before .before .before .before .before .before .before .table-fits .ensures) (c .before .build-fits .ensures) (c .if1 .left)
 
 same-length-2 : tie.Need-same-length-2
@@ -47,7 +47,7 @@ returns-2 c =
     let a = c17 .before .args in
     over-14 (a .table .now) (a .header) (lists (a .symbols .now) (a .partial .now) (a .not-found .now) (a .mappings .now) (a .intervals .now)) (a .bytes .now)
     (a .ends .now) (a .names) (a .name-bytes) (c .before .before .before .before .before .before .before .clear .ensures)
-    (c .before .before .before .before .lengths .ensures) (c .before .before .before .before .before .before .before .before .before .table-fits .ensures) (c .before .before .before .build-fits .ensures) (c .before .before .if1 .left)
+    (c .before .before .before .before .lengths-by .ensures) (c .before .before .before .before .before .before .before .before .before .table-fits .ensures) (c .before .before .before .build-fits .ensures) (c .before .before .if1 .left)
     (c .before .is-list .ensures) (c .if2 .taken)
 
 build-requires : tie.Need-build-requires
@@ -57,7 +57,7 @@ build-requires c κs =
     let a = c18 .before .args in
     over-ready (a .table .now) (a .header) (lists (a .symbols .now) (a .partial .now) (a .not-found .now) (a .mappings .now) (a .intervals .now))
     (a .bytes .now) (a .ends .now) (a .names) (a .name-bytes) (c .before .before .before .before .before .before .before .before .clear .ensures)
-    (c .before .before .before .before .before .lengths .ensures) (c .before .before .before .before .before .before .before .before .before .before .table-fits .ensures) (c .before .before .before .before .build-fits .ensures)
+    (c .before .before .before .before .before .lengths-by .ensures) (c .before .before .before .before .before .before .before .before .before .before .table-fits .ensures) (c .before .before .before .before .build-fits .ensures)
     (c .before .before .before .if1 .left) (c .before .before .is-list .ensures) (c .before .if2 .left)
 
 same-length-3 : tie.Need-same-length-3
@@ -71,7 +71,7 @@ returns-3 c =
     over-built (a .table .now) (a .header) (lists (a .symbols .now) (a .partial .now) (a .not-found .now) (a .mappings .now) (a .intervals .now))
     (a .bytes .now) (a .ends .now) (a .names) (a .name-bytes)
     (c .before .before .before .before .before .before .before .before .before .before .before .clear .ensures)
-    (c .before .before .before .before .before .before .before .before .lengths .ensures)
+    (c .before .before .before .before .before .before .before .before .lengths-by .ensures)
     (c .before .before .before .before .before .before .before .before .before .before .before .before .before .table-fits .ensures) (c .before .before .before .before .before .before .before .build-fits .ensures) (c .before .before .before .before .before .before .if1 .left)
     (c .before .before .before .before .before .is-list .ensures) (c .before .before .before .before .if2 .left) (c .before .before .build .result)
     (c .before .before .build .last .0) (c .before .before .build .ensures)
@@ -82,7 +82,7 @@ over-time-spec =
     (tie.spec
     table-fits-requires
     clear-requires
-    lengths-requires
+    lengths-by-requires
     build-fits-requires
     same-length
     returns
