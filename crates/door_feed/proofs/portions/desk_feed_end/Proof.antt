@@ -20,7 +20,7 @@ number-requires : tie.Need-number-requires
 number-requires c κs = search needs
 
 same-length : tie.Need-same-length
-same-length c = search needs
+same-length c = c .before .before .before .before .end .kept .1 .1 .0
 
 returns : tie.Need-returns
 unfolding numberIn
@@ -36,7 +36,7 @@ returns c =
     )
 
 same-length-2 : tie.Need-same-length-2
-same-length-2 c = search needs
+same-length-2 c = c .before .before .before .before .before .before .end .kept .1 .1 .0
 
 returns-2 : tie.Need-returns-2
 unfolding numberIn

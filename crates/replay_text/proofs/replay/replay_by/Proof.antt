@@ -23,7 +23,7 @@ write-replay-requires : tie.Need-write-replay-requires
 write-replay-requires c κs = search needs
 
 same-length : tie.Need-same-length
-same-length c = search needs
+same-length c = c .before .before .before .before .write-replay .kept .1 .1 .1 .1 .0
 
 returns-2 : tie.Need-returns-2
 returns-2 c = replay-laid _ (c .before .before .before .before .before .before .before .before .before .before .if1 .left) (c .before .before .before .before .write-replay .ensures)

@@ -44,7 +44,7 @@ damage-line-requires : tie.Need-damage-line-requires
 damage-line-requires c κs = search needs
 
 same-length : tie.Need-same-length
-same-length c = search needs
+same-length c = c .before .before .record-line .kept .0
 
 returns : tie.Need-returns
 returns c = λ x e.
@@ -52,7 +52,7 @@ returns c = λ x e.
     line-record _ _ _ _ (l .1) x _ _ _ _ _ _ (ap turnOf (sym (c .before .before .before .before .before .answer .given .1)) ∙ e) (l .0)
 
 same-length-2 : tie.Need-same-length-2
-same-length-2 c = search needs
+same-length-2 c = c .before .before .word .kept .0
 
 returns-2 : tie.Need-returns-2
 unfolding endLine
@@ -61,7 +61,7 @@ returns-2 c = λ x e.
     line-end _ _ _ _ (omega (arith, l .behind)) x (ap turnOf (sym (c .before .before .before .before .before .enum-told .given .1)) ∙ e) l
 
 same-length-3 : tie.Need-same-length-3
-same-length-3 c = search needs
+same-length-3 c = c .before .before .damage-line .kept .0
 
 returns-3 : tie.Need-returns-3
 returns-3 c = λ x e.
