@@ -18,8 +18,8 @@ use Rattle.build_rules.specs.declared.reading.Symbol.the-variants.{Unknown, Emp
 use Rattle.build_rules.specs.Reading.{numberIn, symbolIn, instrumentRead}
 use Rattle.build_rules.specs.ReadingLaws.{text-unknown, text-known}
 use Rattle.build_rules.specs.OverTime.{Step, stop, skip, give, reading}
-use Rattle.build_rules.specs.PointInTime.{Counted, counts, pointStep}
-use Rattle.build_rules.specs.PointInTimeLaws.{numbered, numberStep, nameStep, filled-text, step-unknown, step-empty, step-filled, name-unknown, name-known, forward-step, inverse-step}
+use Rattle.build_rules.specs.PointInTime.{Counted, counts, pointStep, numbered, numberStep, nameStep}
+use Rattle.build_rules.specs.PointInTimeLaws.{filled-text, step-unknown, step-empty, step-filled, name-unknown, name-known, forward-step, inverse-step}
 use Rattle.build_entry.specs.declared.counted.Covering.{Covering}
 use Rattle.build_entry.specs.declared.counted.Covering.the-variants as covering
 use Rattle.build_entry.specs.declared.entry.Wanted.{Wanted}

@@ -14,12 +14,10 @@ ghost use mathlib.Core.Path.{_≡_};
 ghost use mathlib.Core.List.{[]};
 ghost use Prim.Native.Nat.{_+_, _*_, _≤_, _<_};
 ghost use lib.ListN.{length, getD};
-ghost use Rattle.leaves_names.specs.Names.{namesOf};
-ghost use Rattle.leaves_names.specs.NamesLaws.{Ordered};
+ghost use Rattle.leaves_names.specs.Names.{namesOf, Ordered};
 ghost use Rattle.metadata_rules.specs.Words.{stretch};
 ghost use Rattle.build_rules.specs.Reading.{instrumentRead};
-ghost use Rattle.build_rules.specs.PointInTime.{counts, counting, pointStep};
-ghost use Rattle.build_rules.specs.PointInTimeLaws.{numbered, nameStep};
+ghost use Rattle.build_rules.specs.PointInTime.{counts, counting, pointStep, numbered, nameStep};
 ghost use Rattle.build_entry.specs.Entry.{wantedOf};
 
 // What a mapping asks of the table: a refusal, nothing, or an entry.

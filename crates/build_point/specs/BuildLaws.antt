@@ -8,9 +8,9 @@ use lib.ListN.{length, replicate, length-replicate}
 use lib.Dec.{T}
 use Rattle.theory.specs.Answer.{answer}
 use Rattle.leaves.specs.Refusal.{numberOf, refused}
-use Rattle.leaves_names.specs.Names.{namesOf, wellFormed}
+use Rattle.leaves_names.specs.Names.{namesOf, wellFormed, Ordered}
 use Rattle.theory.specs.Bools.{fails, holds}
-use Rattle.leaves_names.specs.NamesLaws.{Memory, memory, Ordered, formed, ordered}
+use Rattle.leaves_names.specs.NamesLaws.{Memory, memory, formed, ordered}
 use Rattle.leaves.specs.declared.refusal.Refusal.{Refusal}
 use Rattle.leaves.specs.declared.refusal.Refusal.the-variants.{IllFormed, BadMemory}
 use Rattle.leaves.specs.RefusalLaws.{plain-refused}

@@ -98,3 +98,17 @@ asked room texts m (value day) = onDay room texts m (directionOf (m .fields)) da
 unfoldable pub pointInTime : ℕ → List (List ℕ) → Metadata → ℕ → Build Entry
 unfolding asked dayIn
 pointInTime room texts m date = asked room texts m (dayIn date)
+
+-- the step once the mapping's name is read, and before it is
+unfoldable pub numberStep : Direction → ℕ → ℕ → List ℕ → List ℕ → Step Entry
+unfolding reading numberIn numberSide entryOf
+numberStep d name n symbol mapped = reading (numberIn (numberSide d symbol mapped)) (λ i. give (entryOf d i n name))
+
+unfoldable pub nameStep : List (List ℕ) → Direction → ℕ → ℕ → List ℕ → Step Entry
+unfolding reading textOf numberStep
+nameStep texts d name n symbol = reading (textOf texts name) (numberStep d name n symbol)
+
+-- a number that was read, and the other side's name: the entry, or 8
+unfoldable pub numbered : ℕ → Read ℕ → Step Entry
+unfolding reading
+numbered v r = reading r (λ i. give (record { instrument = i; symbol = v }))

@@ -26,7 +26,7 @@ use Rattle.build_rules.specs.declared.reading.Direction.{Direction}
 use Rattle.build_rules.specs.declared.reading.Direction.the-variants.{Forward, Inverse}
 use Rattle.build_rules.specs.declared.reading.Symbol.the-variants.{Unknown, Empty, Filled}
 use Rattle.build_rules.specs.OverTime.{Step, stop, skip, give, reading, unlessEmpty, Build, stopped, built, onward}
-use Rattle.build_rules.specs.PointInTime.{Counted, undated, none as noneCounts, counts, countsFrom, counting, numberSide, entryOf, pointStep, placeOf, pointTaken, pickMapping, pickMappings, outsideQuery, onDay, asked, pointInTime}
+use Rattle.build_rules.specs.PointInTime.{Counted, undated, none as noneCounts, counts, countsFrom, counting, pointStep, placeOf, pointTaken, pickMapping, pickMappings, outsideQuery, onDay, asked, pointInTime, numberStep, nameStep, numbered}
 
 -- ---- which interval counts
 
@@ -112,15 +112,6 @@ module _ (texts : List (List ℕ)) (n : ℕ) where
           (λ h e. (h, refl, filled-is (getD texts n []) e))
           (λ h e. let z : _≡_ {A = ℕ} 0 1 = cc in absurd (omega arith))
 
--- the step once the mapping's name is read, and before it is
-unfoldable pub numberStep : Direction → ℕ → ℕ → List ℕ → List ℕ → Step Entry
-unfolding reading numberIn numberSide entryOf
-numberStep d name n symbol mapped = reading (numberIn (numberSide d symbol mapped)) (λ i. give (entryOf d i n name))
-
-unfoldable pub nameStep : List (List ℕ) → Direction → ℕ → ℕ → List ℕ → Step Entry
-unfolding reading textOf numberStep
-nameStep texts d name n symbol = reading (textOf texts name) (numberStep d name n symbol)
-
 module _ (texts : List (List ℕ)) (d : Direction) (name k : ℕ) (x : Interval) where
   stepped : pointStep texts d name (counts k x) ≡ reading (textOf texts (x .symbol)) (λ symbol. unlessEmpty symbol (nameStep texts d name (x .symbol) symbol))
   unfolding pointStep nameStep
@@ -152,11 +143,6 @@ module _ (texts : List (List ℕ)) (d : Direction) (name n : ℕ) (symbol : List
   pub name-known : textOf texts name ≡ value (getD texts name []) → nameStep texts d name n symbol ≡ numberStep d name n symbol (getD texts name [])
   unfolding nameStep reading
   name-known e = ap (λ (r : Read (List ℕ)). reading r (numberStep d name n symbol)) e
-
--- a number that was read, and the other side's name: the entry, or 8
-unfoldable pub numbered : ℕ → Read ℕ → Step Entry
-unfolding reading
-numbered v r = reading r (λ i. give (record { instrument = i; symbol = v }))
 
 module _ (name n : ℕ) (symbol mapped : List ℕ) where
   pub forward-step : numberStep Forward name n symbol mapped ≡ numbered name (numberIn symbol)

@@ -22,9 +22,8 @@ use Rattle.leaves_days.specs.Days.{dayOf, dayStart, dayAnswerOf, momentAnswerOf
 use Rattle.leaves_days.specs.declared.days.Day.{Day}
 use Rattle.leaves_days.specs.declared.days.Day.the-variants as day
 use Rattle.leaves_days.specs.DaysLaws.{day-limit, start-good}
-use Rattle.leaves_names.specs.Names.{nameOf, namesOf, nameEnd}
+use Rattle.leaves_names.specs.Names.{nameOf, namesOf, nameEnd, Ordered}
 use Rattle.leaves_names.specs.Names.{nameStart}
-use Rattle.leaves_names.specs.NamesLaws.{Ordered}
 use Rattle.leaves_names.specs.NamesList.{names-length, names-at}
 use Rattle.build_rules.specs.Reading.{Read, fault, value, andThen, readOf, textOf, numberIn, dayIn, dayLength, momentIn, isEmpty, symbolUnder, symbolIn, momentRead}
 use Rattle.build_rules.specs.declared.reading.Symbol.the-variants.{Unknown, Empty, Filled}

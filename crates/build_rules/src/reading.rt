@@ -8,8 +8,7 @@ ghost use mathlib.Core.Path.{_≡_};
 ghost use Prim.Native.Nat.{_≤_, _<_};
 ghost use mathlib.Core.List.{[]};
 ghost use lib.ListN.{length, replicate, getD};
-ghost use Rattle.leaves_names.specs.Names.{namesOf};
-ghost use Rattle.leaves_names.specs.NamesLaws.{Ordered};
+ghost use Rattle.leaves_names.specs.Names.{namesOf, Ordered};
 ghost use Rattle.build_rules.specs.Reading.{directionBy, numberIn, momentIn, symbolIn, headingRead, instrumentRead, momentRead};
 
 // Where the instrument's number stands: in the interval's symbol, or in the mapping's name.

@@ -1,6 +1,6 @@
 -- The build over time in lent memory (RULES, The map over time): what it answers, and what the table then holds. Refusals in order: 15
 -- for table, metadata and list, 14 for the list alone, then as the build.
-use Prim.Native.Nat.{ℕ}
+use Prim.Native.Nat.{ℕ, _*_, _≤_}
 use mathlib.Core.Bool.{cond}
 use mathlib.Core.List.{List, []}
 use lib.ListN.{length, replicate}
@@ -9,16 +9,20 @@ use Rattle.leaves.specs.Refusal.{numberOf}
 use Rattle.leaves_names.specs.Names.{namesOf, wellFormed}
 use Rattle.map_table.specs.Interval.{rowOf}
 use Rattle.metadata_rules.specs.declared.Interval.{Interval}
-use Rattle.map_rules.specs.Table.{Row}
-use Rattle.map_rules.specs.Memory.{roomOf, tableFits, rowsWritten}
+use Rattle.map_rules.specs.Table.{Row, Outcome, stored}
+use Rattle.map_rules.specs.Memory.{roomOf, tableFits, rowsWritten, width, sameValue, knownValue, rows, outcomeAnswer}
 use Rattle.metadata_form.specs.declared.header.Header.{Header}
 use Rattle.metadata_form.specs.Header.{Lists, lengthsOf, metadataOf}
 use Rattle.build_rules.specs.OverTime.{Step, stop, skip, give, forwardStep, inverseStep, Build, stopped, built, overTime, buildAnswer}
-use Rattle.build_rules.specs.Call.{buildFits}
+use Rattle.build_rules.specs.Call.{buildFits, builtOf}
 use Rattle.build_time.specs.declared.over_time.Way.{Way}
 use Rattle.build_time.specs.declared.over_time.Way.the-variants.{Forward, Inverse}
 use Rattle.build_time.specs.declared.over_time.Asked.{Asked}
 use Rattle.build_time.specs.declared.over_time.Asked.the-variants.{Refuse, Nothing, Insert}
+use mathlib.Core.Path.{_≡_}
+use lib.Dec.{T}
+use Rattle.build_rules.specs.declared.call.Built.{Built}
+use Rattle.build_rules.specs.declared.call.Built.the-variants.{Done}
 
 -- ---- steps
 
@@ -66,3 +70,26 @@ builtRows (built ys) = ys
 unfoldable pub overTimeRows : List ℕ → Header → Lists → List ℕ → List ℕ → ℕ → ℕ → List (Row ℕ)
 unfolding overTimeBuild builtRows
 overTimeRows table h l bytes ends names name-bytes = builtRows (overTimeBuild table h l bytes ends names name-bytes)
+
+-- a table of whole places with so many in use: well-formed, where so many names are known, and 0 in every other place
+pub record Holds (names : ℕ) (t : List ℕ) (used : ℕ) : Type 0 where
+  pub whole : length t ≡ roomOf t * width
+  pub in-use : used ≤ roomOf t
+  pub formed : T (wellFormed sameValue knownValue names (rows t used))
+  pub memory : t ≡ rowsWritten (replicate (length t) 0) 0 (rows t used)
+
+-- one step had this outcome: the answer is the outcome's, and where it is done the table holds the outcome's rows
+pub record Took (names : ℕ) (o : Outcome (Row ℕ)) (r : Built) (t′ : List ℕ) : Type 0 where
+  pub answers : builtOf r ≡ outcomeAnswer o
+  pub on : (used : ℕ) → r ≡ Done used → (o ≡ stored (rows t′ used)) × Holds names t′ used
+
+-- and a stretch of the build
+pub record Lays (names : ℕ) (b : Build (Row ℕ)) (r : Built) (t′ : List ℕ) : Type 0 where
+  pub answers : builtOf r ≡ buildAnswer b
+  pub on : (used : ℕ) → r ≡ Done used → (b ≡ built (rows t′ used)) × Holds names t′ used
+
+-- the whole build: its answer, all the memory of so many bytes, and the rows that stand there
+pub record Leaves (b : Build (Row ℕ)) (long : ℕ) (r : Built) (t′ : List ℕ) : Type 0 where
+  pub answers : builtOf r ≡ buildAnswer b
+  pub memory : t′ ≡ builtMemory long b
+  pub stands : rows t′ (length (builtRows b)) ≡ builtRows b

@@ -6,7 +6,6 @@ use native.Mathlib.Omega.{arith}
 use mathlib.Core.Bool.{true, false}
 use mathlib.Core.List.{List, [], _∷_}
 use lib.ListN.{length, getD, replicate}
-use lib.Dec.{T}
 use Rattle.theory.specs.Answer.{answer}
 use Rattle.leaves.specs.Refusal.{numberOf, refused}
 use Rattle.leaves.specs.declared.refusal.Refusal.{Refusal}
@@ -15,8 +14,8 @@ use Rattle.map_time.specs.Insert.{insertedOf}
 use Rattle.map_table.specs.declared.interval.Interval.{Interval}
 use Rattle.map_time.specs.declared.insert.Inserted.{Inserted}
 use Rattle.map_time.specs.declared.insert.Inserted.the-variants as inserted
-use Rattle.map_rules.specs.Table.{Row, Ordered, Outcome, refusedBy, stored, nowStored, wellFormed, entered}
-use Rattle.map_rules.specs.Memory.{width, sameValue, knownValue, rows, roomOf, rowsWritten, memoryAfter, outcomeAnswer, usedAfter, Gives}
+use Rattle.map_rules.specs.Table.{Row, Ordered, Outcome, refusedBy, stored, nowStored, entered}
+use Rattle.map_rules.specs.Memory.{sameValue, knownValue, rows, roomOf, rowsWritten, memoryAfter, outcomeAnswer, usedAfter, Gives}
 use Rattle.map_rules.specs.MemoryLaws.{length-rows}
 use Rattle.map_rules.specs.Tests.{formed-parts}
 use Rattle.map_rules.specs.Pieces.{symbols}
@@ -44,32 +43,9 @@ use Rattle.build_time.specs.declared.over_time.Way.the-variants.{Forward
 use Rattle.build_time.specs.declared.over_time.Asked.{Asked}
 use Rattle.build_time.specs.declared.over_time.Asked.the-variants.{Refuse, Nothing, Insert}
 use Rattle.build_rules.specs.Call.{builtOf, isDone, usedOf}
-use Rattle.build_time.specs.OverTime.{askedOf, wayStep, builtMemory, builtRows}
+use Rattle.build_time.specs.OverTime.{askedOf, wayStep, Holds, Took, Lays}
 
 -- ---- what holds between two steps
-
--- a table of whole places with so many in use: well-formed, where so many names are known, and 0 in every other place
-pub record Holds (names : ℕ) (t : List ℕ) (used : ℕ) : Type 0 where
-  pub whole : length t ≡ roomOf t * width
-  pub in-use : used ≤ roomOf t
-  pub formed : T (wellFormed sameValue knownValue names (rows t used))
-  pub memory : t ≡ rowsWritten (replicate (length t) 0) 0 (rows t used)
-
--- one step had this outcome: the answer is the outcome's, and where it is done the table holds the outcome's rows
-pub record Took (names : ℕ) (o : Outcome (Row ℕ)) (r : Built) (t′ : List ℕ) : Type 0 where
-  pub answers : builtOf r ≡ outcomeAnswer o
-  pub on : (used : ℕ) → r ≡ Done used → (o ≡ stored (rows t′ used)) × Holds names t′ used
-
--- and a stretch of the build
-pub record Lays (names : ℕ) (b : Build (Row ℕ)) (r : Built) (t′ : List ℕ) : Type 0 where
-  pub answers : builtOf r ≡ buildAnswer b
-  pub on : (used : ℕ) → r ≡ Done used → (b ≡ built (rows t′ used)) × Holds names t′ used
-
--- the whole build: its answer, all the memory of so many bytes, and the rows that stand there
-pub record Leaves (b : Build (Row ℕ)) (long : ℕ) (r : Built) (t′ : List ℕ) : Type 0 where
-  pub answers : builtOf r ≡ buildAnswer b
-  pub memory : t′ ≡ builtMemory long b
-  pub stands : rows t′ (length (builtRows b)) ≡ builtRows b
 
 -- ---- one interval's step
 

@@ -44,8 +44,8 @@ use Rattle.build_rules.specs.declared.call.Built.the-variants.{Done, Refused}
 use Rattle.build_time.specs.declared.over_time.Way.the-variants.{Forward, Inverse}
 use Rattle.build_rules.specs.Call.{builtOf, isDone, usedOf, buildFits}
 use Rattle.build_rules.specs.CallLaws.{fits-facts}
-use Rattle.build_time.specs.OverTime.{wayStep, overTimeBuild, overTimeAnswer, builtMemory, overTimeMemory, builtRows, overTimeRows}
-use Rattle.build_time.specs.OverTimeLaws.{Holds, Lays, Leaves, plain-stopped, done-is, not-done, no-refusal, stretch-stops}
+use Rattle.build_time.specs.OverTime.{wayStep, overTimeBuild, overTimeAnswer, builtMemory, overTimeMemory, builtRows, overTimeRows, Holds, Lays, Leaves}
+use Rattle.build_time.specs.OverTimeLaws.{plain-stopped, done-is, not-done, no-refusal, stretch-stops}
 
 -- ---- one mapping
 

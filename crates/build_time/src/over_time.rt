@@ -28,8 +28,7 @@ ghost use mathlib.Core.Path.{_≡_};
 ghost use mathlib.Core.List.{[]};
 ghost use Prim.Native.Nat.{ℕ, _+_, _*_, _≤_};
 ghost use lib.ListN.{length};
-ghost use Rattle.leaves_names.specs.Names.{namesOf};
-ghost use Rattle.leaves_names.specs.NamesLaws.{Ordered};
+ghost use Rattle.leaves_names.specs.Names.{namesOf, Ordered};
 ghost use Rattle.metadata_rules.specs.Metadata.{mapping};
 ghost use Rattle.metadata_rules.specs.Words.{before, stretch, mappingsFrom};
 ghost use Rattle.metadata_form.specs.Header.{lists};
@@ -37,8 +36,7 @@ ghost use Rattle.map_rules.specs.Memory.{rows, roomOf};
 ghost use Rattle.build_rules.specs.Reading.{andThen, textOf, numberIn, directionBy, instrumentRead};
 ghost use Rattle.build_rules.specs.OverTime.{dated, taken, layIntervals, layMapping, layMappings, directed};
 ghost use Rattle.build_rules.specs.Call.{builtOf};
-ghost use Rattle.build_time.specs.OverTime.{askedOf, wayStep, overTimeAnswer, overTimeMemory, overTimeRows};
-ghost use Rattle.build_time.specs.OverTimeLaws.{Holds, Took, Lays, Leaves};
+ghost use Rattle.build_time.specs.OverTime.{askedOf, wayStep, overTimeAnswer, overTimeMemory, overTimeRows, Holds, Took, Lays, Leaves};
 
 // How a mapping's intervals are read: its name is their symbol, or says their instrument's number.
 pub enum Way {

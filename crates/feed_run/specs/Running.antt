@@ -9,8 +9,8 @@ use Rattle.theory.specs.Answer.{Answer, answer}
 use Rattle.leaves.specs.Refusal.{numberOf, refused}
 use Rattle.leaves.specs.RefusalLaws.{refused-not-done}
 use Rattle.leaves.specs.declared.refusal.Refusal.{Refusal}
-use Rattle.run_rules.specs.Rows.{going, ended, wanting}
-use Rattle.run_rules.specs.RowsLaws.{row, Noted, noted-record, noted-stop, Lengths, lengths-on, Over, Here, here-start, here-done, here-more, here-stop}
+use Rattle.run_rules.specs.Rows.{going, ended, wanting, row, Noted}
+use Rattle.run_rules.specs.RowsLaws.{noted-record, noted-stop, Lengths, lengths-on, Over, Here, here-start, here-done, here-more, here-stop}
 use Rattle.records_rules.specs.Machine.{record-at, damage-at, says, end}
 use Rattle.feed_rules.specs.Partial.{Turn⁺, replies, needs}
 use Rattle.feed_rules.specs.Windows.{Kept, Feed, turnAnswer, nextAnswer, nextLeaves, call, answerTo, leaves, Alike}

@@ -11,7 +11,7 @@ use run_list::list::run_fits;
 ghost use mathlib.Core.Path.{_≡_};
 ghost use Prim.Native.Nat.{ℕ, _+_, _*_, _≤_};
 ghost use lib.ListN.{length};
-ghost use Rattle.run_rules.specs.RowsLaws.{Noted};
+ghost use Rattle.run_rules.specs.Rows.{Noted};
 ghost use Rattle.feed_rules.specs.Partial.{Turn⁺};
 ghost use Rattle.feed_rules.specs.Windows.{Kept, turnAnswer};
 ghost use Rattle.feed_rules.specs.Spans.{FeedRoom, feedArrays};

@@ -77,3 +77,7 @@ countYears (suc n) year rest =
 -- the date of a day since 1970-01-01, counted over the 585 years 1970 to 2554
 unfoldable pub dateNumber : ℕ → ℕ
 dateNumber day = countYears 585 1970 day
+
+-- 29 February, where there is one
+abbrev pub leapDay : Bool → ℕ
+leapDay leap = cond leap 1 0

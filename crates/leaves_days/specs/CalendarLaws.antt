@@ -11,7 +11,7 @@ use borrow.Author.Tests.{eqb-true, eqb-false, eq-eqb}
 use lib.Dec.{T, leb, ltb, eqb}
 use lib.ListN.{getD, List·getD-eq-default}
 use mir.Facts.{and-yes, ltb-yes, ltb-no, leb-yes}
-use Rattle.leaves_days.specs.Calendar.{isLeap, yearDays, monthLengths, monthDays, daysOfYears, daysBefore}
+use Rattle.leaves_days.specs.Calendar.{isLeap, yearDays, monthLengths, monthDays, daysOfYears, daysBefore, leapDay}
 
 -- ---- tools
 
@@ -41,10 +41,6 @@ below f (suc n) t k h =
     ⊎-elim (λ (e : suc k ≡ suc n). subst (λ (m : ℕ). T (f m)) (omega arith) (p .0)) (λ l. below f n (p .1) k (omega arith)) (eq-or-lt-of-le h)
 
 -- ---- years
-
--- 29 February, where there is one
-abbrev pub leapDay : Bool → ℕ
-leapDay leap = cond leap 1 0
 
 -- the leap years from year 1 to year n
 unfoldable pub leapsTo : ℕ → ℕ

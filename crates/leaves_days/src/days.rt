@@ -1,8 +1,7 @@
 // Dates and days (RULES, Names, numbers, days), by the calendar of ISO 8601. A date is the number YYYYMMDD, DBN's own form.
 ghost use mathlib.Core.Path.{_≡_};
 ghost use Prim.Native.Nat.{_-_, _≤_, _<_};
-ghost use Rattle.leaves_days.specs.Calendar.{isLeap, yearDays, daysOfYears, daysBefore};
-ghost use Rattle.leaves_days.specs.CalendarLaws.{leapDay};
+ghost use Rattle.leaves_days.specs.Calendar.{isLeap, yearDays, daysOfYears, daysBefore, leapDay};
 ghost use Rattle.leaves_days.specs.CalendarDates.{YearOf, MonthOf};
 ghost use Rattle.leaves_days.specs.Days.{dayAnswerOf, dateAnswerOf, momentAnswerOf, knownDate, dayOf, dateOf, dayStart};
 use leaves::refusal::Refusal;

@@ -1,6 +1,6 @@
 -- RULES, Names, numbers, days, and the limits of RULES, Numbers the desk lives by: the list of names that lent memory holds, when it
 -- is well-formed, and what naming does.
-use Prim.Native.Nat.{ℕ, zero, suc, _+_}
+use Prim.Native.Nat.{ℕ, zero, suc, _+_, _≤_, _<_}
 use mathlib.Core.List.{List, [], _∷_}
 use mathlib.Core.Bool.{Bool, true, false, cond, _&&_}
 use lib.Dec.{leb, ltb, eqb}
@@ -154,3 +154,13 @@ placeOfName bytes ends names name-bytes n =
     (cond (ltb n names) (answer 0 (nameStart ends n ∷ nameEnd ends n ∷ [])) (refused UnknownSymbol))
     (refused IllFormed))
     (refused BadMemory)
+
+-- a name lies from start to end, within the bytes in use
+unfoldable pub standing : List ℕ → ℕ → ℕ → ℕ → Bool
+standing bytes name-bytes start end = leb start end && leb end name-bytes && isName (slice start end bytes)
+
+-- the names in use lie one after another within the bytes lent
+pub record Ordered (bytes ends : List ℕ) (names : ℕ) : Type 0 where
+  pub places : names ≤ length ends
+  pub rising : (n : ℕ) → n < names → nameStart ends n ≤ nameEnd ends n
+  pub inside : (n : ℕ) → n < names → nameEnd ends n ≤ length bytes

@@ -11,21 +11,11 @@ use lib.Dec.{leb, eqb}
 use lib.ListN.{length, getD, set, take}
 use lib.Seq.{slice, length-slice, paste, paste-suc, length-paste, getD-drop, getD-take}
 use native.Mathlib.Nat.{add-zero, zero-add}
-use Rattle.leaves_utf8.specs.Utf8.{isUtf8}
-use Rattle.leaves_utf8.specs.Utf8Laws.{Upto, plain-is}
+use Rattle.leaves_utf8.specs.Utf8.{isUtf8, Upto}
+use Rattle.leaves_utf8.specs.Utf8Laws.{plain-is}
 use Rattle.theory.specs.Bools.{and-false, and-left, and-right}
 use Rattle.theory.specs.Slices.{cut, none-left}
-use Rattle.leaves_names.specs.Names.{nameStart, nameEnd, nameOf, namesFrom, namesOf, isName, standFrom, wellFormed, listFits, same, least, hasRoom, nameWritten}
-
--- a name lies from start to end, within the bytes in use
-unfoldable pub standing : List ℕ → ℕ → ℕ → ℕ → Bool
-standing bytes name-bytes start end = leb start end && leb end name-bytes && isName (slice start end bytes)
-
--- the names in use lie one after another within the bytes lent
-pub record Ordered (bytes ends : List ℕ) (names : ℕ) : Type 0 where
-  pub places : names ≤ length ends
-  pub rising : (n : ℕ) → n < names → nameStart ends n ≤ nameEnd ends n
-  pub inside : (n : ℕ) → n < names → nameEnd ends n ≤ length bytes
+use Rattle.leaves_names.specs.Names.{nameStart, nameEnd, nameOf, namesFrom, namesOf, isName, standFrom, wellFormed, listFits, same, least, hasRoom, nameWritten, standing, Ordered}
 
 -- ---- the limits
 

@@ -3,7 +3,7 @@
 -- Assumes nothing.
 use Prim.Native.Nat.{ℕ, _+_, _-_, _*_, _≤_, _<_}
 use mathlib.Core.List.{List, [], _∷_}
-use mathlib.Core.Bool.{Bool, true, false, cond}
+use mathlib.Core.Bool.{Bool, true, false}
 use mathlib.Core.Path.{_≡_, refl, ap, _∙_, sym}
 use native.Mathlib.Omega.{arith}
 use borrow.Author.Tests.{le-leb, lt-leb, eq-eqb, ne-eqb}
@@ -11,17 +11,7 @@ use lib.ListN.{length, getD}
 use lib.Seq.{slice}
 use Rattle.theory.specs.Answer.{answer}
 use Rattle.theory.specs.Slices.{cut, none-left}
-use Rattle.leaves_text.specs.NumberText.{isDigit, stuck, digits, someDigits, numberText}
-
--- the value with one more digit; one past the largest where the byte is no digit
-unfoldable pub appended : ℕ → ℕ → ℕ
-appended value b = cond (isDigit b) (value * 10 + (b - 48)) 4294967296
-
--- the digits of the bytes from place from to before to begin at place at
-pub record Begun (s : List ℕ) (from to at : ℕ) : Type 0 where
-  pub after : from ≤ at
-  pub inside : at ≤ to
-  pub left : numberText (slice from to s) ≡ someDigits (at - from) (slice at to s)
+use Rattle.leaves_text.specs.NumberText.{isDigit, stuck, digits, someDigits, numberText, appended, Begun}
 
 -- the bytes from place from to before to, with the digits before place at read as a value: what is left to read is what there was
 pub record Left (s : List ℕ) (from to at value : ℕ) : Type 0 where

@@ -4,8 +4,7 @@ ghost use mathlib.Core.Path.{_≡_};
 ghost use Prim.Native.Nat.{_<_, _≤_};
 ghost use lib.ListN.{length};
 ghost use lib.Seq.{slice};
-ghost use Rattle.leaves_text.specs.NumberText.{readingOf, numberText};
-ghost use Rattle.leaves_text.specs.NumberTextLaws.{Begun, appended};
+ghost use Rattle.leaves_text.specs.NumberText.{readingOf, numberText, Begun, appended};
 
 const PLUS: u8 = b'+';
 

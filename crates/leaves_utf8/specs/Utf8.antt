@@ -1,8 +1,11 @@
 -- RFC 3629, section 4, "Syntax of UTF-8 Byte Sequences", production by production, over a list of bytes.
-use Prim.Native.Nat.{ℕ}
+use Prim.Native.Nat.{ℕ, _+_, _≤_, _<_}
 use mathlib.Core.List.{List, [], _∷_}
 use mathlib.Core.Bool.{Bool, true, false, cond, _&&_, _||_}
 use lib.Dec.{leb}
+use mathlib.Core.Path.{_≡_}
+use lib.ListN.{getD}
+use lib.Seq.{slice}
 
 -- %xLOW-HIGH: the byte lies from low to high
 unfoldable pub within : ℕ → ℕ → ℕ → Bool
@@ -64,3 +67,13 @@ unfoldable mutual
   pub from-4 : List ℕ → ℕ → ℕ → ℕ → Bool
   from-4 [] a b c = false
   from-4 (d ∷ s) a b c = cond (utf8-4 a b c d) (isUtf8 s) false
+
+-- n is the length of the UTF8-char that stands at place at, of the bytes before to; 0 where none does
+pub record Stepped (s : List ℕ) (at to n : ℕ) : Type 0 where
+  pub inside : at + n ≤ to
+  pub stuck : n ≡ 0 → isUtf8 (slice at to s) ≡ false
+  pub onward : (n ≡ 0 → ⊥) → isUtf8 (slice at to s) ≡ isUtf8 (slice (at + n) to s)
+
+-- no byte of those from place at to before to is above n
+pub record Upto (s : List ℕ) (at to n : ℕ) : Type 0 where
+  pub each : (k : ℕ) → at ≤ k → k < to → getD s k 0 ≤ n

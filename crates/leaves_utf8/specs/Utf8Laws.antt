@@ -11,13 +11,7 @@ use lib.Seq.{slice}
 use Rattle.theory.specs.Slices.{cut, none-left}
 use Rattle.theory.specs.Bools.{and-false}
 use Rattle.leaves_utf8.specs.Utf8Bytes.{within-yes, yes-1, not-1, not-2, not-3, not-4}
-use Rattle.leaves_utf8.specs.Utf8.{within, isTail, utf8-1, utf8-2, utf8-3, four, utf8-4, isUtf8}
-
--- n is the length of the UTF8-char that stands at place at, of the bytes before to; 0 where none does
-pub record Stepped (s : List ℕ) (at to n : ℕ) : Type 0 where
-  pub inside : at + n ≤ to
-  pub stuck : n ≡ 0 → isUtf8 (slice at to s) ≡ false
-  pub onward : (n ≡ 0 → ⊥) → isUtf8 (slice at to s) ≡ isUtf8 (slice (at + n) to s)
+use Rattle.leaves_utf8.specs.Utf8.{within, isTail, utf8-1, utf8-2, utf8-3, four, utf8-4, isUtf8, Stepped, Upto}
 
 -- ---- the alternatives of UTF8-4, tried in their order; f1 to f3 are what their tests answered
 
@@ -93,10 +87,6 @@ unfolding isUtf8
 none-left-is s at to e = ap isUtf8 (none-left s at to e)
 
 -- ---- UTF8-1 alone
-
--- no byte of those from place at to before to is above n
-pub record Upto (s : List ℕ) (at to n : ℕ) : Type 0 where
-  pub each : (k : ℕ) → at ≤ k → k < to → getD s k 0 ≤ n
 
 pub upto-none : {s : List ℕ} {at : ℕ} → Upto s at at 0
 upto-none = record { each = λ k h l. absurd (omega arith) }

@@ -4,8 +4,7 @@ ghost use mathlib.Core.Bool.{true};
 ghost use Prim.Native.Nat.{_+_, _<_, _≤_};
 ghost use lib.ListN.{length, getD};
 ghost use lib.Seq.{slice};
-ghost use Rattle.leaves_utf8.specs.Utf8.{within, isTail, utf8-1, utf8-2, three, utf8-3, four, utf8-4, isUtf8};
-ghost use Rattle.leaves_utf8.specs.Utf8Laws.{Stepped, Upto};
+ghost use Rattle.leaves_utf8.specs.Utf8.{within, isTail, utf8-1, utf8-2, three, utf8-3, four, utf8-4, isUtf8, Stepped, Upto};
 
 // Whether a byte lies from `low` to `high`, both included.
 fn is_within(low: u8, high: u8, x: u8) -> bool

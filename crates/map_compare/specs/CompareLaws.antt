@@ -17,8 +17,8 @@ use Rattle.map_rules.specs.MemoryLaws.{length-rows}
 use Rattle.map_rules.specs.Outcomes.{Lent, table-lent, checked-ordered}
 use Rattle.map_compare_rules.specs.Compare.{Difference, Stretches, compared}
 use Rattle.map_compare_rules.specs.Laws.{compared-length}
-use Rattle.map_compare_rules.specs.Memory.{Value, stretchWidth, putStretch, compareFits, bothFormed, stretchesOf, compareOutcome, comparedAnswer, comparedMemory, Compares}
-use Rattle.map_compare_rules.specs.MemoryLaws.{layStretches, length-put-stretch, lay-memory}
+use Rattle.map_compare_rules.specs.Memory.{Value, stretchWidth, putStretch, compareFits, bothFormed, stretchesOf, compareOutcome, comparedAnswer, comparedMemory, Compares, layStretches}
+use Rattle.map_compare_rules.specs.MemoryLaws.{length-put-stretch, lay-memory}
 use Rattle.map_compare.specs.Compare.{Needed}
 use Rattle.map_compare_walk.specs.declared.walk.Position.{Position}
 use Rattle.map_compare_walk.specs.declared.walk.Stretch.{Stretch}

@@ -6,9 +6,8 @@ use map_compare_walk::walk::Stretch;
 ghost use mathlib.Core.Path.{_≡_};
 ghost use Prim.Native.Nat.{_+_, _*_, _≤_};
 ghost use lib.ListN.{length};
-ghost use Rattle.map_compare_rules.specs.Memory.{stretchWidth, compareFits, bothFormed, stretchesOf, compareOutcome, Compares};
+ghost use Rattle.map_compare_rules.specs.Memory.{stretchWidth, compareFits, bothFormed, stretchesOf, compareOutcome, Compares, layStretches};
 ghost use Rattle.map_rules.specs.Memory.{width};
-ghost use Rattle.map_compare_rules.specs.MemoryLaws.{layStretches};
 ghost use Rattle.map_compare_walk.specs.Walk.{tellsOf, writtenOf, InOrder};
 ghost use Rattle.map_compare.specs.Compare.{Needed, comparedOf};
 

@@ -97,3 +97,8 @@ comparedMemory t (stored ds) = stretchesBytes ds ++ drop (length ds * stretchWid
 pub record Compares (o : Outcome (Row (Difference Value))) (t : List ℕ) (a : Answer) (t′ : List ℕ) : Type 0 where
   pub answers : a ≡ comparedAnswer o
   pub memory : t′ ≡ comparedMemory t o
+
+-- laid one after another from place k on
+unfoldable pub layStretches : List ℕ → ℕ → Stretches Value → List ℕ
+layStretches t k [] = t
+layStretches t k (d ∷ ds) = layStretches (putStretch t k d) (k + 1) ds

@@ -10,12 +10,7 @@ use Rattle.map_rules.specs.Table.{Row}
 use Rattle.map_rules.specs.Memory.{bytesOf}
 use Rattle.map_rules.specs.MemoryLaws.{length-bytes}
 use Rattle.map_compare_rules.specs.Compare.{Difference, Stretches}
-use Rattle.map_compare_rules.specs.Memory.{Value, stretchWidth, symbolIn, putStretch, stretchBytes, stretchesBytes}
-
--- laid one after another from place k on
-unfoldable pub layStretches : List ℕ → ℕ → Stretches Value → List ℕ
-layStretches t k [] = t
-layStretches t k (d ∷ ds) = layStretches (putStretch t k d) (k + 1) ds
+use Rattle.map_compare_rules.specs.Memory.{Value, stretchWidth, symbolIn, putStretch, stretchBytes, stretchesBytes, layStretches}
 
 -- ---- laws
 

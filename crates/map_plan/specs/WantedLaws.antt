@@ -20,47 +20,15 @@ use Rattle.leaves.specs.FrameLaws.{mapped-other, mapped-symbol, mapped-refused}
 use Rattle.leaves.specs.RefusalLaws.{refused-not-done}
 use Rattle.leaves.specs.declared.frame.Mapping.{Mapping}
 use Rattle.leaves.specs.declared.frame.Mapping.the-variants.{Other, Symbol, Refused as NotRead}
-use Rattle.leaves_names.specs.Names.{listFits, wellFormed, namesOf, least, isName, hasRoom}
+use Rattle.leaves_names.specs.Names.{listFits, wellFormed, namesOf, least, isName, hasRoom, Ordered}
 use Rattle.leaves_names.specs.declared.names.Naming.{Naming}
 use Rattle.leaves_names.specs.declared.names.Naming.the-variants.{Old, New, Refused as NotNamed}
-use Rattle.leaves_names.specs.NamesLaws.{memory, Ordered, formed, ordered}
+use Rattle.leaves_names.specs.NamesLaws.{memory, formed, ordered}
 use Rattle.leaves_names.specs.NamingLaws.{numbered-old, numbered-fresh}
 use Rattle.map_rules.specs.Table.{namesFit}
-use Rattle.map_plan.specs.Wanted.{Wanted, nothing, refuses, stores, numberingIn, numbered, wanted, judged, afterCheck, judgedBy, planOf}
+use Rattle.map_plan.specs.Wanted.{Wanted, nothing, refuses, stores, numberingIn, numbered, wanted, judged, afterCheck, judgedBy, planOf, Lies, Placed, Forward, Formed, Ready}
 use Rattle.map_plan.specs.declared.planning.Plan.{Plan}
 use Rattle.map_plan.specs.declared.planning.Plan.the-variants.{Nothing, Store, Refuse}
-
--- where the name of a plan lies, and that there is room for it if it is new
-pub record Lies (bytes ends : List ℕ) (names name-bytes : ℕ) (rec : List ℕ) (from to : ℕ) (new : Bool) : Type 0 where
-  pub apart : from ≤ to
-  pub inside : to ≤ length rec
-  pub name : slice from to rec ≡ nameIn rec
-  pub places : new ≡ true → names < length ends
-  pub room : new ≡ true → name-bytes + (to - from) ≤ length bytes
-  pub small : new ≡ true → name-bytes + (to - from) < 4294967296
-
--- a plan to store has been tested for that
-abbrev pub Placed : List ℕ → List ℕ → ℕ → ℕ → List ℕ → Plan → Type 0
-Placed bytes ends names name-bytes rec Nothing = Unit {0}
-Placed bytes ends names name-bytes rec (Refuse r) = Unit {0}
-Placed bytes ends names name-bytes rec (Store instrument start end number new from to) = Lies bytes ends names name-bytes rec from to new
-
--- over time it stores a stretch that is not empty
-abbrev pub Forward : Bool → Plan → Type 0
-Forward over-time Nothing = Unit {0}
-Forward over-time (Refuse r) = Unit {0}
-Forward over-time (Store instrument start end number new from to) = over-time ≡ true → start < end
-
--- the table's own check was done
-abbrev pub Formed : Answer → Plan → Type 0
-Formed checked Nothing = Unit {0}
-Formed checked (Refuse r) = Unit {0}
-Formed checked (Store instrument start end number new from to) = checked ≡ answer 0 []
-
-pub record Ready (over-time : Bool) (checked : Answer) (bytes ends : List ℕ) (names name-bytes : ℕ) (rec : List ℕ) (p : Plan) : Type 0 where
-  pub placed : Placed bytes ends names name-bytes rec p
-  pub forward : Forward over-time p
-  pub formed : Formed checked p
 
 pub ready-refused : {over-time : Bool} {checked : Answer} {bytes ends : List ℕ} {names name-bytes : ℕ} {rec : List ℕ} {r : Refusal}
     → Ready over-time checked bytes ends names name-bytes rec (Refuse r)

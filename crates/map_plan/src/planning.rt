@@ -17,8 +17,7 @@ ghost use lib.Seq.{slice};
 ghost use Rattle.leaves_names.specs.Names.{listFits, wellFormed};
 ghost use Rattle.leaves.specs.Frame.{mappedIn, nameIn};
 ghost use Rattle.map_table.specs.Table.{checkedOf};
-ghost use Rattle.map_plan.specs.Wanted.{numberingIn, numbered, wanted, judgedBy, planOf};
-ghost use Rattle.map_plan.specs.WantedLaws.{Placed, Forward, Ready};
+ghost use Rattle.map_plan.specs.Wanted.{numberingIn, numbered, wanted, judgedBy, planOf, Placed, Forward, Ready};
 
 // What a mapping call comes to before the room of the table is judged.
 pub enum Plan {

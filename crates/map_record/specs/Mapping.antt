@@ -1,7 +1,7 @@
 -- The mapping call: what a record's bytes leave of a table and a name list (RULES, The map over time: "A symbol mapping record
 -- inserts"; Merging records: "The mapping call takes a record's bytes").
 use mathlib.Core.Path.{_≡_}
-use Prim.Native.Nat.{ℕ, _+_}
+use Prim.Native.Nat.{ℕ, _+_, _*_, _≤_, _<_}
 use mathlib.Core.Bool.{Bool, true, false, cond}
 use mathlib.Core.List.{List, [], _∷_}
 use lib.ListN.{length, set}
@@ -10,14 +10,18 @@ use Rattle.leaves.specs.Refusal.{refused}
 use Rattle.leaves.specs.declared.refusal.Refusal.the-variants.{NoRoom}
 use Rattle.leaves.specs.Frame.{mappedIn, nameIn}
 use Rattle.leaves_names.specs.Names.{nameWritten}
-use Rattle.map_rules.specs.Table.{Row, Outcome, refusedBy, stored, ifRoom, insertRows, wellFormed as wellFormedRows}
-use Rattle.map_rules.specs.Memory.{sameValue, knownValue, rows, roomOf, tableFits, rowsWritten}
+use Rattle.map_rules.specs.Table.{Row, Outcome, refusedBy, stored, ifRoom, insertRows, wellFormed as wellFormedRows, Ordered}
+use Rattle.map_rules.specs.Memory.{sameValue, knownValue, rows, roomOf, tableFits, rowsWritten, width}
 use Rattle.map_point.specs.Entries.{entries, putEntries}
-use Rattle.map_point.specs.Points.{wellFormed, setEntry, pointsFit, hasRoom}
+use Rattle.map_point.specs.Points.{wellFormed, setEntry, pointsFit, hasRoom, rising}
 use Rattle.map_point.specs.declared.entries.Entry.{Entry}
 use Rattle.map_plan.specs.Wanted.{Wanted, nothing, refuses, stores, wanted, judged}
 use Rattle.map_record.specs.declared.mapping.Recorded.{Recorded}
 use Rattle.map_record.specs.declared.mapping.Recorded.the-variants.{Done, Refused}
+use lib.Dec.{T}
+use Rattle.leaves.specs.declared.refusal.Refusal.{Refusal}
+use Rattle.map_plan.specs.declared.planning.Plan.{Plan}
+use Rattle.map_plan.specs.declared.planning.Plan.the-variants.{Nothing, Store, Refuse}
 
 -- ---- what is wanted
 
@@ -154,3 +158,19 @@ PointLeaves t used bytes ends names name-bytes record′ a t′ b′ e′ =
 abbrev pub recordedOf : Recorded → Answer
 recordedOf (Done used names name-bytes) = answer 0 (used ∷ names ∷ name-bytes ∷ [])
 recordedOf (Refused r) = refused r
+
+abbrev pub Insertable : List ℕ → ℕ → Plan → Type 0
+Insertable t used Nothing = Unit {0}
+Insertable t used (Refuse r) = Unit {0}
+Insertable t used (Store instrument start end number new from to) =
+    (length t ≡ roomOf t * width) × (used ≤ roomOf t) × (start < end) × Ordered (rows t used)
+
+abbrev pub Settable : List ℕ → ℕ → Plan → Type 0
+Settable t used Nothing = Unit {0}
+Settable t used (Refuse r) = Unit {0}
+Settable t used (Store instrument start end number new from to) = (used * 8 ≤ length t) × T (rising (entries t used))
+
+-- a step that refuses is what the call comes to, and leaves the table; one that is done leaves what the call comes to
+pub record Keeps {X : Type 0} (read : List ℕ → ℕ → List X) (comes : Comes X) (new : Bool) (t : List ℕ) (a : Answer) (t′ : List ℕ) : Type 0 where
+  pub refused-so : (r : Refusal) → refused r ≡ a → (comes ≡ refusing (refused r)) × (t′ ≡ t)
+  pub done-so : (used : ℕ) → answer 0 (used ∷ []) ≡ a → comes ≡ holding (read t′ used) t′ new

@@ -25,24 +25,13 @@ use Rattle.map_point.specs.EntriesLaws.{length-entries}
 use Rattle.map_point.specs.Points.{rising, allKnown, wellFormed, setEntry, pointsFit, pointsChecked, hasRoom, storedAnswer, storedBytes, usedThen, entriesThen}
 use Rattle.map_point.specs.PointsReads.{fit-bytes}
 use Rattle.map_point.specs.PointsSteps.{Stores}
-use Rattle.map_plan.specs.Wanted.{Wanted, wanted, judgedBy, planOf}
-use Rattle.map_plan.specs.WantedLaws.{Lies, Placed, Forward, Formed, judged-same}
+use Rattle.map_plan.specs.Wanted.{Wanted, wanted, judgedBy, planOf, Lies, Placed, Forward, Formed}
+use Rattle.map_plan.specs.WantedLaws.{judged-same}
 use Rattle.map_plan.specs.declared.planning.Plan.{Plan}
 use Rattle.map_plan.specs.declared.planning.Plan.the-variants.{Nothing, Store, Refuse}
-use Rattle.map_record.specs.Mapping.{timeJudged, pointJudged, Comes, refusing, holding, mappingRow, timeOutcome, outcomeComes, timeComes, pointOutcome, pointComes, joinsIn, namesThen, nameBytesThen, bytesThen, endsThen, leftBy, timeLeft, pointLeft, Leaves, TimeLeaves, PointLeaves}
+use Rattle.map_record.specs.Mapping.{timeJudged, pointJudged, Comes, refusing, holding, mappingRow, timeOutcome, outcomeComes, timeComes, pointOutcome, pointComes, joinsIn, namesThen, nameBytesThen, bytesThen, endsThen, leftBy, timeLeft, pointLeft, Leaves, TimeLeaves, PointLeaves, Insertable, Settable, Keeps}
 
 -- ---- a plan that stores has been tested for what its table needs
-
-abbrev pub Insertable : List ℕ → ℕ → Plan → Type 0
-Insertable t used Nothing = Unit {0}
-Insertable t used (Refuse r) = Unit {0}
-Insertable t used (Store instrument start end number new from to) =
-    (length t ≡ roomOf t * width) × (used ≤ roomOf t) × (start < end) × Ordered (rows t used)
-
-abbrev pub Settable : List ℕ → ℕ → Plan → Type 0
-Settable t used Nothing = Unit {0}
-Settable t used (Refuse r) = Unit {0}
-Settable t used (Store instrument start end number new from to) = (used * 8 ≤ length t) × T (rising (entries t used))
 
 -- and so for the plan that is met
 module _ (t : List ℕ) (used : ℕ) {p : Plan} {i s e n from to : ℕ} {new : Bool} (h : p ≡ Store i s e n new from to) where
@@ -81,11 +70,6 @@ settable t used names (Store i s e n new from to) q d =
     (fit-bytes (length t) used (w .0), formed-rising names (entries t used) (w .1))
 
 -- ---- the table's own step
-
--- a step that refuses is what the call comes to, and leaves the table; one that is done leaves what the call comes to
-pub record Keeps {X : Type 0} (read : List ℕ → ℕ → List X) (comes : Comes X) (new : Bool) (t : List ℕ) (a : Answer) (t′ : List ℕ) : Type 0 where
-  pub refused-so : (r : Refusal) → refused r ≡ a → (comes ≡ refusing (refused r)) × (t′ ≡ t)
-  pub done-so : (used : ℕ) → answer 0 (used ∷ []) ≡ a → comes ≡ holding (read t′ used) t′ new
 
 not-refused : {A : Type 0} (r : Refusal) (vs : List ℕ) → refused r ≡ answer 0 vs → A
 not-refused r vs h = let z : numberOf r ≡ 0 = cc in absurd (refused-not-done r z)

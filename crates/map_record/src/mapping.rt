@@ -20,8 +20,7 @@ ghost use Rattle.map_rules.specs.Memory.{rows};
 ghost use Rattle.map_time.specs.Insert.{insertedOf};
 ghost use Rattle.map_point.specs.Entries.{entries};
 ghost use Rattle.map_point.specs.Points.{storedOf};
-ghost use Rattle.map_plan.specs.Wanted.{planOf};
-ghost use Rattle.map_plan.specs.WantedLaws.{Placed};
+ghost use Rattle.map_plan.specs.Wanted.{planOf, Placed};
 ghost use Rattle.map_record.specs.Mapping.{
   timeComes,
   pointComes,
@@ -34,7 +33,7 @@ ghost use Rattle.map_record.specs.Mapping.{
   PointLeaves,
   recordedOf,
 };
-ghost use Rattle.map_record.specs.MappingLaws.{Insertable, Settable, Keeps};
+ghost use Rattle.map_record.specs.Mapping.{Insertable, Settable, Keeps};
 
 // What a mapping call answers: the intervals or entries, the names and the name bytes then in use.
 pub enum Recorded {

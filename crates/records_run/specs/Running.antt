@@ -9,8 +9,8 @@ use Rattle.theory.specs.Answer.{Answer, answer}
 use Rattle.leaves.specs.Refusal.{numberOf, refused}
 use Rattle.leaves.specs.RefusalLaws.{refused-not-done}
 use Rattle.leaves.specs.declared.refusal.Refusal.{Refusal}
-use Rattle.run_rules.specs.Rows.{going, ended}
-use Rattle.run_rules.specs.RowsLaws.{row, Noted, noted-record, noted-stop, Lengths, lengths-on, Over, Here, here-start, here-done, here-more, here-stop}
+use Rattle.run_rules.specs.Rows.{going, ended, row, Noted}
+use Rattle.run_rules.specs.RowsLaws.{noted-record, noted-stop, Lengths, lengths-on, Over, Here, here-start, here-done, here-more, here-stop}
 use Rattle.records_rules.specs.Machine.{Stream, record-at, damage-at, Status, says, end}
 use Rattle.records_rules.specs.Machine as machine
 use Rattle.records_rules.specs.State.{answerOf, Room, Arrays, statusesAt, SoundIn}

@@ -15,7 +15,7 @@ ghost use Rattle.records_rules.specs.Machine as machine;
 ghost use Rattle.records_rules.specs.Bytes.{streamsOf};
 ghost use Rattle.records_rules.specs.State.{answerOf, Room, arrays};
 ghost use Rattle.records.specs.Merge.{turnOf};
-ghost use Rattle.run_rules.specs.RowsLaws.{Noted};
+ghost use Rattle.run_rules.specs.Rows.{Noted};
 ghost use Rattle.records_run.specs.Run.{noteOf, lastOf, RunGives};
 ghost use Rattle.records_run.specs.Running.{StepSays, StepsSay};
 

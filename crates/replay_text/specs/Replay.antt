@@ -8,13 +8,14 @@ use lib.ListN.{length, getD, replicate}
 use lib.Dec.{ltb}
 use Rattle.theory.specs.Answer as theory
 use Rattle.leaves.specs.Refusal.{refused}
-use Rattle.records_rules.specs.Machine.{Stream, record-at, damage-at, Answer, says, end}
+use Rattle.records_rules.specs.Machine.{Stream, record-at, damage-at, Answer, says, end, Status}
 use Rattle.records_rules.specs.Bytes.{bytesOf}
 use Rattle.records_rules.specs.Literal.{literalRun}
 use Rattle.replay_text.specs.declared.replay.Replayed.{Replayed}
 use Rattle.replay_text.specs.declared.replay.Replayed.the-variants.{Text, Refused}
 use Rattle.lines.specs.Sections.{streamsIn}
 use Rattle.lines.specs.Lines.{recordLine, damageLine, endLine, badLine, laid}
+use Rattle.records_rules.specs.Whole.{allFrom}
 
 -- the streams of a list, stream p at index p
 unfoldable pub among : List (List ℕ) → ℕ → Stream
@@ -65,3 +66,7 @@ replayLaid bundle text = cond (ltb (length text) textRoom) text (laid text 0 (re
 abbrev pub replayedOf : Replayed → theory.Answer
 replayedOf (Text n) = theory.answer 0 (n ∷ [])
 replayedOf (Refused r) = refused r
+
+-- the lines to come from these statuses on
+unfoldable pub linesLeft : (ℕ → Stream) → List Status → List ℕ
+linesLeft b ss = linesOf (allFrom b ss)

@@ -16,8 +16,8 @@ use Rattle.records_rules.specs.State.{riseTo, rightStreams}
 use Rattle.lines.specs.Sections.{streamsIn, Apart}
 use Rattle.lines.specs.Lines.{badLine, laid, Lays}
 use Rattle.lines.specs.LinesLaws.{lays-same}
-use Rattle.replay_text.specs.Replay.{textOf, replayText, replayAnswer, replayLaid}
-use Rattle.replay_text.specs.ReplayLaws.{linesLeft, cs-cuts, apart-text, apart-room}
+use Rattle.replay_text.specs.Replay.{textOf, replayText, replayAnswer, replayLaid, linesLeft}
+use Rattle.replay_text.specs.ReplayLaws.{cs-cuts, apart-text, apart-room}
 use Rattle.leaves.specs.Refusal.{numberOf}
 use Rattle.leaves.specs.RefusalLaws.{refused-not-done, refused-one}
 use Rattle.replay_text.specs.declared.replay.Replayed.{Replayed}

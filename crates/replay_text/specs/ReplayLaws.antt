@@ -23,7 +23,7 @@ use Rattle.lines.specs.Sections.{streamAt, cutOut, Cuts, Apart}
 use Rattle.lines.specs.SectionsLaws.{cutOut-same, length-cutOut, getD-cutOut}
 use Rattle.lines.specs.Lines.{endLine, laid, Lays}
 use Rattle.lines.specs.LinesLaws.{lays-then, lays-same}
-use Rattle.replay_text.specs.Replay.{among, lineOf, linesOf, textOf, replayText}
+use Rattle.replay_text.specs.Replay.{among, lineOf, linesOf, textOf, replayText, linesLeft}
 
 -- ---- how many answers streams of so many bytes can give: a record takes 16 bytes at least, and damage is said once
 
@@ -97,10 +97,6 @@ bytes-cut buffer cuts (suc n) first rises =
     )
 
 -- ---- a run, answer by answer
-
--- the lines to come from these statuses on
-unfoldable pub linesLeft : (ℕ → Stream) → List Status → List ℕ
-linesLeft b ss = linesOf (allFrom b ss)
 
 -- at the start these are the lines of the run
 pub left-start : (b : ℕ → Stream) (hs : List ℕ) → linesLeft b (start hs) ≡ linesOf (run b hs)

@@ -13,9 +13,9 @@ use Rattle.records_rules.specs.Kept.{total}
 use Rattle.records_rules.specs.View.{tab}
 use Rattle.records_rules.specs.State.{answerOf, rightStreams, padded, opening, Arrays, statusesAt}
 use Rattle.lines.specs.Lines.{recordLine, damageLine, endLine, Lays}
-use Rattle.replay_text.specs.Replay.{lineOf}
+use Rattle.replay_text.specs.Replay.{lineOf, linesLeft}
 use Rattle.replay_text.specs.Engine.{Places, PlacesIn, EngineOk, EngineOpened}
-use Rattle.replay_text.specs.ReplayLaws.{linesLeft, left-says, Writing, writing-start, writing-says, writing-end}
+use Rattle.replay_text.specs.ReplayLaws.{left-says, Writing, writing-start, writing-says, writing-end}
 
 -- whether an answer is the last
 unfoldable pub lastOf : Answer → Bool

@@ -5,8 +5,9 @@ use lines::lines::word;
 use lines::sections::Parted;
 use lines::sections::part;
 ghost use mathlib.Core.Path.{_≡_};
-ghost use Prim.Native.Nat.{_≤_};
+ghost use Prim.Native.Nat.{_+_, _≤_};
 ghost use lib.ListN.{length, getD};
+ghost use Rattle.leaves_limits.specs.Limits.{mostBundle, mostStreams};
 ghost use Rattle.lines.specs.Lines.{Lays};
 ghost use Rattle.replay_text.specs.Replay.{replayText, replayedOf, replayAnswer, replayLaid};
 
@@ -39,7 +40,7 @@ fn write_replay(
     cuts: &mut [u64],
     text: &mut [u8],
 ) -> usize
-    requires { ⌜ (60000 ≤ length (now buffer)) × (257 ≤ length (now cuts)) × (getD (now cuts) 0 0 ≡ 0) × (252441 ≤ length (now text)) ⌝ }
+    requires { ⌜ (mostBundle ≤ length (now buffer)) × (mostStreams + 1 ≤ length (now cuts)) × (getD (now cuts) 0 0 ≡ 0) × (252441 ≤ length (now text)) ⌝ }
     ensures { λ r. ⌜ Lays (now (text .entry)) 0 (replayText (now (bundle .entry))) r (now (text .exit)) ⌝ }
 {
     match part(bundle, buffer, cuts) {

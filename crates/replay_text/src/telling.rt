@@ -18,7 +18,7 @@ ghost use Rattle.records_rules.specs.Bytes.{streamsOf};
 ghost use Rattle.records_rules.specs.State.{answerOf, arrays, statusesAt};
 ghost use Rattle.records.specs.Merge.{turnOf};
 ghost use Rattle.lines.specs.Lines.{Lays};
-ghost use Rattle.replay_text.specs.ReplayLaws.{linesLeft};
+ghost use Rattle.replay_text.specs.Replay.{linesLeft};
 ghost use Rattle.replay_text.specs.Engine.{Places};
 ghost use Rattle.replay_text.specs.Telling.{Line, StepSays, Ready, Cut, Mergeable};
 

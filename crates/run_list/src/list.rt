@@ -3,8 +3,7 @@ use leaves_limits::CALLS;
 ghost use mathlib.Core.Path.{_≡_};
 ghost use Prim.Native.Nat.{_+_, _*_, _≤_};
 ghost use lib.ListN.{length};
-ghost use Rattle.run_rules.specs.Rows.{runFits, most};
-ghost use Rattle.run_rules.specs.RowsLaws.{row};
+ghost use Rattle.run_rules.specs.Rows.{runFits, most, row};
 
 // The words of a record in a run's list: stream, place, time.
 pub const WORDS: usize = 3;

@@ -1,9 +1,9 @@
 -- What a run writes to its list and hands back, of what it notes of each call (RULES, Requests, No. 14). Assumes nothing.
 use mathlib.Core.Path.{_≡_}
-use Prim.Native.Nat.{ℕ, suc, _/_, _%_, min}
+use Prim.Native.Nat.{ℕ, suc, _/_, _%_, min, _+_, _*_}
 use mathlib.Core.Bool.{Bool, true, false, _&&_}
 use mathlib.Core.List.{List, [], _∷_, _++_}
-use lib.ListN.{length, drop}
+use lib.ListN.{length, drop, set}
 use lib.Dec.{eqb, leb}
 use Rattle.theory.specs.Answer.{Answer, answer}
 use Rattle.run_rules.specs.Batch.{Ran, ran}
@@ -88,3 +88,19 @@ pub record Gives {S : Type 0} (r : Ran Note S) (ws : List ℕ) (c w : ℕ) (x : 
   pub written : w ≡ recordsIn (r .heard)
   pub answers : x ≡ lastIn (r .heard)
   pub list : ws' ≡ listAfter (r .heard) ws
+
+-- the row i of a list, written
+unfoldable pub row : List ℕ → ℕ → ℕ → ℕ → ℕ → List ℕ
+row ws i p a t = set (set (set ws (3 * i) p) (3 * i + 1) a) (3 * i + 2) t
+
+-- the row of a call
+unfoldable pub rowIn : Note → ℕ → List ℕ → List ℕ
+unfolding row
+rowIn (writes p a t) i ws = row ws i p a t
+rowIn (stops x) i ws = ws
+
+-- a call is noted: its row, whether the run goes on, and how it stopped
+pub record Noted (ws : List ℕ) (i : ℕ) (x : Note) (more : Bool) (last : Answer) (ws' : List ℕ) : Type 0 where
+  pub goes : more ≡ goesOn x
+  pub stopped : last ≡ stopOn x going
+  pub list : ws' ≡ rowIn x i ws

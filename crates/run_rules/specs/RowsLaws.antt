@@ -9,25 +9,9 @@ use lib.ListN.{length, set, drop, length-append, length-drop}
 use lib.Dec.{T}
 use Rattle.theory.specs.Answer.{Answer, answer}
 use Rattle.run_rules.specs.Batch.{Ran, ran, onward, ran-ok}
-use Rattle.run_rules.specs.Rows.{runFits, Note, writes, stops, goesOn, runOf, going, tally, recordsIn, rowOf, wordsOf, listAfter, stopOn, lastIn, Gives}
+use Rattle.run_rules.specs.Rows.{runFits, Note, writes, stops, goesOn, runOf, going, tally, recordsIn, rowOf, wordsOf, listAfter, stopOn, lastIn, Gives, row, rowIn, Noted}
 
 -- ---- a row
-
--- the row i of a list, written
-unfoldable pub row : List ℕ → ℕ → ℕ → ℕ → ℕ → List ℕ
-row ws i p a t = set (set (set ws (3 * i) p) (3 * i + 1) a) (3 * i + 2) t
-
--- the row of a call
-unfoldable pub rowIn : Note → ℕ → List ℕ → List ℕ
-unfolding row
-rowIn (writes p a t) i ws = row ws i p a t
-rowIn (stops x) i ws = ws
-
--- a call is noted: its row, whether the run goes on, and how it stopped
-pub record Noted (ws : List ℕ) (i : ℕ) (x : Note) (more : Bool) (last : Answer) (ws' : List ℕ) : Type 0 where
-  pub goes : more ≡ goesOn x
-  pub stopped : last ≡ stopOn x going
-  pub list : ws' ≡ rowIn x i ws
 
 pub noted-record : (ws : List ℕ) (i p a t : ℕ) {ws' : List ℕ} → ws' ≡ row ws i p a t → Noted ws i (writes p a t) true going ws'
 unfolding goesOn stopOn rowIn

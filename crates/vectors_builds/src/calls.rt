@@ -7,8 +7,8 @@ use metadata_form::header::Header;
 use vectors_side::Side;
 use vectors_side::at_most;
 use vectors_side::list_at;
-use vectors_side::of_32;
 use vectors_side::side_at;
+use vectors_text::narrow;
 ghost use mathlib.Core.Path.{_≡_};
 ghost use lib.ListN.{length};
 ghost use Rattle.vectors_side.specs.Sides.{Within};
@@ -266,5 +266,5 @@ pub fn is_right(text: &[u8], at: usize, over_time: bool) -> bool {
         return is_built(text, at, Call::OverTime);
     }
     let date = vectors_text::number_at(text, at);
-    is_built(text, date.next, Call::PointInTime(of_32(date.value)))
+    is_built(text, date.next, Call::PointInTime(narrow(date.value)))
 }

@@ -2,6 +2,7 @@
 use leaves_days::days::Date;
 use leaves_days::days::Day;
 use leaves_days::days::Moment;
+use vectors_text::narrow;
 ghost use Prim.Native.Nat.{_<_};
 
 // Above every day and date: a refusal's number is added to it.
@@ -15,14 +16,6 @@ fn wide(n: u32) -> u64
     ensures { λ r. ⌜ r < 4294967296 ⌝ }
 {
     n as u64
-}
-
-fn narrow(n: u64) -> u32 {
-    if n <= 4294967295 {
-        n as u32
-    } else {
-        4294967295
-    }
 }
 
 // The day of a date, or the refusal's number above REFUSED.

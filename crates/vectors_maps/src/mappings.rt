@@ -1,9 +1,9 @@
 // Cases of the mapping calls: what each answers, and what it leaves of table and name list. A name list is its names and bytes in
 // use, the bytes lent and the list of ends.
-use crate::tables::narrow;
 use crate::tables::room;
 use leaves::refusal::Refusal;
 use map_record::mapping::Recorded;
+use vectors_text::narrow;
 ghost use mathlib.Core.Path.{_≡_};
 ghost use lib.ListN.{length};
 ghost use Rattle.io.specs.Counts.{Counts};

@@ -1,8 +1,8 @@
 // Cases of the point-in-time table: check and lookup.
-use crate::tables::narrow;
 use crate::tables::room;
 use map_look::lookup::Found;
 use map_table::table::Checked;
+use vectors_text::narrow;
 
 // A line `TABLE USED NAMES = NUMBER`.
 pub fn check(text: &[u8], at: usize) -> bool {

@@ -4,6 +4,7 @@ use map_look::lookup::Looked;
 use map_table::interval::Interval;
 use map_table::table::Checked;
 use map_time::insert::Inserted;
+use vectors_text::narrow;
 ghost use mathlib.Core.Path.{_≡_};
 ghost use lib.ListN.{length};
 
@@ -36,14 +37,6 @@ struct Asked {
     number: u64,
     used_after: usize,
     next: usize,
-}
-
-pub fn narrow(n: u64) -> u32 {
-    if n <= 4294967295 {
-        n as u32
-    } else {
-        4294967295
-    }
 }
 
 fn interval_at(text: &[u8], at: usize) -> Interval {

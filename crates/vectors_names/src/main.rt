@@ -8,7 +8,7 @@ use vectors_side::Compared;
 use vectors_side::at_most;
 use vectors_side::list_at;
 use vectors_side::list_too;
-use vectors_side::of_32;
+use vectors_text::narrow;
 ghost use mathlib.Core.Path.{_≡_};
 ghost use lib.ListN.{length};
 
@@ -123,7 +123,7 @@ fn reads_it(
         let checked = leaves_names::names::check_names(bytes, ends, names, name_bytes);
         return is_checked(text, behind, checked);
     }
-    let number = of_32(asked.value);
+    let number = narrow(asked.value);
     let placed = leaves_names::names::place_of_name(bytes, ends, names, name_bytes, number);
     is_placed(text, behind, placed)
 }

@@ -10,6 +10,7 @@ use crate::rule::made;
 use crate::rule::rule_at;
 use metadata_form::header::Header;
 use vectors_text::Token;
+use vectors_text::narrow;
 ghost use Prim.Native.Nat.{_≤_, _<_};
 ghost use lib.ListN.{length};
 ghost use Rattle.vectors_side.specs.Sides.{Within};
@@ -52,14 +53,6 @@ fn of_16(n: u64) -> u16 {
     if n <= 65535 { n as u16 } else { 65535 }
 }
 
-pub fn of_32(n: u64) -> u32 {
-    if n <= 4294967295 {
-        n as u32
-    } else {
-        4294967295
-    }
-}
-
 fn header_at(text: &[u8], at: usize) -> Headed {
     let version = vectors_text::number_at(text, at);
     let dataset = vectors_text::number_at(text, version.next);
@@ -77,7 +70,7 @@ fn header_at(text: &[u8], at: usize) -> Headed {
     let mappings = vectors_text::number_at(text, not_found.next);
     let header = Header {
         version: of_8(version.value),
-        dataset: of_32(dataset.value),
+        dataset: narrow(dataset.value),
         schema: of_16(schema.value),
         start: start.value,
         end: end.value,
@@ -135,7 +128,7 @@ pub fn list_at(text: &[u8], at: usize, out: &mut [u32]) -> Listed
     let mut i = 0;
     while i < places {
         let word = word_at(text, place, given.value, rule, i);
-        out[i] = of_32(word.value);
+        out[i] = narrow(word.value);
         place = word.next;
         i += 1;
     }
@@ -196,7 +189,7 @@ pub fn list_too(text: &[u8], so_far: Compared, list: &[u32]) -> Compared {
     let mut i = 0;
     while i < places {
         let word = word_at(text, place, given.value, rule, i);
-        if list[i] != of_32(word.value) {
+        if list[i] != narrow(word.value) {
             same = false;
         }
         place = word.next;

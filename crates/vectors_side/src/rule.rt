@@ -2,7 +2,7 @@
 // numbers. `n` are names, from the first number on, and from the place of the second on the same once more; `m` mappings of such
 // names, each with the third number of intervals; `d` intervals of a day each, from the day of the first number on; `e` every
 // other one of these.
-use crate::of_32;
+use vectors_text::narrow;
 ghost use Prim.Native.Nat.{_<_};
 
 // A rule; of no letter where the words themselves stand in the text.
@@ -40,9 +40,9 @@ pub fn rule_at(text: &[u8], at: usize) -> Ruled {
     let each = vectors_text::number_at(text, again.next);
     let rule = Rule {
         letter,
-        first: of_32(first.value),
-        again: of_32(again.value),
-        each: of_32(each.value),
+        first: narrow(first.value),
+        again: narrow(again.value),
+        each: narrow(each.value),
     };
     Ruled {
         rule,

@@ -136,6 +136,15 @@ pub fn number_at(text: &[u8], at: usize) -> Token {
     Token { value, next: i }
 }
 
+// A number as one of 32 bits; one that is too great is cut there.
+pub fn narrow(n: u64) -> u32 {
+    if n <= 4294967295 {
+        n as u32
+    } else {
+        4294967295
+    }
+}
+
 fn low_byte(n: u64) -> u8
     requires { ⌜ n < 256 ⌝ }
 {

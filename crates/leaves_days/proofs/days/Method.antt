@@ -13,8 +13,8 @@ use borrow.Author.Tests.{lt-ltb, le-ltb, eq-eqb, ne-eqb}
 use lib.Dec.{leb, ltb, eqb}
 use lib.ListN.{getD}
 use mir.Facts.{leb-yes, eqb-yes}
-use Rattle.leaves_days.specs.Calendar.{isLeap, yearDays, monthDays, daysOfYears, daysBefore}
-use Rattle.leaves_days.specs.CalendarLaws.{below, leapDay, leapsTo, leaps-rise, leaps-1969, years-sum, before-rises, before-end}
+use Rattle.leaves_days.specs.Calendar.{isLeap, yearDays, monthDays, daysOfYears, daysBefore, leapDay}
+use Rattle.leaves_days.specs.CalendarLaws.{below, leapsTo, leaps-rise, leaps-1969, years-sum, before-rises, before-end}
 use Rattle.leaves_days.specs.CalendarDates.{YearOf, MonthOf}
 
 -- ---- years

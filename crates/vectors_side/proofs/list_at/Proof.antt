@@ -31,8 +31,8 @@ loop-holds c = search needs
 word-at-requires : tie.Need-word-at-requires Inv-loop μ-loop
 word-at-requires c κs = search needs
 
-of-32-requires : tie.Need-of-32-requires Inv-loop μ-loop
-of-32-requires c κs = search needs
+narrow-requires : tie.Need-narrow-requires Inv-loop μ-loop
+narrow-requires c κs = search needs
 
 mul-out : tie.Need-mul-out Inv-loop μ-loop
 mul-out c = search needs
@@ -67,7 +67,7 @@ list-at-spec =
     at-most-requires
     loop-holds
     word-at-requires
-    of-32-requires
+    narrow-requires
     mul-out
     slice-write-out
     add-i

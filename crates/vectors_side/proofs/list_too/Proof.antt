@@ -34,8 +34,8 @@ mul-if1 c = search needs
 shared-slice-read-if1 : tie.Need-shared-slice-read-if1 Inv-loop μ-loop
 shared-slice-read-if1 c = search needs
 
-of-32-requires : tie.Need-of-32-requires Inv-loop μ-loop
-of-32-requires c κs = search needs
+narrow-requires : tie.Need-narrow-requires Inv-loop μ-loop
+narrow-requires c κs = search needs
 
 add-i : tie.Need-add-i Inv-loop μ-loop
 add-i c = search needs
@@ -63,7 +63,7 @@ list-too-spec =
     word-at-requires
     mul-if1
     shared-slice-read-if1
-    of-32-requires
+    narrow-requires
     add-i
     loop-less
     loop-again

@@ -2,7 +2,8 @@
 -- Assumes nothing.
 use borrow.Author.Tests.{le-leb, lt-leb}
 use borrow.Author.Needs.{needs}
-use Rattle.leaves_names.specs.NamesLaws.{standing, name-plain}
+use Rattle.leaves_names.specs.Names.{standing}
+use Rattle.leaves_names.specs.NamesLaws.{name-plain}
 use Rattle.leaves_names.proofs.names.stands.Statement.{statement}
 use Rattle.leaves_names.proofs.names.stands.Tie as tie
 

@@ -1,7 +1,8 @@
 -- `utf8::greatest` meets its contract. The loop's invariant: no byte before `at` is above the greatest so far. Assumes nothing.
 use Prim.Native.Nat.{_≤_, _-_}
 use borrow.Author.Needs.{needs}
-use Rattle.leaves_utf8.specs.Utf8Laws.{Upto, upto-none, upto-above, upto-below, upto-all}
+use Rattle.leaves_utf8.specs.Utf8.{Upto}
+use Rattle.leaves_utf8.specs.Utf8Laws.{upto-none, upto-above, upto-below, upto-all}
 use Rattle.leaves_utf8.proofs.utf8.greatest.Statement.{statement}
 use Rattle.leaves_utf8.proofs.utf8.greatest.Tie as tie
 

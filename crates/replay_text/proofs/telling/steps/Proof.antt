@@ -8,7 +8,7 @@ use Rattle.records_rules.specs.Bytes.{streamsOf}
 use Rattle.records_rules.specs.Kept.{total}
 use Rattle.records_rules.specs.View.{statusesOf}
 use Rattle.records_rules.specs.State.{arrays}
-use Rattle.replay_text.specs.ReplayLaws.{linesLeft}
+use Rattle.replay_text.specs.Replay.{linesLeft}
 use Rattle.replay_text.specs.Telling.{Stepping, stepping-start, stepping-more, stepping-last}
 use Rattle.replay_text.proofs.telling.steps.Statement.{statement}
 use Rattle.replay_text.proofs.telling.steps.Tie as tie

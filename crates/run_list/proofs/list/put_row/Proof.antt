@@ -1,7 +1,7 @@
 -- Three places of one row written. Assumes nothing.
 use native.Mathlib.Omega.{arith}
 use lib.ListN.{length-set}
-use Rattle.run_rules.specs.RowsLaws.{row}
+use Rattle.run_rules.specs.Rows.{row}
 use borrow.Author.Needs.{needs}
 use Rattle.run_list.proofs.list.put_row.Statement.{statement}
 use Rattle.run_list.proofs.list.put_row.Tie as tie
