@@ -151,5 +151,5 @@ pub fn run() {
         b"65,537 intervals at a point in time",
         is_too_many(Call::PointInTime(DATE)),
     );
-    vectors_text::print_group(b"limits", t.cases, t.wrong);
+    vectors_text::print_group(b"limits", t);
 }

@@ -5,6 +5,7 @@ mod dates;
 mod frames;
 mod texts;
 
+use vectors_text::Tally;
 ghost use mathlib.Core.Path.{_≡_};
 ghost use lib.ListN.{length};
 
@@ -40,20 +41,16 @@ fn is_right(text: &[u8], at: usize, kind: u8) -> bool {
 
 // Runs the lines of one kind and prints the group's line.
 fn run(name: &[u8], text: &[u8], kind: u8) {
-    let mut cases = 0u64;
-    let mut wrong = 0u64;
+    let mut tally = Tally { cases: 0, wrong: 0 };
     let mut at = 0;
     while at < text.len() {
         if text[at] == kind {
-            cases = vectors_text::one_more(cases);
-            if !is_right(text, at + 1, kind) {
-                wrong = vectors_text::one_more(wrong);
-                vectors_text::print_wrong(text, at);
-            }
+            let right = is_right(text, at + 1, kind);
+            tally = vectors_text::heard(tally, text, at, right);
         }
         at = vectors_text::next_line(text, at);
     }
-    vectors_text::print_group(name, cases, wrong);
+    vectors_text::print_group(name, tally);
 }
 
 fn main() {

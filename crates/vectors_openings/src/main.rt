@@ -2,6 +2,7 @@
 // The data itself says what a line means; a case that is answered otherwise than expected is printed.
 mod calls;
 
+use vectors_text::Tally;
 ghost use mathlib.Core.Path.{_≡_};
 ghost use lib.ListN.{length};
 
@@ -30,20 +31,14 @@ fn is_right(text: &[u8], at: usize, call: u8) -> bool {
 
 // Runs the lines of one kind and prints the group's line.
 fn run(text: &[u8], name: &[u8], call: u8) {
-    let mut cases = 0u64;
-    let mut wrong = 0u64;
-    let mut at = 0;
+    let mut tally = Tally { cases: 0, wrong: 0 };
+    let mut at = vectors_text::group_from(text, 0, name);
     while at < text.len() {
-        if vectors_text::is_word(text, at, name) {
-            cases = vectors_text::one_more(cases);
-            if !is_right(text, vectors_text::word_end(text, at), call) {
-                wrong = vectors_text::one_more(wrong);
-                vectors_text::print_wrong(text, at);
-            }
-        }
-        at = vectors_text::next_line(text, at);
+        let right = is_right(text, vectors_text::word_end(text, at), call);
+        tally = vectors_text::heard(tally, text, at, right);
+        at = vectors_text::group_next(text, at, name);
     }
-    vectors_text::print_group(name, cases, wrong);
+    vectors_text::print_group(name, tally);
 }
 
 fn main() {

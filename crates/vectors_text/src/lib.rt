@@ -1,6 +1,7 @@
 // What the programs that run vectors share: a text of cases, one to a line, taken apart, and the lines that are printed.
 // Nothing here has a requires: a place past the text's end reads as the end of a line.
 ghost use Prim.Native.Nat.{_+_, _≤_, _<_};
+ghost use lib.ListN.{length};
 ghost use Rattle.io.specs.Counts.{Counts};
 
 // A number read from the text, and the place after it.
@@ -114,6 +115,27 @@ pub fn is_word(text: &[u8], at: usize, word: &[u8]) -> bool {
     place == word_end(text, place)
 }
 
+// Where the first line of a group begins, from a line's begin on; or the text's end. A group is the lines whose first word is its name.
+pub fn group_from(text: &[u8], from: usize, name: &[u8]) -> usize
+    ensures { λ r. ⌜ from ≤ r ⌝ }
+{
+    let mut at = from;
+    while at < text.len() {
+        if is_word(text, at, name) {
+            return at;
+        }
+        at = next_line(text, at);
+    }
+    at
+}
+
+// Where the group's next line begins, behind the line at a place.
+pub fn group_next(text: &[u8], at: usize, name: &[u8]) -> usize
+    ensures { λ r. ⌜ (at < length (now (text .entry)) → at < r) ⌝ }
+{
+    group_from(text, next_line(text, at), name)
+}
+
 // The decimal number at a place, blanks before it passed over; 0 where no digit stands there.
 pub fn number_at(text: &[u8], at: usize) -> Token {
     let mut i = past_blanks(text, at);
@@ -223,12 +245,12 @@ pub fn one_more(n: u64) -> u64 {
 }
 
 // Prints a group's line: its name, how many cases it had and how many of them were answered otherwise than expected.
-pub fn print_group(name: &[u8], cases: u64, wrong: u64) {
+pub fn print_group(name: &[u8], tally: Tally) {
     io::write_all(1, name);
     io::write_all(1, b": ");
-    io::print_decimal(1, cases);
+    io::print_decimal(1, tally.cases);
     io::write_all(1, b" cases, ");
-    io::print_decimal(1, wrong);
+    io::print_decimal(1, tally.wrong);
     io::write_all(1, b" wrong\n");
 }
 
@@ -246,6 +268,22 @@ pub fn print_wrong(text: &[u8], at: usize) {
 pub struct Tally {
     pub cases: u64,
     pub wrong: u64,
+}
+
+// One case more, which is the line that a place stands in; it is printed where it was answered otherwise than expected.
+pub fn heard(tally: Tally, text: &[u8], at: usize, right: bool) -> Tally {
+    let cases = one_more(tally.cases);
+    if right {
+        return Tally {
+            cases,
+            wrong: tally.wrong,
+        };
+    }
+    print_wrong(text, at);
+    Tally {
+        cases,
+        wrong: one_more(tally.wrong),
+    }
 }
 
 // One case more; its name is printed where it is wrong.

@@ -7,10 +7,10 @@ use Rattle.vectors_leaves.proofs.run.Statement.{statement}
 use Rattle.vectors_leaves.proofs.run.Tie as tie
 
 abbrev Inv-loop : tie.InvT-loop
-Inv-loop name text kind cases₀ wrong₀ at₀ cases wrong at = Unit {0}
+Inv-loop name text kind tally₀ at₀ tally at = Unit {0}
 
 abbrev μ-loop : tie.MeasureT-loop
-μ-loop name text kind cases₀ wrong₀ at₀ cases wrong at = length text - at
+μ-loop name text kind tally₀ at₀ tally at = length text - at
 
 loop-holds : tie.Need-loop-holds Inv-loop μ-loop
 loop-holds c = search needs
@@ -18,20 +18,14 @@ loop-holds c = search needs
 shared-slice-read-if1 : tie.Need-shared-slice-read-if1 Inv-loop μ-loop
 shared-slice-read-if1 c = search needs
 
-one-more-requires : tie.Need-one-more-requires Inv-loop μ-loop
-one-more-requires c κs = search needs
-
 add-is-right : tie.Need-add-is-right Inv-loop μ-loop
 add-is-right c = search needs
 
 is-right-requires : tie.Need-is-right-requires Inv-loop μ-loop
 is-right-requires c κs = search needs
 
-one-more-requires-2 : tie.Need-one-more-requires-2 Inv-loop μ-loop
-one-more-requires-2 c κs = search needs
-
-print-wrong-requires : tie.Need-print-wrong-requires Inv-loop μ-loop
-print-wrong-requires c κs = search needs
+heard-requires : tie.Need-heard-requires Inv-loop μ-loop
+heard-requires c κs = search needs
 
 next-line-requires : tie.Need-next-line-requires Inv-loop μ-loop
 next-line-requires c κs = search needs
@@ -56,11 +50,9 @@ run-spec =
     μ-loop
     loop-holds
     shared-slice-read-if1
-    one-more-requires
     add-is-right
     is-right-requires
-    one-more-requires-2
-    print-wrong-requires
+    heard-requires
     next-line-requires
     loop-less
     loop-again
