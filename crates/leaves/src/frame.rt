@@ -77,7 +77,7 @@ fn no_record(found: u64) -> Head
 }
 
 // The lesser of two numbers.
-pub fn lesser(a: u64, b: u64) -> u64
+fn lesser(a: u64, b: u64) -> u64
     ensures { λ r. ⌜ r ≡ min a b ⌝ }
 {
     if a <= b {
