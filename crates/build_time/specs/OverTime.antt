@@ -9,7 +9,7 @@ use Rattle.leaves.specs.Refusal.{numberOf}
 use Rattle.leaves_names.specs.Names.{namesOf, wellFormed}
 use Rattle.map_table.specs.Interval.{rowOf}
 use Rattle.metadata_rules.specs.declared.Interval.{Interval}
-use Rattle.map_rules.specs.Table.{Row, Outcome, stored}
+use Rattle.map_rules.specs.Table.{Row, Outcome, stored, wellFormed as wellFormedRows}
 use Rattle.map_rules.specs.Memory.{roomOf, tableFits, rowsWritten, width, sameValue, knownValue, rows, outcomeAnswer}
 use Rattle.metadata_form.specs.declared.header.Header.{Header}
 use Rattle.metadata_form.specs.Header.{Lists, lengthsOf, metadataOf}
@@ -75,7 +75,7 @@ overTimeRows table h l bytes ends names name-bytes = builtRows (overTimeBuild ta
 pub record Holds (names : ℕ) (t : List ℕ) (used : ℕ) : Type 0 where
   pub whole : length t ≡ roomOf t * width
   pub in-use : used ≤ roomOf t
-  pub formed : T (wellFormed sameValue knownValue names (rows t used))
+  pub formed : T (wellFormedRows sameValue knownValue names (rows t used))
   pub memory : t ≡ rowsWritten (replicate (length t) 0) 0 (rows t used)
 
 -- one step had this outcome: the answer is the outcome's, and where it is done the table holds the outcome's rows

@@ -14,11 +14,10 @@ use Rattle.map_rules.specs.Table.{Row, ordered, allKnown, wellFormed}
 use Rattle.map_rules.specs.Memory.{rowsFrom, rows, rowsBytes, roomOf, tableFits, rowsWritten}
 use Rattle.map_rules.specs.MemoryLaws.{length-rows, rows-written}
 use Rattle.map_rules.specs.Outcomes.{Lent, table-lent}
-use Rattle.leaves_names.specs.Names.{namesOf, listFits}
+use Rattle.leaves_names.specs.Names.{namesOf, listFits, Ordered as Ordered-names}
 use Rattle.leaves_names.specs.Names.{wellFormed as wellFormedNames}
 use Rattle.theory.specs.Bools.{holds, fails}
-use Rattle.leaves_names.specs.NamesLaws.{memory}
-use Rattle.leaves_names.specs.NamesLaws.{Ordered as Ordered-names, ordered as ordered-names, formed as formed-names}
+use Rattle.leaves_names.specs.NamesLaws.{memory, ordered as ordered-names, formed as formed-names}
 use Rattle.leaves_names.specs.NamesList.{names-length}
 use Rattle.metadata_rules.specs.declared.Interval.{Interval as Span}
 use Rattle.metadata_rules.specs.Metadata.{Mapping, mapping}
