@@ -19,6 +19,17 @@ use Rattle.records_rules.specs.View.{packed, recIn, recIn-packed, status
 use Rattle.records_rules.specs.State.{gotOf, Small}
 use Rattle.records_rules.specs.Holds.{Chosen}
 
+-- arrays that keep their lengths have the room still, and so has the heap where no more of it is in use
+pub room-kept : {held m t c h p size m′ t′ c′ h′ p′ : ℕ} → (held ≤ 256) × (256 ≤ m) × (256 ≤ t) × (256 ≤ c) × (256 ≤ h) × (256 ≤ p)
+    → size ≤ held → m′ ≡ m → t′ ≡ t → c′ ≡ c → h′ ≡ h → p′ ≡ p
+    → (size ≤ 256) × (256 ≤ m′) × (256 ≤ t′) × (256 ≤ c′) × (256 ≤ h′) × (256 ≤ p′)
+room-kept (few, m, t, c, h, p) l em et ec eh ep = (omega arith, omega arith, omega arith, omega arith, omega arith, omega arith)
+
+-- which is room for any number of streams
+pub room-enough : {size m t c h p n : ℕ} → (size ≤ 256) × (256 ≤ m) × (256 ≤ t) × (256 ≤ c) × (256 ≤ h) × (256 ≤ p) → n ≤ 256
+    → (n ≤ m) × (n ≤ t) × (n ≤ c) × (n ≤ h)
+room-enough (few, m, t, c, h, p) l = (omega arith, omega arith, omega arith, omega arith)
+
 got-ended : (k t l : ℕ) → k ≡ 0 → gotOf k t l ≡ ended
 unfolding gotOf
 got-ended k t l e = found-ended k (whole (l % 65536) (l / 65536 % 65536) (l / 4294967296) t) e
