@@ -11,12 +11,12 @@ use lib.Seq.{slice, drop-drop}
 use lib.Dec.{eqb, ltb}
 use mir.Facts.{ltb-yes, eqb-yes}
 use borrow.Author.Tests.{lt-ltb, le-ltb, eq-eqb, ne-eqb, eqb-true}
+use Rattle.theory.specs.RunsTools.{cond-case}
 use Rattle.theory.specs.Bools.{both, T-true, T-false}
 use Rattle.theory.specs.Answer.{Answer, answer}
 use Rattle.theory.specs.Fields.{field}
 use Rattle.leaves.specs.Frame.{Read, whole, ended, damaged, judged, recordAt, frameAt}
 use Rattle.leaves.specs.FrameLaws.{found-whole}
-use Rattle.records_rules.specs.Least.{cond-case}
 use Rattle.records_rules.specs.State.{arraysFit, gotOf}
 use Rattle.records_rules.specs.Opening.{full, arrays-room}
 use Rattle.feed_rules.specs.Partial.{part, soFar, knownAt}

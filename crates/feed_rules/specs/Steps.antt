@@ -16,7 +16,7 @@ use Rattle.records_rules.specs.Machine.{Rec, says, end, record-at, damage-at, S
 use Rattle.records_rules.specs.View.{recIn, statusesOf, length-statuses}
 use Rattle.records_rules.specs.Heap.{at}
 use Rattle.records_rules.specs.Holds.{Chosen, ok-chosen, ok-none, holds-moved, holds-kind, holds-drop, but-drop, but-key}
-use Rattle.records_rules.specs.StateLaws.{room-enough}
+use Rattle.records_rules.specs.StateLaws.{room-enough, waits-at, stands-at, gone-set, stand-set, wait-set}
 use Rattle.records_rules.specs.Sift.{Sifted}
 use Rattle.feed_rules.specs.Partial.{part, knownAt, Turn⁺, replies, needs, next⁺, rest⁺}
 use Rattle.feed_rules.specs.PartialLaws.{rule-end⁺, rule-record⁺, rule-wants⁺, rule-ended⁺, rule-damaged⁺, rule-whole⁺}
@@ -24,7 +24,7 @@ use Rattle.feed_rules.specs.Windows.{Kept, knownIn, from, counted, turnL
 use Rattle.feed_rules.specs.WindowsLaws.{known-from, known-here, known-fits}
 use Rattle.feed_rules.specs.Spans.{dropped, counts, bytesIn, keptOf, feedOf, gotKnown, handedOut, SlotOk, FeedOk, FeedRoom, FeedArrays, feedArrays, Wanting}
 use Rattle.feed_rules.specs.SpansLaws.{dropped-zero, kept-dropped}
-use Rattle.feed_rules.specs.Stores.{put-set, put-none, slots-put, unused-put, waits-at, stands-at, gone-set, stand-set, wait-set, head-set}
+use Rattle.feed_rules.specs.Stores.{put-set, put-none, slots-put, unused-put, head-set}
 use Rattle.feed_rules.specs.Going.{Later, later-from, known-later, keptAt, Keeps⁺, Going⁺, going-room, counts-none, counts-zero}
 use Rattle.feed_rules.specs.Going.{says-by, kept-handed, slot-handed, slot-dropped}
 use Rattle.feed_rules.specs.Going.{got-none, got-five, got-ended, got-damaged, got-whole, Done⁺, needs-not}
