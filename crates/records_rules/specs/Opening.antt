@@ -16,7 +16,7 @@ use Rattle.records_rules.specs.View.{tab, statusOf, statusesOf}
 use Rattle.records_rules.specs.Sift.{Heaped}
 use Rattle.records_rules.specs.Holds.{Holds, holds-moved}
 use Rattle.records_rules.specs.State.{arraysFit, rightStreams, Room, riseTo, padded, StreamsOpened}
-use Rattle.theory.specs.Bools.{both}
+use Rattle.theory.specs.Bools.{and-false, both}
 
 -- ---- each place of the 256 is laid
 
@@ -181,10 +181,6 @@ unfolding riseTo
 falls zero i cuts h l = absurd (omega arith)
 falls (suc n) i cuts h l = go (ℕ-discrete i n) (λ b. falls n i cuts b l)
   where
-    and-false : (x : Bool) → (x && false) ≡ false
-    and-false true = refl
-    and-false false = refl
-
     go : Dec (i ≡ n) → (i < n → riseTo n cuts ≡ false) → (leb (getD cuts n 0) (getD cuts (n + 1) 0) && riseTo n cuts) ≡ false
     go (yes e) ih = simp (lt-leb (getD cuts n 0) (getD cuts (n + 1) 0) (rw e at l))
     go (no d) ih = rw (ih (omega arith)) (and-false (leb (getD cuts n 0) (getD cuts (n + 1) 0)))

@@ -103,14 +103,15 @@ module _ (b : ℕ → Stream) (n : ℕ) (ms ts cs hs : List ℕ) (p : ℕ) (ch :
   pub law-end : n ≤ p → machine.next b now ≡ turn end now
   law-end h = rule-end b now (ch .nobody (omega (arith, ch .within)) cs hs)
 
-  module _ (hp : p < n) (hk : n ≤ length ms) (ht : n ≤ length ts) (hc : n ≤ length cs) (hl : n ≤ length hs) where
+  module _ (hp : p < n) (long : (n ≤ length ms) × (n ≤ length ts) × (n ≤ length cs) × (n ≤ length hs)) where
     f : (t : ℕ) × IsFirst now t p
     f = ch .some hp cs hs
 
     live : getD ms p 0 ≢ 0
     unfolding statusOf key
     live z =
-        let e : none ≡ some (f .0) = sym (ap (λ (k : ℕ). key (statusOf k (getD ts p 0) (getD cs p 0) (getD hs p 0))) z) ∙ ap key (sym (status-at n ms ts cs hs p hp)) ∙ f .1 .has in
+        let is-gone : key (statusOf (getD ms p 0) (getD ts p 0) (getD cs p 0) (getD hs p 0)) ≡ none = rw z refl in
+        let e : none ≡ some (f .0) = sym is-gone ∙ ap key (sym (status-at n ms ts cs hs p hp)) ∙ f .1 .has in
         let y : _≡_ {A = ℕ} 0 1 = cc in
         omega arith
 
@@ -119,22 +120,22 @@ module _ (b : ℕ → Stream) (n : ℕ) (ms ts cs hs : List ℕ) (p : ℕ) (ch :
     unfolding recIn
     law-record d =
         rule-record b now (f .0) p (f .1) (getD cs p 0) (recIn (getD hs p 0) (getD ts p 0)) (stands-at n ms ts cs hs p hp live d)
-        ∙ ap (turn (says p (record-at (getD cs p 0) (recIn (getD hs p 0) (getD ts p 0))))) (sym (wait-set n ms ts cs hs p hp (hk, ht, hc, hl) (getD cs p 0 + getD hs p 0 % 65536) 0))
+        ∙ ap (turn (says p (record-at (getD cs p 0) (recIn (getD hs p 0) (getD ts p 0))))) (sym (wait-set n ms ts cs hs p hp long (getD cs p 0 + getD hs p 0 % 65536) 0))
 
     module _ (e : getD ms p 0 ≡ 1) (k t l : ℕ) (g : gotOf k t l ≡ b p .read (getD cs p 0)) where
       pub law-ended : k ≡ 0 → machine.next b (statusesOf n (set ms p 0) ts cs hs) ≡ machine.next b now
       law-ended d =
-          ap (machine.next b) (gone-set n ms ts cs hs p hp (hk, ht, hc, hl)) ∙ sym (rule-ended b now (f .0) p (f .1) (getD ts p 0) (getD cs p 0) (waits-at n ms ts cs hs p hp e) (sym g ∙ got-ended k t l d))
+          ap (machine.next b) (gone-set n ms ts cs hs p hp long) ∙ sym (rule-ended b now (f .0) p (f .1) (getD ts p 0) (getD cs p 0) (waits-at n ms ts cs hs p hp e) (sym g ∙ got-ended k t l d))
 
       pub law-damaged : k ≢ 0 → k < 4 → machine.next b now ≡ turn (says p (damage-at (getD cs p 0) k)) (statusesOf n (set ms p 0) ts cs hs)
       law-damaged d h =
           rule-damaged b now (f .0) p (f .1) (getD ts p 0) (getD cs p 0) k (waits-at n ms ts cs hs p hp e) (sym g ∙ got-damaged k t l d h)
-          ∙ ap (turn (says p (damage-at (getD cs p 0) k))) (sym (gone-set n ms ts cs hs p hp (hk, ht, hc, hl)))
+          ∙ ap (turn (says p (damage-at (getD cs p 0) k))) (sym (gone-set n ms ts cs hs p hp long))
 
       pub law-whole : 4 ≤ k → machine.next b (statusesOf n (set ms p 2) (set ts p t) cs (set hs p l)) ≡ machine.next b now
       unfolding recIn
       law-whole h =
-          ap (machine.next b) (stand-set n ms ts cs hs p hp (hk, ht, hc, hl) t l)
+          ap (machine.next b) (stand-set n ms ts cs hs p hp long t l)
           ∙ sym (rule-whole b now (f .0) p (f .1) (getD ts p 0) (getD cs p 0) (l % 65536) (l / 65536 % 65536) (l / 4294967296) t (waits-at n ms ts cs hs p hp e) (sym g ∙ got-whole k t l h))
 
       pub law-small : 4 ≤ k → getD cs p 0 + l % 65536 ≤ b p .size

@@ -84,7 +84,7 @@ module _ {b : ℕ → Stream} {held : ℕ} {ks₀ ts₀ cs₀ ls₀ hp₀ : List
           let fit : getD cs p 0 + getD hs p 0 % 65536 < 2 ^ 64 = ok .small p r in
           let m = enough n hn in
           rw (f fit) (heard-by (says p (record-at (getD cs p 0) (recIn (getD hs p 0) (getD ts p 0))))
-          (sym (x .same) ∙ law-record b n ms ts cs hs p (ch n hn ok) r (m .0) (m .1) (m .2) (m .3) d)
+          (sym (x .same) ∙ law-record b n ms ts cs hs p (ch n hn ok) r m d)
           (record {
             small = small-move n cs hs p (getD cs p 0 + getD hs p 0 % 65536) (omega (arith, m .2)) (omega (arith, m .3)) (ok .small) fit;
             heaped = record { holds = holds-kind p 1 (omega (arith, m .0)) (live n hn ok) (λ z. omega arith) (ok .heaped .holds); heap = ok .heaped .heap };
@@ -121,7 +121,7 @@ module _ {b : ℕ → Stream} {held : ℕ} {ks₀ ts₀ cs₀ ls₀ hp₀ : List
                   let m = enough n hn in
                   record {
                     sound = dropped n hn ok;
-                    same = law-ended b n ms ts cs hs p (ch n hn ok) (root n hn ok) (m .0) (m .1) (m .2) (m .3) w k t l got d ∙ x .same;
+                    same = law-ended b n ms ts cs hs p (ch n hn ok) (root n hn ok) m w k t l got d ∙ x .same;
                   };
             }
 
@@ -134,7 +134,7 @@ module _ {b : ℕ → Stream} {held : ℕ} {ks₀ ts₀ cs₀ ls₀ hp₀ : List
               let ok = x .sound in
               let m = enough n hn in
               heard-by (says p (damage-at (getD cs p 0) k))
-              (sym (x .same) ∙ law-damaged b n ms ts cs hs p (ch n hn ok) (root n hn ok) (m .0) (m .1) (m .2) (m .3) w k t l got d h)
+              (sym (x .same) ∙ law-damaged b n ms ts cs hs p (ch n hn ok) (root n hn ok) m w k t l got d h)
               (dropped n hn ok);
         }
 
@@ -154,7 +154,7 @@ module _ {b : ℕ → Stream} {held : ℕ} {ks₀ ts₀ cs₀ ls₀ hp₀ : List
                 let ok = x .sound in
                 let r : p < n = root n hn ok in
                 let m = enough n hn in
-                let fits : getD cs p 0 + l % 65536 ≤ b p .size = law-small b n ms ts cs hs p (ch n hn ok) r (m .0) (m .1) (m .2) (m .3) w k t l got h in
+                let fits : getD cs p 0 + l % 65536 ≤ b p .size = law-small b n ms ts cs hs p (ch n hn ok) r m w k t l got h in
                 record {
                   sound = record {
                     small = small-set n cs hs p l (omega (arith, m .3)) (ok .small) (omega (arith, fits));
@@ -163,6 +163,6 @@ module _ {b : ℕ → Stream} {held : ℕ} {ks₀ ts₀ cs₀ ls₀ hp₀ : List
                       heap = sf .heap (rw e (but-key n ms ts hp size t pos (ok .heaped)));
                     };
                   };
-                  same = law-whole b n ms ts cs hs p (ch n hn ok) r (m .0) (m .1) (m .2) (m .3) w k t l got h ∙ x .same;
+                  same = law-whole b n ms ts cs hs p (ch n hn ok) r m w k t l got h ∙ x .same;
                 };
           }
