@@ -8,12 +8,12 @@ use mathlib.Core.List.{List, [], _∷_}
 use lib.ListN.{length, getD, set, length-set, List·getD-eq-default}
 use lib.Seq.{getD-set-same, getD-set-other, ext-getD}
 use lib.Dec.{ltb}
-use Rattle.theory.specs.Fields.{putField, length-put, put-byte}
+use Rattle.theory.specs.Fields.{putField, length-put}
 use Rattle.theory.specs.RunsTools.{ltb-case}
 use Rattle.map_rules.specs.Table.{refusedBy, stored, ifRoom}
 use Rattle.map_point.specs.declared.entries.Entry.{Entry}
 use Rattle.map_point.specs.Entries.{putEntry, putEntries}
-use Rattle.map_point.specs.EntriesLaws.{length-putEntry, length-putEntries}
+use Rattle.map_point.specs.EntriesLaws.{length-putEntry, putEntry-byte, length-putEntries}
 use Rattle.map_point.specs.Points.{symbolFor, setEntry}
 use Rattle.map_point.specs.PointsLaws.{after, latest}
 use Rattle.metadata_rules.specs.Metadata.{Mapping, Metadata}
@@ -113,18 +113,12 @@ entry-agree b b′ k e x l h =
     (λ out. put-agree 4 b b′ (k * 8) (e .instrument) x l
     (λ out′. h (λ p q. apart (k * 8) (k * 8 + 4) x (k * 8 + 4 + 4) out′ out p (omega arith))))
 
-entry-outside : (b : List ℕ) (k : ℕ) (e : Entry) (x : ℕ) → (k * 8 ≤ x → x < k * 8 + 8 → ⊥) → getD (putEntry b k e) x 0 ≡ getD b x 0
-unfolding putEntry
-entry-outside b k e x out =
-    put-byte 4 (putField 4 b (k * 8) (e .instrument)) (k * 8 + 4) (e .symbol) x (λ p q. out (omega arith) (omega arith))
-    ∙ put-byte 4 b (k * 8) (e .instrument) x (λ p q. out (omega arith) (omega arith))
-
 entries-outside : (b : List ℕ) (k : ℕ) (es : List Entry) (x : ℕ) → (k * 8 ≤ x → x < (k + length es) * 8 → ⊥) → getD (putEntries b k es) x 0 ≡ getD b x 0
 unfolding putEntries
 entries-outside b k [] x out = refl
 entries-outside b k (e ∷ es) x out =
     entries-outside (putEntry b k e) (suc k) es x (λ p q. out (omega arith) (omega arith))
-    ∙ entry-outside b k e x (λ p q. out (omega arith) (omega arith))
+    ∙ putEntry-byte b k e x (λ p q. out (omega arith) (omega arith))
 
 -- two tables that differ at n places at most are one table once as many entries are laid over these
 put-over : (ys : List Entry) (b b′ : List ℕ) (k n : ℕ) → length b ≡ length b′ → ((x : ℕ) → (k * 8 ≤ x → x < (k + n) * 8 → ⊥) → getD b x 0 ≡ getD b′ x 0)

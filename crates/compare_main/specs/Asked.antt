@@ -6,9 +6,10 @@ use mathlib.Core.Bool.{Bool, true, false, not, cond}
 use mathlib.Core.List.{List}
 use lib.ListN.{length}
 use lib.Dec.{eqb}
+use Rattle.theory.specs.Bools.{true-T, false-T, fails, holds}
 use Rattle.theory.specs.RunsTools.{cond-yes, cond-no}
 use Rattle.theory.specs.Fields.{field}
-use borrow.Author.Tests.{eq-eqb, ne-eqb, not-true, not-false}
+use borrow.Author.Tests.{eq-eqb, ne-eqb}
 use Rattle.map_rules.specs.Memory.{width}
 use Rattle.map_compare_rules.specs.Memory.{compareFits, bothFormed}
 use Rattle.lines.specs.Asked.{tableEnd, between}
@@ -29,24 +30,26 @@ statusOf b =
 -- ---- laws
 
 module _ (left right : List ℕ) (names : ℕ) where
-  pub tables-unfit : {c : Bool} {r : ℕ} → c ≡ compareFits (length left) (length left / width) (length right) (length right / width) names 0 → not c ≡ true
-      → Ends 1 r → Ends (tablesStatus left right names) r
-  unfolding tablesStatus
-  tables-unfit e h s n = s n ∙ sym (cond-no (compareFits (length left) (length left / width) (length right) (length right / width) names 0) _ _ (rw (sym e ∙ not-true _ h) tt))
+  abbrev fits : Bool
+  fits = compareFits (length left) (length left / width) (length right) (length right / width) names 0
 
-  pub tables-told : {c f : Bool} {r : ℕ} → c ≡ compareFits (length left) (length left / width) (length right) (length right / width) names 0 → not c ≡ false
-      → f ≡ bothFormed left (length left / width) right (length right / width) names → f ≡ true → Ends 0 r → Ends (tablesStatus left right names) r
-  unfolding tablesStatus
-  tables-told e h g k s n =
-      s n ∙ sym (cond-yes (compareFits (length left) (length left / width) (length right) (length right / width) names 0) _ _ (rw (sym e ∙ not-false _ h) tt)
-      ∙ cond-yes (bothFormed left (length left / width) right (length right / width) names) _ _ (rw (sym g ∙ k) tt))
+  abbrev formed : Bool
+  formed = bothFormed left (length left / width) right (length right / width) names
 
-  pub tables-ill : {c f : Bool} {r : ℕ} → c ≡ compareFits (length left) (length left / width) (length right) (length right / width) names 0 → not c ≡ false
-      → f ≡ bothFormed left (length left / width) right (length right / width) names → f ≡ false → Ends 1 r → Ends (tablesStatus left right names) r
+  pub tables-unfit : {c : Bool} {r : ℕ} → c ≡ fits → not c ≡ true → Ends 1 r → Ends (tablesStatus left right names) r
   unfolding tablesStatus
-  tables-ill e h g k s n =
-      s n ∙ sym (cond-yes (compareFits (length left) (length left / width) (length right) (length right / width) names 0) _ _ (rw (sym e ∙ not-false _ h) tt)
-      ∙ cond-no (bothFormed left (length left / width) right (length right / width) names) _ _ (rw (sym g ∙ k) tt))
+  tables-unfit e h s n = s n ∙ sym (cond-no fits _ _ (false-T _ (fails e h)))
+
+  module _ {c f : Bool} (e : c ≡ fits) (h : not c ≡ false) (g : f ≡ formed) where
+    judged : tablesStatus left right names ≡ cond formed 0 1
+    unfolding tablesStatus
+    judged = cond-yes fits _ _ (true-T _ (holds e h))
+
+    pub tables-told : {r : ℕ} → f ≡ true → Ends 0 r → Ends (tablesStatus left right names) r
+    tables-told k s n = s n ∙ sym (judged ∙ cond-yes formed _ _ (true-T _ (sym g ∙ k)))
+
+    pub tables-ill : {r : ℕ} → f ≡ false → Ends 1 r → Ends (tablesStatus left right names) r
+    tables-ill k s n = s n ∙ sym (judged ∙ cond-no formed _ _ (false-T _ (sym g ∙ k)))
 
 module _ (b : List ℕ) where
   pub status-bad : {e r : ℕ} → e ≡ tableEnd 3145750 3 b → e ≡ 0 → Ends 1 r → Ends (statusOf b) r

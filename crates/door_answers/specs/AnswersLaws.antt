@@ -1,34 +1,26 @@
 -- What a match on an answer gives at the door, one law a case. Assumes nothing.
-use Prim.Native.Nat.{ℕ, zero, suc}
+use Prim.Native.Nat.{ℕ}
 use mathlib.Core.Path.{_≡_, refl, sym, ap, _∙_}
-use mathlib.Core.Logic.{_≢_}
 use mathlib.Core.Bool.{cond}
 use mathlib.Core.List.{List}
 use lib.Dec.{ltb}
 use lib.ListN.{length, getD}
 use Rattle.theory.specs.Answer.{Answer, answer}
-use Rattle.leaves.specs.Refusal.{numberOf, valuesOf, refused}
+use Rattle.leaves.specs.Refusal.{numberOf, refused}
 use Rattle.leaves.specs.declared.refusal.Refusal.{Refusal}
-use Rattle.leaves.specs.RefusalLaws.{refused-not-done}
+use Rattle.leaves.specs.RefusalLaws.{refused-all}
 use Rattle.door_answers.specs.Answers.{numberIn, valueIn, givenIn, damageIn, eitherIn}
 
 -- ---- a refusal
 
--- every refusal has a number of its own, so what was held stays
-pub refused-keeps : {X : Type 0} (f : Answer → X) (held : X) → ((n : ℕ) (values : List ℕ) → f (answer (suc n) values) ≡ held) → (r : Refusal) → f (refused r) ≡ held
-refused-keeps f held same r = go (numberOf r) (valuesOf r) (refused-not-done r)
-  where
-    go : (n : ℕ) (values : List ℕ) → n ≢ 0 → f (answer n values) ≡ held
-    go zero values h = absurd (h refl)
-    go (suc n) values h = same n values
-
+-- what was held stays
 pub refused-value : (r : Refusal) (held k : ℕ) → valueIn held k (refused r) ≡ held
 unfolding valueIn
-refused-value r held k = refused-keeps (valueIn held k) held (λ n values. refl) r
+refused-value r held k = refused-all (λ (a : Answer). valueIn held k a ≡ held) (λ n values. refl) r
 
 refused-given : (r : Refusal) (held k : ℕ) → givenIn held k (refused r) ≡ held
 unfolding givenIn
-refused-given r held k = refused-keeps (givenIn held k) held (λ n values. refl) r
+refused-given r held k = refused-all (λ (a : Answer). givenIn held k a ≡ held) (λ n values. refl) r
 
 -- ---- a match
 

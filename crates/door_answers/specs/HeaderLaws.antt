@@ -11,10 +11,11 @@ use lib.Seq.{paste, take-all}
 use native.Mathlib.Numerals.{add-one}
 use borrow.Author.Tests.{leb-true, lt-leb, le-leb}
 use Rattle.theory.specs.Bools.{and-left, and-right}
+use Rattle.theory.specs.Answer.{Answer}
 use Rattle.leaves.specs.Refusal.{refused}
+use Rattle.leaves.specs.RefusalLaws.{refused-all}
 use Rattle.leaves.specs.declared.refusal.Refusal.{Refusal}
 use Rattle.metadata_form.specs.declared.header.Header.{Header}
-use Rattle.door_answers.specs.AnswersLaws.{refused-keeps}
 use Rattle.door_answers.specs.Header.{widths, within, headerFits, headerOf, wordsIn}
 
 -- ---- words within their bounds
@@ -114,7 +115,7 @@ paste-whole d t n e h =
 
 -- ---- a refusal
 
--- every refusal has a number of its own, so the header stays
+-- the header stays
 pub refused-words : (r : Refusal) (held : List ℕ) → wordsIn held (refused r) ≡ held
 unfolding wordsIn
-refused-words r held = refused-keeps (wordsIn held) held (λ n values. refl) r
+refused-words r held = refused-all (λ (a : Answer). wordsIn held a ≡ held) (λ n values. refl) r

@@ -2,3 +2,5 @@ pub mod Answers
 pub mod AnswersLaws
 pub mod Header
 pub mod HeaderLaws
+pub mod Handing
+pub mod HandingLaws

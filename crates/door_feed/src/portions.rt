@@ -9,16 +9,8 @@ use feed::turns::Fed;
 use feed_window::portions::Added;
 use feed_window::portions::Ended;
 use leaves::refusal::number;
-ghost use mathlib.Core.Path.{_≡_};
-ghost use mathlib.Core.Bool.{true, false};
-ghost use mathlib.Core.List.{List};
-ghost use Prim.Native.Nat.{ℕ, _≤_};
-ghost use lib.ListN.{length};
-ghost use Rattle.feed_rules.specs.Windows.{addAnswer, endAnswer};
-ghost use Rattle.feed_rules.specs.Spans.{feedOf, FeedOk, feedArrays};
-ghost use Rattle.feed_rules.specs.Adding.{wordFits, portionFits, FeedAdds, FeedEnds};
-ghost use Rattle.door_answers.specs.Answers.{numberIn, valueIn};
-ghost use Rattle.door_feed.specs.Handing.{numbers, DeskFeedNext, DeskFeedOpen};
+ghost use Rattle.feed_rules.specs.Spans.{feedArrays};
+ghost use Rattle.door_feed.specs.Handing.{numbers, DeskFeedNext, DeskFeedOpen, DeskFeedBytes, DeskFeedEnd};
 
 // Opens so many streams of which nothing has come, each at its hint: 0, 15 or 12; `held` becomes the streams that the heap holds.
 #[no_mangle]
@@ -63,14 +55,8 @@ pub extern "C" fn desk_feed_bytes(
     window: &mut [u8],
     taken: &mut usize,
 ) -> u32
-    ensures { λ r. ⌜ (portionFits (length (now (marks .entry))) (length (now (places .entry))) (length (now (heads .entry))) (length (now (spans .entry))) (length (now (window .entry))) ≡ false
-        → (r ≡ 15) × (now (taken .exit) ≡ now (taken .entry)) × (now (window .exit) ≡ now (window .entry)) × (now (spans .exit) ≡ now (spans .entry))) ⌝ }
-    ensures { λ r. ⌜ (portionFits (length (now (marks .entry))) (length (now (places .entry))) (length (now (heads .entry))) (length (now (spans .entry))) (length (now (window .entry))) ≡ true
-        → (n held : ℕ) (ts hp : List ℕ) → n ≤ 256 → FeedOk n held (now (marks .entry)) ts (now (places .entry)) (now (heads .entry)) hp (now (spans .entry))
-        → (r ≡ numberIn (addAnswer (feedOf n (now (window .entry)) (now (marks .entry)) ts (now (places .entry)) (now (heads .entry)) (now (spans .entry))) stream (now (portion .entry))))
-        × (now (taken .exit) ≡ valueIn (now (taken .entry)) 0 (addAnswer (feedOf n (now (window .entry)) (now (marks .entry)) ts (now (places .entry)) (now (heads .entry)) (now (spans .entry))) stream (now (portion .entry))))
-        × FeedAdds n held (now (window .entry)) (now (marks .entry)) ts (now (places .entry)) (now (heads .entry)) hp (now (spans .entry)) stream (now (portion .entry))
-        (addAnswer (feedOf n (now (window .entry)) (now (marks .entry)) ts (now (places .entry)) (now (heads .entry)) (now (spans .entry))) stream (now (portion .entry))) (now (window .exit)) (now (spans .exit))) ⌝ }
+    ensures { λ r. ⌜ DeskFeedBytes (now (window .entry)) (now (marks .entry)) (now (places .entry)) (now (heads .entry)) (now (spans .entry)) stream (now (portion .entry))
+        (now (taken .entry)) r (now (taken .exit)) (now (window .exit)) (now (spans .exit)) ⌝ }
 {
     let added = feed_window::portions::add(stream, portion, marks, places, heads, spans, window);
     match added {
@@ -85,12 +71,7 @@ pub extern "C" fn desk_feed_bytes(
 // Says that a stream has ended: 0, 15 or 12.
 #[no_mangle]
 pub extern "C" fn desk_feed_end(stream: u64, marks: &[u8], spans: &mut [u64]) -> u32
-    ensures { λ r. ⌜ (wordFits (length (now (marks .entry))) (length (now (spans .entry))) ≡ false → (r ≡ 15) × (now (spans .exit) ≡ now (spans .entry))) ⌝ }
-    ensures { λ r. ⌜ (wordFits (length (now (marks .entry))) (length (now (spans .entry))) ≡ true
-        → (n held : ℕ) (window ts cs hs hp : List ℕ) → n ≤ 256 → FeedOk n held (now (marks .entry)) ts cs hs hp (now (spans .entry))
-        → (r ≡ numberIn (endAnswer (feedOf n window (now (marks .entry)) ts cs hs (now (spans .entry))) stream))
-        × FeedEnds n held window (now (marks .entry)) ts cs hs hp (now (spans .entry)) stream
-        (endAnswer (feedOf n window (now (marks .entry)) ts cs hs (now (spans .entry))) stream) (now (spans .exit))) ⌝ }
+    ensures { λ r. ⌜ DeskFeedEnd (now (marks .entry)) (now (spans .entry)) stream r (now (spans .exit)) ⌝ }
 {
     let ended = feed_window::portions::end(stream, marks, spans);
     match ended {

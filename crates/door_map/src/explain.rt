@@ -4,8 +4,8 @@ use map_explain::explain::Explained;
 use map_explain::explain::Named;
 ghost use mathlib.Core.Path.{_≡_};
 ghost use Rattle.map_explain.specs.Explain.{explainAnswer, explainedOf};
-ghost use Rattle.door_answers.specs.Answers.{numberIn, valueIn};
-ghost use Rattle.door_map.specs.Lent.{handedOf, numbersIn};
+ghost use Rattle.door_answers.specs.Answers.{numberIn};
+ghost use Rattle.door_map.specs.Lent.{handedOf, numbersIn, lent, DeskExplain};
 
 // The reasons' numbers.
 const IN: u32 = 1;
@@ -93,15 +93,9 @@ pub extern "C" fn desk_explain(
     next_end: &mut u64,
     next_symbol: &mut u32,
 ) -> u32
-    ensures { λ r. ⌜ r ≡ numberIn (explainAnswer (now (table .entry)) used names instrument moment) ⌝ }
-    ensures { λ _. ⌜ now (reason .exit) ≡ valueIn (now (reason .entry)) 0 (explainAnswer (now (table .entry)) used names instrument moment) ⌝ }
-    ensures { λ _. ⌜ now (index .exit) ≡ valueIn (now (index .entry)) 1 (explainAnswer (now (table .entry)) used names instrument moment) ⌝ }
-    ensures { λ _. ⌜ now (start .exit) ≡ valueIn (now (start .entry)) 2 (explainAnswer (now (table .entry)) used names instrument moment) ⌝ }
-    ensures { λ _. ⌜ now (end .exit) ≡ valueIn (now (end .entry)) 3 (explainAnswer (now (table .entry)) used names instrument moment) ⌝ }
-    ensures { λ _. ⌜ now (symbol .exit) ≡ valueIn (now (symbol .entry)) 4 (explainAnswer (now (table .entry)) used names instrument moment) ⌝ }
-    ensures { λ _. ⌜ now («next_start» .exit) ≡ valueIn (now («next_start» .entry)) 6 (explainAnswer (now (table .entry)) used names instrument moment) ⌝ }
-    ensures { λ _. ⌜ now («next_end» .exit) ≡ valueIn (now («next_end» .entry)) 7 (explainAnswer (now (table .entry)) used names instrument moment) ⌝ }
-    ensures { λ _. ⌜ now («next_symbol» .exit) ≡ valueIn (now («next_symbol» .entry)) 8 (explainAnswer (now (table .entry)) used names instrument moment) ⌝ }
+    ensures { λ r. ⌜ DeskExplain (explainAnswer (now (table .entry)) used names instrument moment) r
+        (lent (now (reason .entry)) (now (index .entry)) (now (start .entry)) (now (end .entry)) (now (symbol .entry)) (now («next_start» .entry)) (now («next_end» .entry)) (now («next_symbol» .entry)))
+        (lent (now (reason .exit)) (now (index .exit)) (now (start .exit)) (now (end .exit)) (now (symbol .exit)) (now («next_start» .exit)) (now («next_end» .exit)) (now («next_symbol» .exit))) ⌝ }
 {
     let explained = map_explain::explain::explain(table, used, names, instrument, moment);
     let number = number_of(explained);

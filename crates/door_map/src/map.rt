@@ -12,10 +12,11 @@ ghost use mathlib.Core.Bool.{true, not, _||_};
 ghost use lib.ListN.{length};
 ghost use lib.Dec.{T};
 ghost use Rattle.map_rules.specs.Table.{ordered};
-ghost use Rattle.map_rules.specs.Memory.{sameValue, rows, tableFits, checkAnswer, insertOutcome, outcomeAnswer, memoryAfter};
+ghost use Rattle.map_rules.specs.Memory.{sameValue, rows, tableFits, checkAnswer, insertOutcome};
 ghost use Rattle.map_rules.specs.Looks.{lookupAnswer};
 ghost use Rattle.map_record.specs.Mapping.{timeLeft};
 ghost use Rattle.door_answers.specs.Answers.{numberIn, valueIn, givenIn, row};
+ghost use Rattle.door_map.specs.Inserting.{DeskInsert};
 ghost use Rattle.door_map.specs.OnRecord.{Tells};
 
 // Whether the table is well-formed: 0, 14 or 15.
@@ -30,7 +31,7 @@ pub extern "C" fn desk_check(table: &[u8], used: usize, names: usize) -> u32
     }
 }
 
-// Inserts a symbol for an instrument from start to before end: 0, 15, 14, 1, 3 or 2; `used` becomes the new number in use.
+// DeskInsert a symbol for an instrument from start to before end: 0, 15, 14, 1, 3 or 2; `used` becomes the new number in use.
 #[no_mangle]
 pub extern "C" fn desk_insert(
     table: &mut [u8],
@@ -41,9 +42,8 @@ pub extern "C" fn desk_insert(
     end: u64,
     symbol: u32,
 ) -> u32
-    ensures { λ r. ⌜ r ≡ numberIn (outcomeAnswer (insertOutcome (now (table .entry)) (now (used .entry)) names (row instrument start end symbol))) ⌝ }
-    ensures { λ _. ⌜ now (used .exit) ≡ valueIn (now (used .entry)) 0 (outcomeAnswer (insertOutcome (now (table .entry)) (now (used .entry)) names (row instrument start end symbol))) ⌝ }
-    ensures { λ _. ⌜ now (table .exit) ≡ memoryAfter (now (table .entry)) (now (used .entry)) (insertOutcome (now (table .entry)) (now (used .entry)) names (row instrument start end symbol)) ⌝ }
+    ensures { λ r. ⌜ DeskInsert (insertOutcome (now (table .entry)) (now (used .entry)) names (row instrument start end symbol))
+        (now (table .entry)) (now (used .entry)) r (now (used .exit)) (now (table .exit)) ⌝ }
 {
     let interval = Interval {
         instrument,

@@ -8,7 +8,8 @@ use Rattle.records_rules.specs.Machine.{Stream}
 use Rattle.records_rules.specs.Machine as machine
 use Rattle.records_rules.specs.View.{statusesOf}
 use Rattle.records_rules.specs.State.{answerOf, Arrays, fitIn, SoundIn, SaysIn, openAnswer, OpenSays}
-use Rattle.door_answers.specs.Answers.{numberIn, valueIn, givenIn, damageIn, eitherIn}
+use Rattle.door_answers.specs.Answers.{numberIn, valueIn, givenIn}
+use Rattle.door_answers.specs.Handing.{RecordNumbers, recordNumbers, RecordHanded}
 
 -- what a call answers where n streams stand so: what the machine's `next` does
 abbrev pub turnAnswer : (ℕ → Stream) → ℕ → List ℕ → List ℕ → List ℕ → List ℕ → Answer
@@ -17,30 +18,17 @@ turnAnswer b n marks times places heads = answerOf (machine.answer (machine.next
 -- the lent numbers of a call
 pub record Numbers : Type 0 where
   pub found : ℕ
-  pub stream : ℕ
-  pub place : ℕ
-  pub long : ℕ
-  pub kind : ℕ
-  pub instrument : ℕ
-  pub time : ℕ
-  pub reason : ℕ
+  pub rest : RecordNumbers
 
 abbrev pub numbers : ℕ → ℕ → ℕ → ℕ → ℕ → ℕ → ℕ → ℕ → Numbers
 numbers found stream place long kind instrument time reason =
-    record { found = found; stream = stream; place = place; long = long; kind = kind; instrument = instrument; time = time; reason = reason }
+    record { found = found; rest = recordNumbers stream place long kind instrument time reason }
 
 -- a call with this answer returned r, and left these in the lent numbers: a record's are those of the answer, the end's 0; of these 13
 -- sets stream, place and reason alone, and 15 none; what is held is the state's
 pub record Handed (x : Answer) (r : ℕ) (o o′ : Numbers) : Type 0 where
-  pub returns : r ≡ numberIn x
   pub finds : o′ .found ≡ givenIn (o .found) 0 x
-  pub streams : o′ .stream ≡ eitherIn (o .stream) 0 x
-  pub places : o′ .place ≡ eitherIn (o .place) 1 x
-  pub lengths : o′ .long ≡ valueIn (o .long) 2 x
-  pub kinds : o′ .kind ≡ valueIn (o .kind) 3 x
-  pub instruments : o′ .instrument ≡ valueIn (o .instrument) 4 x
-  pub times : o′ .time ≡ valueIn (o .time) 5 x
-  pub reasons : o′ .reason ≡ damageIn (o .reason) 2 x
+  pub hands : RecordHanded 2 x r (o .rest) (o′ .rest)
 
 -- `desk_next`, which returned r: 15 and nothing changed where what is lent is not right; else what the machine says
 pub record DeskNext (b : ℕ → Stream) (held : ℕ) (a : Arrays) (o : Numbers) (r held' : ℕ) (a' : Arrays) (o′ : Numbers) : Type 0 where

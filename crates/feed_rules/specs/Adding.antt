@@ -3,11 +3,11 @@ use mathlib.Core.Path.{_≡_}
 use mathlib.Core.Logic.{_≢_}
 use Prim.Native.Nat.{ℕ, _+_, _-_, _*_, _/_, _%_, _<_, _≤_, _^_, min}
 use mathlib.Core.Bool.{Bool, true, false, not, cond, _&&_, _||_}
-use mathlib.Core.List.{List}
+use mathlib.Core.List.{List, []}
 use lib.ListN.{length, getD, set, drop}
 use lib.Seq.{paste}
 use lib.Dec.{eqb, ltb, leb}
-use Rattle.theory.specs.Answer.{Answer}
+use Rattle.theory.specs.Answer.{Answer, answer}
 use Rattle.records_rules.specs.State.{arraysFit, opening}
 use Rattle.feed_rules.specs.Windows.{opened, closed, taking, addAnswer, addLeaves, endAnswer, endLeaves, Alike}
 use Rattle.feed_rules.specs.Spans.{counts, feedOf, FeedOk, FeedArrays}
@@ -59,6 +59,12 @@ pub record FeedAdds (n held : ℕ) (window ms ts cs hs hp ps : List ℕ) (p : �
       → (window' ≡ laidWindow window p (getD ps p 0) xs (taking (length xs) (feedOf n window ms ts cs hs ps .kept p)))
       × (ps' ≡ laidSpans ps p (taking (length xs) (feedOf n window ms ts cs hs ps .kept p)))
 
+-- `add`: 15 and nothing changed where what is lent is not right; else that, on a sound state
+pub record AddGives (window ms cs hs ps : List ℕ) (p : ℕ) (xs : List ℕ) (x : Answer) (window' ps' : List ℕ) : Type 0 where
+  pub refused : portionFits (length ms) (length cs) (length hs) (length ps) (length window) ≡ false → (x ≡ answer 15 []) × (window' ≡ window) × (ps' ≡ ps)
+  pub says : portionFits (length ms) (length cs) (length hs) (length ps) (length window) ≡ true
+      → (n held : ℕ) (ts hp : List ℕ) → n ≤ 256 → FeedOk n held ms ts cs hs hp ps → FeedAdds n held window ms ts cs hs hp ps p xs x window' ps'
+
 -- ---- the word that a stream has ended
 
 pub record FeedEnds (n held : ℕ) (window ms ts cs hs hp ps : List ℕ) (p : ℕ) (x : Answer) (ps' : List ℕ) : Type 0 where
@@ -67,6 +73,12 @@ pub record FeedEnds (n held : ℕ) (window ms ts cs hs hp ps : List ℕ) (p : �
   pub sound : FeedOk n held ms ts cs hs hp ps'
   pub refused : closed (feedOf n window ms ts cs hs ps) p ≡ true → ps' ≡ ps
   pub spans : (q : ℕ) → q ≢ p → getD ps' q 0 ≡ getD ps q 0
+
+-- `end`: 15 and nothing changed where what is lent is not right; else that, on a sound state, whatever the window holds
+pub record EndGives (ms ps : List ℕ) (p : ℕ) (x : Answer) (ps' : List ℕ) : Type 0 where
+  pub refused : wordFits (length ms) (length ps) ≡ false → (x ≡ answer 15 []) × (ps' ≡ ps)
+  pub says : wordFits (length ms) (length ps) ≡ true
+      → (n held : ℕ) (window ts cs hs hp : List ℕ) → n ≤ 256 → FeedOk n held ms ts cs hs hp ps → FeedEnds n held window ms ts cs hs hp ps p x ps'
 
 -- ---- an opening
 

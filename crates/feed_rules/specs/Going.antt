@@ -17,6 +17,7 @@ use Rattle.leaves.specs.FrameLaws.{found-ended, found-damaged, found-whole}
 use Rattle.records_rules.specs.Machine.{Status, gone}
 use Rattle.records_rules.specs.View.{statusOf, statusesOf, status-at}
 use Rattle.records_rules.specs.State.{gotOf}
+use Rattle.records_rules.specs.StateLaws.{room-kept}
 use Rattle.feed_rules.specs.Partial.{Turn⁺, next⁺, rest⁺}
 use Rattle.feed_rules.specs.Windows.{Kept, knownIn, from, Feed, counted, keptBy}
 use Rattle.feed_rules.specs.Windows.{turnIn, turnLeaves, nextLeaves, turnAnswer, nextAnswer, Alike}
@@ -75,15 +76,7 @@ pub record Going⁺ (window : List ℕ) (held : ℕ) (ms₀ ts₀ cs₀ hs₀ hp
 pub going-room : {window : List ℕ} {held : ℕ} {ms₀ ts₀ cs₀ hs₀ hp₀ ps₀ : List ℕ} {size : ℕ} {ms ts cs hs hp ps : List ℕ}
     → Going⁺ window held ms₀ ts₀ cs₀ hs₀ hp₀ ps₀ size ms ts cs hs hp ps → FeedRoom held ms₀ ts₀ cs₀ hs₀ hp₀ ps₀
     → FeedRoom size ms ts cs hs hp ps
-going-room g r = (
-  omega (arith, r .0, g .few),
-  omega (arith, r .1, g .marks),
-  omega (arith, r .2, g .times),
-  omega (arith, r .3, g .places),
-  omega (arith, r .4, g .heads),
-  omega (arith, r .5, g .heap),
-  omega (arith, r .6, g .spans),
-)
+going-room g r = (room-kept (r .0) (g .few) (g .marks) (g .times) (g .places) (g .heads) (g .heap), omega (arith, r .1, g .spans))
 
 from-base : (x : Kept) → x ≡ from (x .base) x
 unfolding from

@@ -20,6 +20,7 @@ use Rattle.records_rules.specs.Least.{LeastOk, least-ok}
 use Rattle.records_rules.specs.Kept.{inside}
 use Rattle.records_rules.specs.Bytes.{bytesOf}
 use Rattle.records_rules.specs.State.{padded}
+use Rattle.feed_rules.specs.PartialLaws.{next-agrees}
 use Rattle.feed_rules.specs.Partial.{Step⁺, moved, wants, found⁺, chosen⁺, stepAt⁺, step⁺, Turn⁺}
 use Rattle.feed_rules.specs.Partial.{replies, needs, onward⁺, nextF⁺, next⁺, rest⁺}
 use Rattle.feed_rules.specs.Windows.{Kept, knownIn, Feed, known, put, opened, isGone, closed}
@@ -112,43 +113,15 @@ module _ (k : ℕ → ℕ → Option Read) where
   rest-alive ss (replies end ss') z = z
   rest-alive ss (needs p ss') z = z
 
--- what is known of other streams does not matter
-module _ (k k' : ℕ → ℕ → Option Read) where
-  agree-F : (f : ℕ) (ss : List Status) → ((p a : ℕ) → Alive ss p → k p a ≡ k' p a) → nextF⁺ f k ss ≡ nextF⁺ f k' ss
-  unfolding nextF⁺ onward⁺ step⁺ stepAt⁺ chosen⁺
-  agree-F zero ss h = refl
-  agree-F (suc f) ss h = ap (onward⁺ (λ l. nextF⁺ f k l) ss) same ∙ go (step⁺ k' ss) (step-alive k' ss) (λ ss' i. agree-F f ss' i)
-    where
-      on : (p : ℕ) (s : Status) → getD ss p gone ≡ s → chosen⁺ k ss p s ≡ chosen⁺ k' ss p s
-      on p (waiting t a) e =
-          ap (found⁺ ss p a) (h p a (λ z. let i : waiting t a ≡ gone = sym e ∙ z in let y : _≡_ {A = ℕ} 0 1 = cc in absurd (omega arith)))
-      on p (standing a r) e = refl
-      on p gone e = refl
-
-      pick : (r : First) → stepAt⁺ k ss r ≡ stepAt⁺ k' ss r
-      pick nobody = refl
-      pick (first t p) = on p (getD ss p gone) refl
-
-      same : step⁺ k ss ≡ step⁺ k' ss
-      same = pick (least ss)
-
-      go : (s : Step⁺) → StepAlive ss s
-          → ((ss' : List Status) → ((p a : ℕ) → Alive ss' p → k p a ≡ k' p a) → nextF⁺ f k ss' ≡ nextF⁺ f k' ss')
-          → onward⁺ (λ l. nextF⁺ f k l) ss s ≡ onward⁺ (λ l. nextF⁺ f k' l) ss s
-      go (wants p) z ih = refl
-      go (moved (done x ss')) z ih = refl
-      go (moved (again ss')) z ih = ih ss' (λ p a d. h p a (z p d))
-
-  agree : (ss : List Status) → ((p a : ℕ) → Alive ss p → k p a ≡ k' p a) → next⁺ k ss ≡ next⁺ k' ss
-  unfolding next⁺
-  agree ss h = agree-F (suc (length ss)) ss h
-
 -- ---- states alike answer alike, and stay alike
 
 by-status : {X : Type 0} (s : Status) → (s ≡ gone → X) → (s ≢ gone → X) → X
 by-status (waiting t a) f g = g (λ i. let y : _≡_ {A = ℕ} 0 1 = cc in absurd (omega arith))
 by-status (standing a r) f g = g (λ i. let y : _≡_ {A = ℕ} 0 1 = cc in absurd (omega arith))
 by-status gone f g = f refl
+
+waits-alive : {s : Status} {t a : ℕ} → s ≡ waiting t a → s ≢ gone
+waits-alive {t = t} {a = a} e z = let i : waiting t a ≡ gone = sym e ∙ z in let y : _≡_ {A = ℕ} 0 1 = cc in omega arith
 
 shut-gone : (F : Feed) (p : ℕ) → getD (F .statuses) p gone ≡ gone → closed F p ≡ true
 unfolding closed isGone
@@ -158,7 +131,7 @@ module _ (F G : Feed) (s : Alike F G) where
   same-turn : turnIn F ≡ turnIn G
   same-turn =
       ap (next⁺ (known F)) (s .statuses)
-      ∙ agree (known F) (known G) (G .statuses) (λ p a d. ap (λ (x : Kept). knownIn x a) (s .kept p d))
+      ∙ next-agrees (known F) (known G) (G .statuses) (λ p t a e. ap (λ (x : Kept). knownIn x a) (s .kept p (waits-alive e)))
 
   same-next : Alike (nextLeaves F) (nextLeaves G)
   unfolding nextLeaves turnLeaves

@@ -7,20 +7,21 @@ use mathlib.Core.Bool.{Bool, true, false, not, cond, _||_}
 use mathlib.Core.Option.{Option, none, some}
 use mathlib.Core.List.{List, [], _∷_, _++_, append-nil}
 use lib.ListN.{length, getD}
-use lib.Dec.{T, ltb}
+use lib.Dec.{ltb}
 use mir.Facts.{ltb-yes, ltb-no}
+use Rattle.theory.specs.RunsTools.{cond-case}
 use Rattle.theory.specs.Fields.{field}
 use Rattle.leaves.specs.Frame.{Read, damaged, recordAt, frameAt}
 use Rattle.records_rules.specs.Machine.{Stream, Status, waiting, gone, first}
 use Rattle.records_rules.specs.Machine.{Answer, says, end, done, again, Turn, turn, next}
 use Rattle.records_rules.specs.Machine.{answer, rest, answersF, upTo, untilEnd, runF, start}
-use Rattle.records_rules.specs.Least.{cond-case, LeastOk, least-ok}
+use Rattle.records_rules.specs.Least.{LeastOk, least-ok}
 use Rattle.records_rules.specs.Kept.{waits}
-use Rattle.records_rules.specs.Bytes.{bytesOf}
+use Rattle.records_rules.specs.Bytes.{neither, bytesOf}
 use Rattle.records_rules.specs.Whole.{Ends, allFrom, all-step, run, run-all}
 use Rattle.feed_rules.specs.Partial.{Part, soFar, knownAt, Step⁺, moved, wants, step⁺, Turn⁺, replies, needs, onward⁺, nextF⁺, next⁺}
 use Rattle.feed_rules.specs.Partial.{Knows, Heard, Reads, here, onto, Wants}
-use Rattle.feed_rules.specs.PartialLaws.{heard-are, grown, StepOk⁺, step-ok⁺, next-again⁺, rule-wants⁺}
+use Rattle.feed_rules.specs.PartialLaws.{never-some, heard-are, grown, StepOk⁺, step-ok⁺, next-again⁺, rule-wants⁺}
 
 -- ---- exactly when
 
@@ -77,9 +78,6 @@ pub known-over : (s : Part) (a : ℕ) → s .over ≡ true → knownAt s a ≡ s
 unfolding knownAt
 known-over s a e = rw e refl
 
-not-none : {X : Type 0} {r : Read} → none ≡ some r → X
-not-none e = let z : _≡_ {A = ℕ} 0 1 = cc in absurd (omega arith)
-
 -- where what stands before each stream that waits is known, nothing more is needed
 pub never-needs : (k : ℕ → ℕ → Option Read) (ss : List Status) → ((p t a : ℕ) → getD ss p gone ≡ waiting t a → k p a ≡ none → ⊥)
     → (p : ℕ) (ss' : List Status) → next⁺ k ss ≡ needs p ss' → ⊥
@@ -92,27 +90,19 @@ never-needs k ss h p ss' e =
 pub no-needs : (s : ℕ → Part) (ss : List Status) → ((p t a : ℕ) → getD ss p gone ≡ waiting t a → s p .over ≡ true)
     → (p : ℕ) (ss' : List Status) → next⁺ (λ q a. knownAt (s q) a) ss ≡ needs p ss' → ⊥
 no-needs s ss h =
-    never-needs (λ q a. knownAt (s q) a) ss (λ p t a w u. not-none (sym u ∙ known-over (s p) a (h p t a w)))
+    never-needs (λ q a. knownAt (s q) a) ss (λ p t a w u. never-some (sym u ∙ known-over (s p) a (h p t a w)))
 
 -- ---- room
-
-neither : (x y : Bool) → T (not (x || y)) → T (not x) × T (not y)
-neither true y h = absurd h
-neither false true h = absurd h
-neither false false h = (tt, tt)
-
-not-some : {X : Type 0} {r : Read} → some r ≡ none → X
-not-some e = let z : _≡_ {A = ℕ} 0 1 = cc in absurd (omega arith)
 
 -- where it is not known what stands there, fewer than a longest record's bytes are left
 pub few-left : (left size : ℕ) (r : Read) → soFar left size r ≡ none → left < 1024
 unfolding soFar
 few-left left size r =
     cond-case P (ltb left 16) none _ (λ c e. let h : left < 16 = ltb-yes c in omega arith)
-    (λ c. cond-case P (ltb size 16 || ltb 1024 size) (some (damaged 2)) _ (λ d e. not-some e)
+    (λ c. cond-case P (ltb size 16 || ltb 1024 size) (some (damaged 2)) _ (λ d e. never-some (sym e))
     (λ d. cond-case P (ltb left size) none (some r)
     (λ f e. let h : left < size = ltb-yes f in let g : size ≤ 1024 = ltb-no (neither (ltb size 16) (ltb 1024 size) d .1) in omega arith)
-    (λ f e. not-some e)))
+    (λ f e. never-some (sym e))))
   where
     P : Option Read → Type 0
     P o = o ≡ none → left < 1024
@@ -124,7 +114,7 @@ unknown s a = go (s .over)
   where
     go : (o : Bool) → cond o (some (frameAt (s .bytes) a)) (soFar (length (s .bytes) - a) (field 2 (s .bytes) a) (recordAt (s .bytes) a)) ≡ none
         → (o ≡ false) × (length (s .bytes) - a < 1024)
-    go true e = not-some e
+    go true e = never-some (sym e)
     go false e = (refl, few-left (length (s .bytes) - a) (field 2 (s .bytes) a) (recordAt (s .bytes) a) e)
 
 -- no deadlock: who is asked for more waits, has not been ended, and has fewer than 1,024 bytes that are still to be read

@@ -11,14 +11,16 @@ use lib.ListN.{length, getD, set, length-append, List·getD-append}
 use lib.Seq.{getD-set-same, getD-set-other}
 use lib.Dec.{T, ltb}
 use mir.Facts.{ltb-yes, ltb-no}
+use Rattle.theory.specs.RunsTools.{cond-case}
 use Rattle.theory.specs.Fields.{field, field-same}
 use Rattle.leaves.specs.Frame.{Read, whole, ended, damaged, recordAt, frameAt}
 use Rattle.leaves.specs.FrameLaws.{judged-low, judged-high, judged-whole}
+use Rattle.records_rules.specs.Bytes.{neither}
 use Rattle.records_rules.specs.Machine.{Rec, rec, Stream, record-at, damage-at}
 use Rattle.records_rules.specs.Machine.{Status, waiting, standing, gone, key, First, nobody, first, least}
 use Rattle.records_rules.specs.Machine.{Answer, says, end, Step, done, again, afterRead, chosen, stepAt, step}
 use Rattle.records_rules.specs.Machine.{Turn, turn, onward, nextF, next, answer, rest, answersF}
-use Rattle.records_rules.specs.Least.{cond-case, IsFirst, LeastOk, least-ok, least-is, least-none}
+use Rattle.records_rules.specs.Least.{IsFirst, LeastOk, least-ok, least-is, least-none}
 use Rattle.records_rules.specs.Kept.{inside, unread, waits, waits-le, waits-less}
 use Rattle.records_rules.specs.Rules.{next-again}
 use Rattle.feed_rules.specs.Partial.{soFar, Step⁺, moved, wants, found⁺, chosen⁺, stepAt⁺, step⁺}
@@ -102,13 +104,8 @@ heard-are {b} {ss} {xs} (need {ss' = ss'} {p = p} k n e m) =
 some-one : {x y : Read} → some x ≡ some y → x ≡ y
 some-one e = cc
 
-never-some : {X : Type 0} {r : Read} → none ≡ some r → X
+pub never-some : {X : Type 0} {r : Read} → none ≡ some r → X
 never-some e = let z : _≡_ {A = ℕ} 0 1 = cc in absurd (omega arith)
-
-neither : (x y : Bool) → T (not (x || y)) → T (not x) × T (not y)
-neither true y h = absurd h
-neither false true h = absurd h
-neither false false h = (tt, tt)
 
 module _ (s t : List ℕ) (a : ℕ) where
   grown-field : (w d : ℕ) → a + d + w ≤ length s → field w (s ++ t) (a + d) ≡ field w s (a + d)
@@ -296,3 +293,31 @@ module _ (k : ℕ → ℕ → Option Read) (ss : List Status) where
         → next⁺ k ss ≡ next⁺ k (set ss p (standing a (rec l κ ι u)))
     unfolding found⁺ afterRead
     rule-whole⁺ h a l κ ι u e d = next-again⁺ (set ss p (standing a (rec l κ ι u))) (reading⁺ h a e (some (whole l κ ι u)) d)
+
+-- a call reads at the places where streams wait, and nowhere else
+agree-F : (k k' : ℕ → ℕ → Option Read) (f : ℕ) (ss : List Status)
+    → ((p t a : ℕ) → getD ss p gone ≡ waiting t a → k p a ≡ k' p a) → nextF⁺ f k ss ≡ nextF⁺ f k' ss
+unfolding nextF⁺ onward⁺ step⁺ stepAt⁺ chosen⁺
+agree-F k k' zero ss h = refl
+agree-F k k' (suc f) ss h =
+    ap (onward⁺ (λ l. nextF⁺ f k l) ss) (pick (least ss)) ∙ go (step⁺ k' ss) (step-ok⁺ k' ss) (λ ss' i. agree-F k k' f ss' i)
+  where
+    on : (p : ℕ) (s : Status) → getD ss p gone ≡ s → chosen⁺ k ss p s ≡ chosen⁺ k' ss p s
+    on p (waiting t a) e = ap (found⁺ ss p a) (h p t a e)
+    on p (standing a r) e = refl
+    on p gone e = refl
+
+    pick : (r : First) → stepAt⁺ k ss r ≡ stepAt⁺ k' ss r
+    pick nobody = refl
+    pick (first t p) = on p (getD ss p gone) refl
+
+    go : (s : Step⁺) → StepOk⁺ k' ss s
+        → ((ss' : List Status) → ((p t a : ℕ) → getD ss' p gone ≡ waiting t a → k p a ≡ k' p a) → nextF⁺ f k ss' ≡ nextF⁺ f k' ss')
+        → onward⁺ (λ l. nextF⁺ f k l) ss s ≡ onward⁺ (λ l. nextF⁺ f k' l) ss s
+    go (wants p) z ih = refl
+    go (moved (done x ss')) z ih = refl
+    go (moved (again ss')) z ih = ih ss' (λ p t a e. h p t a (z .still p t a e))
+
+pub next-agrees : (k k' : ℕ → ℕ → Option Read) (ss : List Status) → ((p t a : ℕ) → getD ss p gone ≡ waiting t a → k p a ≡ k' p a) → next⁺ k ss ≡ next⁺ k' ss
+unfolding next⁺
+next-agrees k k' ss h = agree-F k k' (suc (length ss)) ss h

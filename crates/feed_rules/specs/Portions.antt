@@ -12,9 +12,9 @@ use lib.Seq.{slice, take-nil, take-append-le, drop-append-le, drop-drop}
 use lib.Dec.{eqb}
 use mir.Facts.{eqb-yes}
 use borrow.Author.Tests.{eq-eqb}
+use Rattle.theory.specs.RunsTools.{cond-case}
 use Rattle.records_rules.specs.Machine.{record-at, Status, waiting, standing, gone, says, answersF, start}
 use Rattle.records_rules.specs.Machine as machine
-use Rattle.records_rules.specs.Least.{cond-case}
 use Rattle.records_rules.specs.Bytes.{bytesOf}
 use Rattle.records_rules.specs.Whole.{Ends, run}
 use Rattle.records_rules.specs.State.{padded}

@@ -14,7 +14,7 @@ use Rattle.theory.specs.Answer.{Answer, answer}
 use Rattle.leaves.specs.Frame.{Read}
 use Rattle.records_rules.specs.Heap.{at}
 use Rattle.records_rules.specs.View.{statusesOf}
-use Rattle.records_rules.specs.State.{arraysFit, gotOf, StateOk}
+use Rattle.records_rules.specs.State.{arraysFit, Room, gotOf, StateOk}
 use Rattle.feed_rules.specs.Partial.{part, knownAt}
 use Rattle.feed_rules.specs.Windows.{Kept, Feed, nextLeaves, nextAnswer, Alike}
 
@@ -96,7 +96,7 @@ feedFits held marks times places heads heap spans window = arraysFit held marks 
 -- what the inner functions need of what is lent
 abbrev pub FeedRoom : ℕ → List ℕ → List ℕ → List ℕ → List ℕ → List ℕ → List ℕ → Type 0
 FeedRoom held ms ts cs hs hp ps =
-    (held ≤ 256) × (256 ≤ length ms) × (256 ≤ length ts) × (256 ≤ length cs) × (256 ≤ length hs) × (256 ≤ length hp) × (256 ≤ length ps)
+    Room held ms ts cs hs hp × (256 ≤ length ps)
 
 -- the six arrays as one
 pub record FeedArrays : Type 0 where

@@ -8,17 +8,17 @@ use mathlib.Core.Option.{Option, none, some}
 use mathlib.Core.List.{List, [], _∷_}
 use lib.ListN.{length, take, drop}
 use lib.Seq.{slice, drop-drop}
-use lib.Dec.{T, eqb, ltb}
+use lib.Dec.{eqb, ltb}
 use mir.Facts.{ltb-yes, eqb-yes}
 use borrow.Author.Tests.{lt-ltb, le-ltb, eq-eqb, ne-eqb, eqb-true}
-use Rattle.theory.specs.Bools.{both}
+use Rattle.theory.specs.RunsTools.{cond-case}
+use Rattle.theory.specs.Bools.{both, T-true, T-false}
 use Rattle.theory.specs.Answer.{Answer, answer}
 use Rattle.theory.specs.Fields.{field}
 use Rattle.leaves.specs.Frame.{Read, whole, ended, damaged, judged, recordAt, frameAt}
 use Rattle.leaves.specs.FrameLaws.{found-whole}
-use Rattle.records_rules.specs.Least.{cond-case}
 use Rattle.records_rules.specs.State.{arraysFit, gotOf}
-use Rattle.records_rules.specs.Opening.{arrays-room}
+use Rattle.records_rules.specs.Opening.{full, arrays-room}
 use Rattle.feed_rules.specs.Partial.{part, soFar, knownAt}
 use Rattle.feed_rules.specs.Windows.{Kept, from}
 use Rattle.feed_rules.specs.Spans.{dropped, counts, bytesIn, keptOf, knownBy, gotKnown, feedFits, FeedRoom, feedArrays, FeedNeeds}
@@ -103,24 +103,16 @@ knownOf ended = none
 knownOf (damaged r) = cond (eqb r 2) (some (damaged r)) none
 knownOf (whole l κ ι t) = some (whole l κ ι t)
 
-is-true : (b : Bool) → T b → b ≡ true
-is-true true h = refl
-is-true false h = absurd h
-
-is-false : (b : Bool) → T (not b) → b ≡ false
-is-false true h = absurd h
-is-false false h = refl
-
 known-judged : (left size l κ ι t : ℕ) → soFar left size (whole l κ ι t) ≡ knownOf (judged left size (whole l κ ι t))
 unfolding soFar judged knownOf
 known-judged left size l κ ι t =
     cond-case P (eqb left 0) ended _ (λ h. let e : left ≡ 0 = eqb-yes h in short (omega arith))
     (λ h. cond-case P (ltb left 16) (damaged 1) _ (λ h₁. short (ltb-yes h₁))
     (λ h₁. cond-case P (ltb size 16 || ltb 1024 size) (damaged 2) _
-    (λ h₂. rw (is-false (ltb left 16) h₁, is-true (ltb size 16 || ltb 1024 size) h₂) refl)
+    (λ h₂. rw (T-false (ltb left 16) h₁, T-true (ltb size 16 || ltb 1024 size) h₂) refl)
     (λ h₂. cond-case P (ltb left size) (damaged 3) (whole l κ ι t)
-    (λ h₃. rw (is-false (ltb left 16) h₁, is-false (ltb size 16 || ltb 1024 size) h₂, is-true (ltb left size) h₃) refl)
-    (λ h₃. rw (is-false (ltb left 16) h₁, is-false (ltb size 16 || ltb 1024 size) h₂, is-false (ltb left size) h₃) refl))))
+    (λ h₃. rw (T-false (ltb left 16) h₁, T-false (ltb size 16 || ltb 1024 size) h₂, T-true (ltb left size) h₃) refl)
+    (λ h₃. rw (T-false (ltb left 16) h₁, T-false (ltb size 16 || ltb 1024 size) h₂, T-false (ltb left size) h₃) refl))))
   where
     P : Read → Type 0
     P r = soFar left size (whole l κ ι t) ≡ knownOf r
@@ -214,8 +206,7 @@ unfolding feedFits
 fits-room held ms ts cs hs hp ps window e =
     let a = both _ _ e in
     let b = both _ _ (a .1) in
-    let r = arrays-room held ms ts cs hs hp (a .0) in
-    ((r .0, r .1, r .2, r .3, r .4, r .5, omega (arith, eqb-true (length ps) 256 (b .0))), eqb-true (length window) 262144 (b .1))
+    ((arrays-room held ms ts cs hs hp (a .0), full (length ps) (b .0)), eqb-true (length window) 262144 (b .1))
 
 -- need more, asked again: the same answer, and everything as it was
 pub needs-twice : {window : List ℕ} {held : ℕ} {ms ts cs hs hp ps : List ℕ} {x : Answer} {held' : ℕ} {ms' ts' cs' hs' hp' ps' : List ℕ}

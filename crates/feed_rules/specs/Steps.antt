@@ -16,6 +16,7 @@ use Rattle.records_rules.specs.Machine.{Rec, says, end, record-at, damage-at, S
 use Rattle.records_rules.specs.View.{recIn, statusesOf, length-statuses}
 use Rattle.records_rules.specs.Heap.{at}
 use Rattle.records_rules.specs.Holds.{Chosen, ok-chosen, ok-none, holds-moved, holds-kind, holds-drop, but-drop, but-key}
+use Rattle.records_rules.specs.StateLaws.{room-enough, waits-at, stands-at, gone-set, stand-set, wait-set}
 use Rattle.records_rules.specs.Sift.{Sifted}
 use Rattle.feed_rules.specs.Partial.{part, knownAt, Turn⁺, replies, needs, next⁺, rest⁺}
 use Rattle.feed_rules.specs.PartialLaws.{rule-end⁺, rule-record⁺, rule-wants⁺, rule-ended⁺, rule-damaged⁺, rule-whole⁺}
@@ -23,7 +24,7 @@ use Rattle.feed_rules.specs.Windows.{Kept, knownIn, from, counted, turnL
 use Rattle.feed_rules.specs.WindowsLaws.{known-from, known-here, known-fits}
 use Rattle.feed_rules.specs.Spans.{dropped, counts, bytesIn, keptOf, feedOf, gotKnown, handedOut, SlotOk, FeedOk, FeedRoom, FeedArrays, feedArrays, Wanting}
 use Rattle.feed_rules.specs.SpansLaws.{dropped-zero, kept-dropped}
-use Rattle.feed_rules.specs.Stores.{put-set, put-none, slots-put, unused-put, waits-at, stands-at, gone-set, stand-set, wait-set, head-set}
+use Rattle.feed_rules.specs.Stores.{put-set, put-none, slots-put, unused-put, head-set}
 use Rattle.feed_rules.specs.Going.{Later, later-from, known-later, keptAt, Keeps⁺, Going⁺, going-room, counts-none, counts-zero}
 use Rattle.feed_rules.specs.Going.{says-by, kept-handed, slot-handed, slot-dropped}
 use Rattle.feed_rules.specs.Going.{got-none, got-five, got-ended, got-damaged, got-whole, Done⁺, needs-not}
@@ -34,7 +35,7 @@ module _ {window : List ℕ} {held : ℕ} {ms₀ ts₀ cs₀ hs₀ hp₀ ps₀ :
   roomy = going-room g room
 
   enough : (n : ℕ) → n ≤ 256 → (n ≤ length ms) × (n ≤ length ts) × (n ≤ length cs) × (n ≤ length hs)
-  enough n hn = (omega (arith, roomy .1), omega (arith, roomy .2), omega (arith, roomy .3), omega (arith, roomy .4))
+  enough n hn = room-enough (roomy .0) hn
 
   abbrev ss : ℕ → List Status
   ss n = statusesOf n ms ts cs hs
@@ -101,9 +102,9 @@ module _ {window : List ℕ} {held : ℕ} {ms₀ ts₀ cs₀ hs₀ hp₀ ps₀ :
           let sz = getD hs p 0 % 65536 in
           let s = getD ps p 0 in
           let sl = slot n hn ok in
-          let u₁ = put-set ms p 1 (omega (arith, roomy .1)) in
-          let u₂ = put-set cs p (b + sz) (omega (arith, roomy .3)) in
-          let u₃ = put-set hs p sz (omega (arith, roomy .4)) in
+          let u₁ = put-set ms p 1 (omega (arith, roomy .0 .1)) in
+          let u₂ = put-set cs p (b + sz) (omega (arith, roomy .0 .3)) in
+          let u₃ = put-set hs p sz (omega (arith, roomy .0 .4)) in
           let u₄ = put-none ps p in
           let c₀ : counts (getD ms p 0) (getD hs p 0) ≡ 0 = counts-none (getD ms p 0) (getD hs p 0) d in
           let rr : Rec = recIn (getD hs p 0) (getD ts p 0) in
@@ -125,7 +126,7 @@ module _ {window : List ℕ} {held : ℕ} {ms₀ ts₀ cs₀ hs₀ hp₀ ps₀ :
               small = slots-put (λ q m c h z. q < n → c + h % 65536 < 2 ^ 64) u₁ u₂ u₃ u₄ (λ q i. ok .state .small q)
                   (λ l. omega (arith, sl .fits, sl .most, c₀));
               heaped = record {
-                holds = holds-kind p 1 (omega (arith, roomy .1)) (live n hn ok) (λ z. omega arith) (ok .state .heaped .holds);
+                holds = holds-kind p 1 (omega (arith, roomy .0 .1)) (live n hn ok) (λ z. omega arith) (ok .state .heaped .holds);
                 heap = ok .state .heaped .heap;
               };
             };
@@ -213,8 +214,8 @@ module _ {window : List ℕ} {held : ℕ} {ms₀ ts₀ cs₀ hs₀ hp₀ ps₀ :
             let r : p < n = root n hn ok in
             let u₁ = put-none ms p in
             let u₂ = put-none cs p in
-            let u₃ = put-set hs p 0 (omega (arith, roomy .4)) in
-            let u₄ = put-set ps p less (omega (arith, roomy .6)) in
+            let u₃ = put-set hs p 0 (omega (arith, roomy .0 .4)) in
+            let u₄ = put-set ps p less (omega (arith, roomy .1)) in
             let fst = ch n hn ok .some r cs hs in
             says-by (answer 0 (p ∷ [])) (needs p (ss n))
             (sym (x .same)
@@ -240,12 +241,12 @@ module _ {window : List ℕ} {held : ℕ} {ms₀ ts₀ cs₀ hs₀ hp₀ ps₀ :
         needs = record {
           left = λ q i.
               let z : q ≡ p = cc in
-              let u = put-set ps p less (omega (arith, roomy .6)) in (
+              let u = put-set ps p less (omega (arith, roomy .1)) in (
                 z ∙ e,
                 record {
                   any = pos;
                   waits = rw (← e) w;
-                  none-counts = rw (← e) (put-set hs p 0 (omega (arith, roomy .4)) .here);
+                  none-counts = rw (← e) (put-set hs p 0 (omega (arith, roomy .0 .4)) .here);
                   unknown = rw (← e, u .here) (sym got ∙ got-none k t l d);
                 },
               );
@@ -267,13 +268,13 @@ module _ {window : List ℕ} {held : ℕ} {ms₀ ts₀ cs₀ hs₀ hp₀ ps₀ :
           alone : (n : ℕ) → n ≤ 256 → FeedOk n size ms ts cs hs hp ps → (q : ℕ) → q < n → getD (set ms p 0) q 0 ≡ 1
               → getD hs q 0 % 65536 ≡ 0
           alone n hn ok =
-              slots-put (λ q m c h z. q < n → m ≡ 1 → h % 65536 ≡ 0) (put-set ms p 0 (omega (arith, roomy .1, root n hn ok)))
+              slots-put (λ q m c h z. q < n → m ≡ 1 → h % 65536 ≡ 0) (put-set ms p 0 (omega (arith, roomy .0 .1, root n hn ok)))
               (put-none cs p) (put-none hs p) (put-none ps p) (λ q i l m. ok .lone q l m (λ z. i (z ∙ sym e))) (λ i j. absurd (omega arith))
 
           closed : (n : ℕ) → n ≤ 256 → FeedOk n size ms ts cs hs hp ps → FeedOk n (size - 1) (set ms p 0) ts cs hs hq ps
           closed n hn ok =
-              let hk' : n ≤ length ms = omega (arith, roomy .1) in
-              let hh' : size ≤ length hp = omega (arith, roomy .5, roomy .0) in
+              let hk' : n ≤ length ms = omega (arith, roomy .0 .1) in
+              let hh' : size ≤ length hp = omega (arith, roomy .0 .5, roomy .0 .0) in
               let u₁ = put-set ms p 0 (omega (arith, root n hn ok)) in
               record {
                 state = record {
@@ -294,7 +295,7 @@ module _ {window : List ℕ} {held : ℕ} {ms₀ ts₀ cs₀ hs₀ hp₀ ps₀ :
               → Later (keptAt window ms₀ cs₀ hs₀ ps₀ q) (keptAt window (set ms p 0) cs hs ps q)
           kept-closed n hn x =
               slots-put (λ q m c h z. q < n → m ≢ 0 → Later (keptAt window ms₀ cs₀ hs₀ ps₀ q) (keptOf window q m c h z))
-              (put-set ms p 0 (omega (arith, roomy .1, root n hn (x .sound)))) (put-none cs p) (put-none hs p) (put-none ps p) (λ q i. x .kept q) (λ i j. absurd (j refl))
+              (put-set ms p 0 (omega (arith, roomy .0 .1, root n hn (x .sound)))) (put-none cs p) (put-none hs p) (put-none ps p) (λ q i. x .kept q) (λ i j. absurd (j refl))
 
           -- the root's stream has ended
           pub step-ended⁺ : k ≡ 0 → length hq ≡ length (set hp 0 (at hp (size - 1)))
@@ -365,10 +366,10 @@ module _ {window : List ℕ} {held : ℕ} {ms₀ ts₀ cs₀ hs₀ hp₀ ps₀ :
                   let x = g .keeps n hn z in
                   let ok = x .sound in
                   let r : p < n = root n hn ok in
-                  let u₁ = put-set ms p 2 (omega (arith, roomy .1)) in
+                  let u₁ = put-set ms p 2 (omega (arith, roomy .0 .1)) in
                   let u₂ = put-none cs p in
-                  let u₃ = put-set hs p l (omega (arith, roomy .4)) in
-                  let u₄ = put-set ps p less (omega (arith, roomy .6)) in
+                  let u₃ = put-set hs p l (omega (arith, roomy .0 .4)) in
+                  let u₄ = put-set ps p less (omega (arith, roomy .1)) in
                   let fst = ch n hn ok .some r cs hs in
                   let c₀ : counts 2 l ≡ 0 = counts-none 2 l (λ i. omega arith) in
                   let read : kn p (getD cs p 0) ≡ some (whole (l % 65536) (l / 65536 % 65536) (l / 4294967296) t) = reads n hn x
@@ -382,7 +383,7 @@ module _ {window : List ℕ} {held : ℕ} {ms₀ ts₀ cs₀ hs₀ hp₀ ps₀ :
                         small = slots-put (λ q m c h z. q < n → c + h % 65536 < 2 ^ 64) u₁ u₂ u₃ u₄ (λ q i. ok .state .small q)
                             (λ i. omega (arith, sl .most, sl .fits, c₀));
                         heaped = record {
-                          holds = holds-moved (holds-kind p 2 (omega (arith, roomy .1)) (live n hn ok) (λ z. omega arith) (ok .state .heaped .holds)) (sf .moved);
+                          holds = holds-moved (holds-kind p 2 (omega (arith, roomy .0 .1)) (live n hn ok) (λ z. omega arith) (ok .state .heaped .holds)) (sf .moved);
                           heap = sf .heap (rw e (but-key n ms ts hp size t pos (ok .state .heaped)));
                         };
                       };

@@ -7,8 +7,9 @@ use native.Mathlib.Omega.{arith}
 use mathlib.Core.List.{List, [], _∷_}
 use lib.ListN.{length, getD, set}
 use lib.Seq.{set-getD, getD-set-same, getD-set-other}
-use Rattle.records_rules.specs.Machine.{Status, waiting, standing, gone}
-use Rattle.records_rules.specs.View.{recIn, statusOf, statusesOf, statuses-set, status-at, length-statuses}
+use Rattle.records_rules.specs.Machine.{Status, gone}
+use Rattle.records_rules.specs.View.{statusOf, statusesOf, length-statuses}
+use Rattle.records_rules.specs.StateLaws.{waits-at, wait-set}
 
 -- ---- a store at p
 
@@ -37,51 +38,16 @@ pub unused-put : (n : ℕ) (ms ms' : List ℕ) (p m : ℕ) → p < n → Put ms 
     → getD ms' q 0 ≡ 0
 unused-put n ms ms' p m h u k q l = u .there q (λ e. omega arith) ∙ k q l
 
-module _ (n : ℕ) (ms ts cs hs : List ℕ) (p : ℕ) where
-  abbrev state : List Status
-  state = statusesOf n ms ts cs hs
-
-  module _ (hp : p < n) where
-    pub waits-at : getD ms p 0 ≡ 1 → getD state p gone ≡ waiting (getD ts p 0) (getD cs p 0)
-    unfolding statusOf
-    waits-at e = status-at n ms ts cs hs p hp ∙ ap (λ (k : ℕ). statusOf k (getD ts p 0) (getD cs p 0) (getD hs p 0)) e
-
-    pub stands-at : getD ms p 0 ≢ 0 → getD ms p 0 ≢ 1 → getD state p gone ≡ standing (getD cs p 0) (recIn (getD hs p 0) (getD ts p 0))
-    unfolding statusOf
-    stands-at z d = status-at n ms ts cs hs p hp ∙ go (getD ms p 0) z d
-      where
-        go : (k : ℕ) → k ≢ 0 → k ≢ 1
-            → statusOf k (getD ts p 0) (getD cs p 0) (getD hs p 0) ≡ standing (getD cs p 0) (recIn (getD hs p 0) (getD ts p 0))
-        go zero z d = absurd (z refl)
-        go (suc zero) z d = absurd (d refl)
-        go (suc (suc k)) z d = refl
-
-    module _ (long : (n ≤ length ms) × (n ≤ length ts) × (n ≤ length cs) × (n ≤ length hs)) where
-      pub gone-set : statusesOf n (set ms p 0) ts cs hs ≡ set state p gone
-      unfolding statusOf
-      gone-set = ap (λ (l : List ℕ). statusesOf n (set ms p 0) l cs hs) (sym (set-getD ts p 0))
-          ∙ ap (λ (l : List ℕ). statusesOf n (set ms p 0) (set ts p (getD ts p 0)) l hs) (sym (set-getD cs p 0))
-          ∙ ap (λ (l : List ℕ). statusesOf n (set ms p 0) (set ts p (getD ts p 0)) (set cs p (getD cs p 0)) l) (sym (set-getD hs p 0))
-          ∙ statuses-set n ms ts cs hs p 0 (getD ts p 0) (getD cs p 0) (getD hs p 0) hp (long .0) (long .1) (long .2) (long .3)
-
-      pub stand-set : (t l : ℕ) → statusesOf n (set ms p 2) (set ts p t) cs (set hs p l) ≡ set state p (standing (getD cs p 0) (recIn l t))
-      unfolding statusOf
-      stand-set t l = ap (λ (r : List ℕ). statusesOf n (set ms p 2) (set ts p t) r (set hs p l)) (sym (set-getD cs p 0))
-          ∙ statuses-set n ms ts cs hs p 2 t (getD cs p 0) l hp (long .0) (long .1) (long .2) (long .3)
-
-      pub wait-set : (a l : ℕ) → statusesOf n (set ms p 1) ts (set cs p a) (set hs p l) ≡ set state p (waiting (getD ts p 0) a)
-      unfolding statusOf
-      wait-set a l = ap (λ (r : List ℕ). statusesOf n (set ms p 1) r (set cs p a) (set hs p l)) (sym (set-getD ts p 0))
-          ∙ statuses-set n ms ts cs hs p 1 (getD ts p 0) a l hp (long .0) (long .1) (long .2) (long .3)
-
-      -- a waiting stream's head is no part of its status
-      pub head-set : (l : ℕ) → getD ms p 0 ≡ 1 → statusesOf n ms ts cs (set hs p l) ≡ state
-      head-set l e =
-          ap (λ (r : List ℕ). statusesOf n r ts cs (set hs p l)) (sym (set-getD ms p 0) ∙ ap (set ms p) e)
-          ∙ ap (λ (r : List ℕ). statusesOf n (set ms p 1) ts r (set hs p l)) (sym (set-getD cs p 0))
-          ∙ wait-set (getD cs p 0) l
-          ∙ ap (set state p) (sym (waits-at e))
-          ∙ set-getD state p gone
+-- a waiting stream's head is no part of its status
+pub head-set : (n : ℕ) (ms ts cs hs : List ℕ) (p : ℕ) → p < n → (n ≤ length ms) × (n ≤ length ts) × (n ≤ length cs) × (n ≤ length hs) → (l : ℕ)
+    → getD ms p 0 ≡ 1 → statusesOf n ms ts cs (set hs p l) ≡ statusesOf n ms ts cs hs
+head-set n ms ts cs hs p hp long l e =
+    let state = statusesOf n ms ts cs hs in
+    ap (λ (r : List ℕ). statusesOf n r ts cs (set hs p l)) (sym (set-getD ms p 0) ∙ ap (set ms p) e)
+    ∙ ap (λ (r : List ℕ). statusesOf n (set ms p 1) ts r (set hs p l)) (sym (set-getD cs p 0))
+    ∙ wait-set n ms ts cs hs p hp long (getD cs p 0) l
+    ∙ ap (set state p) (sym (waits-at n ms ts cs hs p hp e))
+    ∙ set-getD state p gone
 
 -- ---- who is there
 

@@ -13,14 +13,16 @@ use lib.Seq.{getD-set-same, getD-set-other}
 use lib.Dec.{ltb, eqb}
 use mir.Facts.{ltb-no, eqb-yes, eqb-no}
 use borrow.Author.Tests.{le-ltb}
+use Rattle.theory.specs.RunsTools.{cond-case}
 use Rattle.theory.specs.Fields.{field, field-drop}
 use Rattle.leaves.specs.Frame.{Read, whole, ended, damaged, recordAt, frameAt}
 use Rattle.records_rules.specs.Machine.{rec, Fits, record-at, damage-at, Status, waiting, standing, gone, First, nobody, first, least}
 use Rattle.records_rules.specs.Machine.{says, end, done, again, afterRead}
 use Rattle.records_rules.specs.Machine as machine
-use Rattle.records_rules.specs.Least.{cond-case, LeastOk, least-ok}
+use Rattle.records_rules.specs.Least.{LeastOk, least-ok}
 use Rattle.records_rules.specs.Kept.{inside}
 use Rattle.records_rules.specs.Bytes.{frame-fits}
+use Rattle.feed_rules.specs.PartialLaws.{never-some}
 use Rattle.feed_rules.specs.Partial.{Part, part, knownAt, Step⁺, moved, wants, found⁺, chosen⁺, stepAt⁺, step⁺}
 use Rattle.feed_rules.specs.Partial.{Turn⁺, replies, needs, onward⁺, nextF⁺, next⁺, rest⁺, Wants}
 use Rattle.feed_rules.specs.Needs.{known-part, known-over, needs-only, never-needs, unknown}
@@ -72,14 +74,11 @@ known-here x =
 pub known-frame : (s : Part) (a : ℕ) (r : Read) → knownAt s a ≡ some r → frameAt (s .bytes) a ≡ r
 known-frame s a r e = known-part s (s .bytes) (record { later = []; joined = sym (append-nil (s .bytes)); none-later = λ o. refl }) a r e
 
-never : {X : Type 0} {r : Read} → none ≡ some r → X
-never e = let z : _≡_ {A = ℕ} 0 1 = cc in absurd (omega arith)
-
 -- a place where something is known has not been dropped
 pub known-base : (x : Kept) (a : ℕ) (r : Read) → knownIn x a ≡ some r
     → (x .base ≤ a) × (knownAt (part (x .bytes) (x .over)) (a - x .base) ≡ some r)
 unfolding knownIn
-known-base x a r = cond-case P (ltb a (x .base)) none (knownAt (part (x .bytes) (x .over)) (a - x .base)) (λ c e. never e) (λ c e. (ltb-no c, e))
+known-base x a r = cond-case P (ltb a (x .base)) none (knownAt (part (x .bytes) (x .over)) (a - x .base)) (λ c e. never-some e) (λ c e. (ltb-no c, e))
   where
     P : Option Read → Type 0
     P o = o ≡ some r → (x .base ≤ a) × (knownAt (part (x .bytes) (x .over)) (a - x .base) ≡ some r)
@@ -283,4 +282,4 @@ ended-kept F w h = never-needs (known F) (F .statuses) go
     go p t a e u =
         let i : In (F .kept p) (waiting t a) = rw e at (w p) in
         let x = F .kept p in
-        never (sym u ∙ in-known x a (i .0) ∙ known-over (part (x .bytes) (x .over)) (a - x .base) (h p t a e))
+        never-some (sym u ∙ in-known x a (i .0) ∙ known-over (part (x .bytes) (x .over)) (a - x .base) (h p t a e))

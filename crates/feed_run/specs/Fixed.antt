@@ -5,15 +5,15 @@ use Prim.Native.Nat.{ℕ, zero, suc, _+_, _-_, _≤_}
 use native.Mathlib.Omega.{arith}
 use mathlib.Core.Option.{Option}
 use mathlib.Core.List.{List, _∷_}
-use lib.ListN.{length, getD}
+use lib.ListN.{getD}
 use Rattle.leaves.specs.Frame.{Read}
 use Rattle.run_rules.specs.Batch.{Ran, ran, onward}
 use Rattle.run_rules.specs.Rows.{Note, writes, stops, goesOn, runOf}
-use Rattle.records_rules.specs.Machine.{Status, waiting, standing, gone, First, nobody, first, least, done, again}
-use Rattle.feed_rules.specs.Partial.{Step⁺, moved, wants, found⁺, chosen⁺, stepAt⁺, step⁺, Turn⁺, onward⁺, nextF⁺, next⁺, rest⁺}
-use Rattle.feed_rules.specs.PartialLaws.{AgainOk⁺, StepOk⁺, step-ok⁺}
+use Rattle.records_rules.specs.Machine.{Status, waiting, standing, gone}
+use Rattle.feed_rules.specs.Partial.{Turn⁺, next⁺, rest⁺}
+use Rattle.feed_rules.specs.PartialLaws.{next-agrees}
 use Rattle.feed_rules.specs.Windows.{Kept, knownIn, from, Feed, known, counted, keptBy, turnIn, turnLeaves, nextLeaves, In, Within}
-use Rattle.feed_rules.specs.WindowsLaws.{known-from, TurnIn, turn-in, Counts, counted-in, next-within}
+use Rattle.feed_rules.specs.WindowsLaws.{known-from, turn-in, Counts, counted-in, next-within}
 use Rattle.feed_run.specs.Run.{noteOf⁺, say⁺, ranOf⁺}
 
 -- at most k calls of the machine of portions, what is known being fixed
@@ -22,37 +22,12 @@ ranFixed k know ss = runOf (λ s. noteOf⁺ (next⁺ know s)) (λ s. rest⁺ (ne
 
 -- ---- one call
 
--- a call reads at the places where streams wait, and nowhere else
-agree-F : (k k' : ℕ → ℕ → Option Read) (f : ℕ) (ss : List Status)
-    → ((p t a : ℕ) → getD ss p gone ≡ waiting t a → k p a ≡ k' p a) → nextF⁺ f k ss ≡ nextF⁺ f k' ss
-unfolding nextF⁺ onward⁺ step⁺ stepAt⁺ chosen⁺
-agree-F k k' zero ss h = refl
-agree-F k k' (suc f) ss h =
-    ap (onward⁺ (λ l. nextF⁺ f k l) ss) (pick (least ss)) ∙ go (step⁺ k' ss) (step-ok⁺ k' ss) (λ ss' i. agree-F k k' f ss' i)
-  where
-    on : (p : ℕ) (s : Status) → getD ss p gone ≡ s → chosen⁺ k ss p s ≡ chosen⁺ k' ss p s
-    on p (waiting t a) e = ap (found⁺ ss p a) (h p t a e)
-    on p (standing a r) e = refl
-    on p gone e = refl
-
-    pick : (r : First) → stepAt⁺ k ss r ≡ stepAt⁺ k' ss r
-    pick nobody = refl
-    pick (first t p) = on p (getD ss p gone) refl
-
-    go : (s : Step⁺) → StepOk⁺ k' ss s
-        → ((ss' : List Status) → ((p t a : ℕ) → getD ss' p gone ≡ waiting t a → k p a ≡ k' p a) → nextF⁺ f k ss' ≡ nextF⁺ f k' ss')
-        → onward⁺ (λ l. nextF⁺ f k l) ss s ≡ onward⁺ (λ l. nextF⁺ f k' l) ss s
-    go (wants p) z ih = refl
-    go (moved (done x ss')) z ih = refl
-    go (moved (again ss')) z ih = ih ss' (λ p t a e. h p t a (z .still p t a e))
-
 -- what is known from what is kept on is what was known
 abbrev Agrees : (ℕ → ℕ → Option Read) → Feed → Type 0
 Agrees know F = (p a : ℕ) → F .kept p .base ≤ a → known F p a ≡ know p a
 
 agree : (know : ℕ → ℕ → Option Read) (F : Feed) → Within (F .kept) (F .statuses) → Agrees know F → turnIn F ≡ next⁺ know (F .statuses)
-unfolding next⁺
-agree know F w h = agree-F (known F) know (suc (length (F .statuses))) (F .statuses) (λ p t a e. h p a (base p t a e))
+agree know F w h = next-agrees (known F) know (F .statuses) (λ p t a e. h p a (base p t a e))
   where
     base : (p t a : ℕ) → getD (F .statuses) p gone ≡ waiting t a → F .kept p .base ≤ a
     base p t a e = let i : In (F .kept p) (waiting t a) = subst (In (F .kept p)) e (w p) in i .0

@@ -10,7 +10,7 @@ use Rattle.theory.specs.Answer.{Answer, answer}
 use Rattle.leaves.specs.Refusal.{numberOf, refused}
 use Rattle.leaves.specs.RefusalLaws.{refused-not-done, refused-one}
 use Rattle.run_rules.specs.Batch.{Ran}
-use Rattle.run_rules.specs.Rows.{runFits, most, Note, writes, stops, runOf, going, ended, wanting, Gives}
+use Rattle.run_rules.specs.Rows.{runFits, most, Note, writes, stops, runOf, going, ended, wanting, Gives, RunRefused}
 use Rattle.records_rules.specs.Machine.{record-at, damage-at, says, end}
 use Rattle.feed_rules.specs.Partial.{Turn⁺, replies, needs}
 use Rattle.feed_rules.specs.Windows.{Feed, turnIn, nextLeaves, Alike}
@@ -65,15 +65,6 @@ last-one (last.Refused r) (last.Refused q) z = ap last.Refused (refused-one r q 
 
 -- ---- a run's contract
 
--- bad memory or allowance: 15, nothing was called, and everything is as at entry
-pub record FeedRunRefused (a : FeedArrays) (ws : List ℕ) (size c w size' : ℕ) (x : Answer) (a' : FeedArrays) (ws' : List ℕ) : Type 0 where
-  pub answers : x ≡ answer 15 []
-  pub calls : c ≡ 0
-  pub written : w ≡ 0
-  pub held : size' ≡ size
-  pub untouched : a' ≡ a
-  pub list : ws' ≡ ws
-
 -- a run of at most k calls: its numbers and its list are those of the run from what is kept, what is left is what that run leaves, and
 -- the state left is sound
 pub record FeedRunSays (n k : ℕ) (window : List ℕ) (a : FeedArrays) (ws : List ℕ) (c w size : ℕ) (x : Answer) (a' : FeedArrays) (ws' : List ℕ) : Type 0 where
@@ -83,6 +74,6 @@ pub record FeedRunSays (n k : ℕ) (window : List ℕ) (a : FeedArrays) (ws : Li
 
 -- `run`: the first where what is lent or the allowance is not right, else the second
 pub record FeedRunGives (window : List ℕ) (allowance size : ℕ) (a : FeedArrays) (ws : List ℕ) (c w size' : ℕ) (x : Answer) (a' : FeedArrays) (ws' : List ℕ) : Type 0 where
-  pub refused : runFits (feedFitIn size window a) allowance (length ws) ≡ false → FeedRunRefused a ws size c w size' x a' ws'
+  pub refused : runFits (feedFitIn size window a) allowance (length ws) ≡ false → RunRefused a ws size c w size' x a' ws'
   pub says : runFits (feedFitIn size window a) allowance (length ws) ≡ true
       → (n : ℕ) → n ≤ 256 → FeedSound n size a → FeedRunSays n (most allowance (length ws)) window a ws c w size' x a' ws'

@@ -6,12 +6,13 @@ use mathlib.Core.Bool.{Bool, true, false}
 use mathlib.Core.List.{List, [], _∷_}
 use lib.ListN.{length}
 use Rattle.theory.specs.Answer.{Answer, answer}
-use Rattle.leaves.specs.Refusal.{numberOf, refused}
+use Rattle.leaves.specs.Refusal.{refused}
 use Rattle.leaves.specs.RefusalLaws.{refused-not-done}
 use Rattle.leaves.specs.declared.refusal.Refusal.{Refusal}
 use Rattle.run_rules.specs.Rows.{going, ended, wanting, row, Noted}
 use Rattle.run_rules.specs.RowsLaws.{noted-record, noted-stop, Lengths, lengths-on, Over, Here, here-start, here-done, here-more, here-stop}
 use Rattle.records_rules.specs.Machine.{record-at, damage-at, says, end}
+use Rattle.records_rules.specs.StateLaws.{room-kept}
 use Rattle.feed_rules.specs.Partial.{Turn⁺, replies, needs}
 use Rattle.feed_rules.specs.Windows.{Kept, Feed, turnAnswer, nextAnswer, nextLeaves, call, answerTo, leaves, Alike}
 use Rattle.feed_rules.specs.Spans.{FeedRoom, FeedArrays, feedAt, FeedSound, FedSays}
@@ -134,15 +135,9 @@ module _ {window : List ℕ} {limit held₀ : ℕ} {a₀ : FeedArrays} {ws₀ : 
     (u : Under⁺ window limit held₀ a₀ ws₀ calls held a ws) where
   pub under-room : FeedRoom held₀ (a₀ .marks) (a₀ .times) (a₀ .places) (a₀ .heads) (a₀ .heap) (a₀ .spans)
       → FeedRoom held (a .marks) (a .times) (a .places) (a .heads) (a .heap) (a .spans)
-  under-room (h, m, t, c, d, p, s) = (
-    omega (arith, u .holds, h),
-    omega (arith, u .lengths .marks, m),
-    omega (arith, u .lengths .times, t),
-    omega (arith, u .lengths .places, c),
-    omega (arith, u .lengths .heads, d),
-    omega (arith, u .lengths .heap, p),
-    omega (arith, u .spans, s),
-  )
+  under-room r =
+      let l = u .lengths in
+      (room-kept (r .0) (u .holds) (l .marks) (l .times) (l .places) (l .heads) (l .heap), omega (arith, r .1, u .spans))
 
   -- the loop ends
   pub under-done : 3 * limit ≤ length ws₀ → limit ≤ calls → StepsSay⁺ window limit held₀ a₀ ws₀ calls calls held going a ws

@@ -9,14 +9,11 @@ use leaves_limits::STREAMS;
 use records_state::state::GONE;
 use records_state::state::WAITING;
 ghost use mathlib.Core.Path.{_≡_};
-ghost use mathlib.Core.Bool.{true, false};
-ghost use mathlib.Core.List.{List, []};
-ghost use Prim.Native.Nat.{ℕ, _+_, _-_, _≤_, _^_, min};
+ghost use Prim.Native.Nat.{_+_, _-_, _≤_, _^_, min};
 ghost use lib.ListN.{length, drop};
 ghost use lib.Seq.{paste};
-ghost use Rattle.theory.specs.Answer.{answer};
-ghost use Rattle.feed_rules.specs.Spans.{counts, FeedOk};
-ghost use Rattle.feed_rules.specs.Adding.{wordFits, portionFits, roomFor, FeedAdds, FeedEnds};
+ghost use Rattle.feed_rules.specs.Spans.{counts};
+ghost use Rattle.feed_rules.specs.Adding.{wordFits, portionFits, roomFor, AddGives, EndGives};
 ghost use Rattle.feed_window.specs.Answers.{addedOf, endedOf};
 
 // The most bytes that a stream takes in all.
@@ -165,12 +162,8 @@ pub fn add(
     spans: &mut [u64],
     window: &mut [u8],
 ) -> Added
-    ensures { λ r. ⌜ (portionFits (length (now (marks .entry))) (length (now (places .entry))) (length (now (heads .entry))) (length (now (spans .entry))) (length (now (window .entry))) ≡ false
-        → (addedOf r ≡ answer 15 []) × (now (window .exit) ≡ now (window .entry)) × (now (spans .exit) ≡ now (spans .entry))) ⌝ }
-    ensures { λ r. ⌜ (portionFits (length (now (marks .entry))) (length (now (places .entry))) (length (now (heads .entry))) (length (now (spans .entry))) (length (now (window .entry))) ≡ true
-        → (n held : ℕ) (ts hp : List ℕ) → n ≤ 256 → FeedOk n held (now (marks .entry)) ts (now (places .entry)) (now (heads .entry)) hp (now (spans .entry))
-        → FeedAdds n held (now (window .entry)) (now (marks .entry)) ts (now (places .entry)) (now (heads .entry)) hp (now (spans .entry)) stream (now (portion .entry))
-        (addedOf r) (now (window .exit)) (now (spans .exit))) ⌝ }
+    ensures { λ r. ⌜ AddGives (now (window .entry)) (now (marks .entry)) (now (places .entry)) (now (heads .entry)) (now (spans .entry)) stream (now (portion .entry))
+        (addedOf r) (now (window .exit)) (now (spans .exit)) ⌝ }
 {
     if !portions_fit(
         marks.len(),
@@ -217,11 +210,7 @@ pub fn add(
 
 // Says that a stream has ended: no byte of it is to come. A refusal leaves everything as it was.
 pub fn end(stream: u64, marks: &[u8], spans: &mut [u64]) -> Ended
-    ensures { λ r. ⌜ (wordFits (length (now (marks .entry))) (length (now (spans .entry))) ≡ false
-        → (endedOf r ≡ answer 15 []) × (now (spans .exit) ≡ now (spans .entry))) ⌝ }
-    ensures { λ r. ⌜ (wordFits (length (now (marks .entry))) (length (now (spans .entry))) ≡ true
-        → (n held : ℕ) (window ts cs hs hp : List ℕ) → n ≤ 256 → FeedOk n held (now (marks .entry)) ts cs hs hp (now (spans .entry))
-        → FeedEnds n held window (now (marks .entry)) ts cs hs hp (now (spans .entry)) stream (endedOf r) (now (spans .exit))) ⌝ }
+    ensures { λ r. ⌜ EndGives (now (marks .entry)) (now (spans .entry)) stream (endedOf r) (now (spans .exit)) ⌝ }
 {
     if !words_fit(marks.len(), spans.len()) {
         let refusal = Refusal::BadMemory;

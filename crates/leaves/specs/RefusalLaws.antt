@@ -3,11 +3,11 @@ use mathlib.Core.Path.{_≡_, refl, sym, ap, ap₂, _∙_}
 use mathlib.Core.Logic.{_≢_}
 use mathlib.Core.Bool.{cond}
 use mathlib.Core.List.{List, [], _∷_}
-use Prim.Native.Nat.{ℕ}
+use Prim.Native.Nat.{ℕ, zero, suc}
 use native.Mathlib.Omega.{arith}
 use lib.Dec.{eqb}
 use lib.ListN.{getD}
-use Rattle.theory.specs.Answer.{answer}
+use Rattle.theory.specs.Answer.{Answer, answer}
 use Rattle.leaves.specs.Refusal.{numberOf, valuesOf, refused}
 use Rattle.leaves.specs.declared.refusal.Refusal.{Refusal}
 use Rattle.leaves.specs.declared.refusal.Refusal.the-variants.{Reversed, NoRoom, UnknownSymbol, BadName, NoNameRoom, Differ, Conflict, NotNumber, NoInstrumentId, OutsideQuery, NoDate, BadStreams, Damaged, IllFormed, BadMemory}
@@ -29,6 +29,14 @@ refused-not-done BadStreams e = omega arith
 refused-not-done (Damaged stream place reason) e = omega arith
 refused-not-done IllFormed e = omega arith
 refused-not-done BadMemory e = omega arith
+
+-- so what holds of every answer but a done one holds of a refusal
+pub refused-all : (P : Answer → Type 0) → ((n : ℕ) (values : List ℕ) → P (answer (suc n) values)) → (r : Refusal) → P (refused r)
+refused-all P all r = go (numberOf r) (valuesOf r) (refused-not-done r)
+  where
+    go : (n : ℕ) (values : List ℕ) → n ≢ 0 → P (answer n values)
+    go zero values h = absurd (h refl)
+    go (suc n) values h = all n values
 
 -- only 6 and 13 come with values
 pub plain-values : (r : Refusal) → numberOf r ≢ 6 → numberOf r ≢ 13 → valuesOf r ≡ []

@@ -1,6 +1,6 @@
+pub mod Parts
 pub mod Sections
 pub mod SectionsLaws
 pub mod Lines
 pub mod LinesLaws
-pub mod Parts
 pub mod Asked

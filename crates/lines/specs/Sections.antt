@@ -1,38 +1,20 @@
 -- A bundle (RULES, Merging records): sections of whole length (4 bytes), kind (2, always 1), then one stream.
--- All little-endian; a section's whole length counts its own 6 bytes before the stream.
 use mathlib.Core.Path.{_≡_}
 use Prim.Native.Nat.{ℕ, zero, suc, _+_, _≤_, _<_}
-use mathlib.Core.Bool.{Bool, _&&_, cond}
+use mathlib.Core.Bool.{_&&_, cond}
 use mathlib.Core.Option.{Option, none, some}
 use mathlib.Core.List.{List, [], _∷_, _++_}
 use lib.ListN.{length, getD, drop}
 use lib.Seq.{slice}
 use lib.Dec.{leb, eqb}
 use Rattle.leaves_limits.specs.Limits.{mostBundle, mostStreams}
-use Rattle.theory.specs.Fields.{field}
+use Rattle.lines.specs.Parts.{sizeOf, isPart}
 use Rattle.lines.specs.declared.sections.Parted.{Parted}
 use Rattle.lines.specs.declared.sections.Parted.the-variants.{Streams, Bad}
 
--- the whole length that the section at the front of s says
-abbrev pub sizeOf : List ℕ → ℕ
-sizeOf s = field 4 s 0
-
--- the kind that it says
-abbrev pub kindOf : List ℕ → ℕ
-kindOf s = field 2 s 4
-
--- a section stands at the front of s: its 6 bytes are there, its length is no less and does not pass the end, its kind is 1
-unfoldable pub whole : List ℕ → Bool
-whole s = leb 6 (length s) && leb 6 (sizeOf s) && leb (sizeOf s) (length s) && eqb (kindOf s) 1
-
--- its stream: what follows those 6 bytes
+-- the stream of the section at the front of s: what follows its 6 bytes
 unfoldable pub streamOf : List ℕ → List ℕ
 streamOf s = slice 6 (sizeOf s) s
-
--- its whole length, 0 where no section stands there
-unfoldable pub sectionSize : List ℕ → ℕ
-unfolding whole
-sectionSize s = cond (whole s) (sizeOf s) 0
 
 -- these streams, and then those
 unfoldable pub ahead : List (List ℕ) → Option (List (List ℕ)) → Option (List (List ℕ))
@@ -42,11 +24,11 @@ ahead xs (some ys) = some (xs ++ ys)
 -- the streams of the sections that s is made of; none where s can't be taken apart. Each section takes 6 bytes at least,
 -- so that a count of the bytes is enough
 unfoldable pub sectionsF : ℕ → List ℕ → Option (List (List ℕ))
-unfolding whole streamOf ahead
+unfolding isPart streamOf ahead
 sectionsF zero s = none
 sectionsF (suc f) s =
     cond (eqb (length s) 0) (some [])
-    (cond (whole s) (ahead (streamOf s ∷ []) (sectionsF f (drop (sizeOf s) s))) none)
+    (cond (isPart 1 s) (ahead (streamOf s ∷ []) (sectionsF f (drop (sizeOf s) s))) none)
 
 unfoldable pub sections : List ℕ → Option (List (List ℕ))
 unfolding sectionsF

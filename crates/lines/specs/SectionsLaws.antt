@@ -2,7 +2,7 @@
 -- Assumes nothing.
 use mathlib.Core.Path.{_≡_, refl, sym, ap, ap₂, _∙_}
 use Prim.Native.Nat.{ℕ, zero, suc, _+_, _-_, _*_, _≤_, _<_, zero-le}
-use native.Mathlib.Nat.{sub-zero, add-zero}
+use native.Mathlib.Nat.{sub-zero}
 use native.Mathlib.Numerals.{add-one}
 use native.Mathlib.Decide.{ℕ-discrete}
 use native.Mathlib.Omega.{arith}
@@ -12,89 +12,9 @@ use mathlib.Core.List.{List, [], _∷_, _++_, append-assoc, append-nil}
 use lib.ListN.{length, getD, set, take, drop, length-append, length-drop, List·getD-append}
 use lib.Seq.{slice, paste, take-nil, drop-drop, drop-at, take-paste, take-append-le, length-take-le, take-take, getD-set-same, getD-set-other, getD-append-seam}
 use lib.Dec.{leb, eqb}
-use borrow.Author.Tests.{leb-true, eqb-true, le-leb, lt-leb, eq-eqb, ne-eqb}
-use Rattle.theory.specs.Bools.{both}
-use Rattle.theory.specs.Fields.{field, field-drop}
-use Rattle.lines.specs.Sections.{sizeOf, kindOf, whole, streamOf, sectionSize, ahead, sectionsF, sections, few, streamsIn, streamAt, cutOut, Cuts, Apart}
-
--- ---- a section at the front
-
-pub record Whole (s : List ℕ) : Type 0 where
-  pub head : 6 ≤ length s
-  pub size : 6 ≤ sizeOf s
-  pub ends : sizeOf s ≤ length s
-  pub kind : kindOf s ≡ 1
-
-pub whole-yes : (s : List ℕ) → whole s ≡ true → Whole s
-unfolding whole
-whole-yes s e =
-    let abc = both (leb 6 (length s) && leb 6 (sizeOf s) && leb (sizeOf s) (length s)) (eqb (kindOf s) 1) e in
-    let ab = both (leb 6 (length s) && leb 6 (sizeOf s)) (leb (sizeOf s) (length s)) (abc .0) in
-    let a = both (leb 6 (length s)) (leb 6 (sizeOf s)) (ab .0) in
-    record {
-      head = leb-true 6 (length s) (a .0);
-      size = leb-true 6 (sizeOf s) (a .1);
-      ends = leb-true (sizeOf s) (length s) (ab .1);
-      kind = eqb-true (kindOf s) 1 (abc .1);
-    }
-
--- what a size says
-pub size-none : (s : List ℕ) → sectionSize s ≡ 0 → whole s ≡ false
-unfolding sectionSize
-size-none s e = go (whole s) refl e
-  where
-    go : (b : Bool) → whole s ≡ b → cond b (sizeOf s) 0 ≡ 0 → b ≡ false
-    go true w z = let h = whole-yes s w in absurd (omega (arith, h .size))
-    go false w z = refl
-
-pub record Sized (s : List ℕ) (n : ℕ) : Type 0 where
-  pub whole : whole s ≡ true
-  pub parts : Whole s
-  pub size : n ≡ sizeOf s
-
-pub size-some : (s : List ℕ) (n : ℕ) → n ≡ sectionSize s → (n ≡ 0 → ⊥) → Sized s n
-unfolding sectionSize
-size-some s n e d = go (whole s) refl e
-  where
-    go : (b : Bool) → whole s ≡ b → n ≡ cond b (sizeOf s) 0 → Sized s n
-    go true w z = record { whole = w; parts = whole-yes s w; size = z }
-    go false w z = absurd (d z)
-
--- ---- what the code reads at a place
-
-size-at : (b : List ℕ) (at : ℕ) → sizeOf (drop at b) ≡ field 4 b at
-size-at b at = field-drop 4 b at 0 ∙ ap (field 4 b) (add-zero at)
-
-not-whole : (s : List ℕ) → (Whole s → ⊥) → 0 ≡ sectionSize s
-unfolding sectionSize
-not-whole s d = go (whole s) refl
-  where
-    go : (b : Bool) → whole s ≡ b → 0 ≡ cond b (sizeOf s) 0
-    go true w = absurd (d (whole-yes s w))
-    go false w = refl
-
-pub no-head : (b : List ℕ) (at : ℕ) → length b - at < 6 → 0 ≡ sectionSize (drop at b)
-no-head b at h = not-whole (drop at b) (λ w. omega (arith, w .head, length-drop at b))
-
-pub no-size : (b : List ℕ) (at : ℕ) {n : ℕ} → n ≡ field 4 b at → n < 6 → 0 ≡ sectionSize (drop at b)
-no-size b at e h = not-whole (drop at b) (λ w. omega (arith, w .size, size-at b at))
-
-pub no-end : (b : List ℕ) (at : ℕ) {n : ℕ} → n ≡ field 4 b at → length b - at < n → 0 ≡ sectionSize (drop at b)
-no-end b at e h = not-whole (drop at b) (λ w. omega (arith, w .ends, size-at b at, length-drop at b))
-
-pub no-kind : (b : List ℕ) (at : ℕ) {k : ℕ} → k ≡ field 2 b (at + 4) → (k ≡ 1 → ⊥) → 0 ≡ sectionSize (drop at b)
-no-kind b at e d = not-whole (drop at b) (λ w. d (e ∙ sym (field-drop 2 b at 4) ∙ w .kind))
-
-pub section-there : (b : List ℕ) (at : ℕ) {n k : ℕ} → n ≡ field 4 b at → k ≡ field 2 b (at + 4) → 6 ≤ length b - at → 6 ≤ n → n ≤ length b - at → k ≡ 1
-    → n ≡ sectionSize (drop at b)
-unfolding sectionSize whole
-section-there b at {n} {k} en ek h l u one =
-    let s = drop at b in
-    let a : leb 6 (length s) ≡ true = le-leb 6 (length s) (omega (arith, length-drop at b)) in
-    let c : leb 6 (sizeOf s) ≡ true = le-leb 6 (sizeOf s) (omega (arith, size-at b at)) in
-    let d : leb (sizeOf s) (length s) ≡ true = le-leb (sizeOf s) (length s) (omega (arith, size-at b at, length-drop at b)) in
-    let e : eqb (kindOf s) 1 ≡ true = eq-eqb (kindOf s) 1 (field-drop 2 b at 4 ∙ sym ek ∙ one) in
-    rw (a, c, d, e) (en ∙ sym (size-at b at))
+use borrow.Author.Tests.{le-leb, lt-leb, eq-eqb, ne-eqb}
+use Rattle.lines.specs.Parts.{sizeOf, isPart, partSize, part-yes, size-none, Sized, size-some}
+use Rattle.lines.specs.Sections.{streamOf, ahead, sectionsF, sections, few, streamsIn, streamAt, cutOut, Cuts, Apart}
 
 -- ---- sections, with no count
 
@@ -102,16 +22,16 @@ same : (f g : ℕ) (s : List ℕ) → length s < f → length s < g → sections
 unfolding sectionsF
 same zero g s h k = absurd (omega arith)
 same (suc f) zero s h k = absurd (omega arith)
-same (suc f) (suc g) s h k = go (eqb (length s) 0) (whole s) refl (λ i j. same f g (drop (sizeOf s) s) i j)
+same (suc f) (suc g) s h k = go (eqb (length s) 0) (isPart 1 s) refl (λ i j. same f g (drop (sizeOf s) s) i j)
   where
-    go : (a b : Bool) → whole s ≡ b
+    go : (a b : Bool) → isPart 1 s ≡ b
         → (length (drop (sizeOf s) s) < f → length (drop (sizeOf s) s) < g → sectionsF f (drop (sizeOf s) s) ≡ sectionsF g (drop (sizeOf s) s))
         → cond a (some []) (cond b (ahead (streamOf s ∷ []) (sectionsF f (drop (sizeOf s) s))) none)
         ≡ cond a (some []) (cond b (ahead (streamOf s ∷ []) (sectionsF g (drop (sizeOf s) s))) none)
     go true b w ih = refl
     go false false w ih = refl
     go false true w ih =
-        let p = whole-yes s w in
+        let p = part-yes 1 s w in
         ap (ahead (streamOf s ∷ [])) (ih (simp length-drop (omega (arith, p .size, p .head))) (simp length-drop (omega (arith, p .size, p .head))))
 
 -- no bytes, no sections; bytes that begin with no section can't be taken apart; else one stream, and the rest's
@@ -119,14 +39,14 @@ pub sections-end : (s : List ℕ) → length s ≡ 0 → sections s ≡ some []
 unfolding sections sectionsF
 sections-end s e = rw (eq-eqb (length s) 0 e)
 
-pub sections-bad : (s : List ℕ) → 0 < length s → whole s ≡ false → sections s ≡ none
+pub sections-bad : (s : List ℕ) → 0 < length s → isPart 1 s ≡ false → sections s ≡ none
 unfolding sections sectionsF
 sections-bad s h w = rw (ne-eqb (length s) 0 (λ e. omega arith), w)
 
-pub sections-more : (s : List ℕ) → 0 < length s → whole s ≡ true → sections s ≡ ahead (streamOf s ∷ []) (sections (drop (sizeOf s) s))
+pub sections-more : (s : List ℕ) → 0 < length s → isPart 1 s ≡ true → sections s ≡ ahead (streamOf s ∷ []) (sections (drop (sizeOf s) s))
 unfolding sections sectionsF
 sections-more s h w =
-    let p = whole-yes s w in
+    let p = part-yes 1 s w in
     let l : length (drop (sizeOf s) s) < length s = simp length-drop (omega (arith, p .size, p .head)) in
     rw (ne-eqb (length s) 0 (λ e. omega arith), w)
     (ap (ahead (streamOf s ∷ [])) (same (length s) (suc (length (drop (sizeOf s) s))) (drop (sizeOf s) s) l (omega arith)))
@@ -198,7 +118,7 @@ taking-start bundle buffer cuts e = record {
     go (some xs) = refl
 
 module _ {bundle buffer cuts : List ℕ} {at bytes count size : ℕ} (t : Taking bundle buffer cuts at bytes count)
-    (more : at < length bundle) (z : Sized (drop at bundle) size) (small : length bundle ≤ 60000)
+    (more : at < length bundle) (z : Sized 1 (drop at bundle) size) (small : length bundle ≤ 60000)
     (room : 60000 ≤ length buffer) (places : 257 ≤ length cuts) (below : (count ≡ 256) → ⊥) where
   rest : List ℕ
   rest = drop (at + 6) bundle
@@ -218,7 +138,7 @@ module _ {bundle buffer cuts : List ℕ} {at bytes count size : ℕ} (t : Taking
   left = length-drop at bundle
 
   whole-size : (6 ≤ size) × (at + size ≤ length bundle)
-  whole-size = (omega (arith, z .parts .size, z .size), omega (arith, z .parts .ends, z .size, left))
+  whole-size = (omega (arith, z .part .size, z .size), omega (arith, z .part .ends, z .size, left))
 
   long : k ≤ length rest
   unfolding rest k
@@ -257,7 +177,7 @@ module _ {bundle buffer cuts : List ℕ} {at bytes count size : ℕ} (t : Taking
       ∙ drop-at (take bytes buffer) (take k rest) bytes (length-take-le bytes buffer fits)
       ∙ ap (take k) (sym (drop-drop 6 at bundle))
       ∙ ap (λ (n : ℕ). take (n - 6) (drop 6 (drop at bundle))) (z .size)
-      ∙ sym (slice-take 6 (sizeOf (drop at bundle)) (drop at bundle) (z .parts .size))
+      ∙ sym (slice-take 6 (sizeOf (drop at bundle)) (drop at bundle) (z .part .size))
       )
 
   pub taking-turn : Taking bundle (paste buffer bytes (drop (at + 6) bundle) (size - 6)) (set cuts (count + 1) (bytes + (size - 6))) (at + size) (bytes + (size - 6)) (count + 1)
@@ -275,7 +195,7 @@ module _ {bundle buffer cuts : List ℕ} {at bytes count size : ℕ} (t : Taking
     same =
         t .same
         ∙ ap (ahead (cutOut buffer cuts count)) (
-        sections-more (drop at bundle) (omega (arith, left)) (z .whole)
+        sections-more (drop at bundle) (omega (arith, left)) (z .stands)
         ∙ ap (λ (s : List ℕ). ahead (streamOf (drop at bundle) ∷ []) (sections s)) (ap (λ (n : ℕ). drop n (drop at bundle)) (sym (z .size)) ∙ drop-drop size at bundle)
         )
         ∙ ahead-join (cutOut buffer cuts count) (streamOf (drop at bundle) ∷ []) (sections (drop (at + size) bundle))
@@ -295,19 +215,19 @@ module _ {bundle buffer cuts : List ℕ} {at bytes count size : ℕ} (t : Taking
 
 -- what a turn leans on
 pub record Turned (bundle : List ℕ) (at bytes count size : ℕ) : Type 0 where
-  pub sized : Sized (drop at bundle) size
+  pub sized : Sized 1 (drop at bundle) size
   pub least : 6 ≤ size
   pub ends : at + size ≤ length bundle
   pub room : bytes + size ≤ 60006
   pub few : count < 256
 
 pub turned : {bundle buffer cuts : List ℕ} {at bytes count size : ℕ} → Taking bundle buffer cuts at bytes count → at < length bundle
-    → length bundle ≤ 60000 → (count ≡ 256 → ⊥) → size ≡ sectionSize (drop at bundle) → (size ≡ 0 → ⊥) → Turned bundle at bytes count size
+    → length bundle ≤ 60000 → (count ≡ 256 → ⊥) → size ≡ partSize 1 (drop at bundle) → (size ≡ 0 → ⊥) → Turned bundle at bytes count size
 turned {bundle} {buffer} {cuts} {at} {bytes} {count} {size} t more small d e n =
-    let z = size-some (drop at bundle) size e n in
+    let z = size-some 1 (drop at bundle) size e n in
     let l : length (drop at bundle) ≡ length bundle - at = length-drop at bundle in
-    let u : at + size ≤ length bundle = omega (arith, z .parts .ends, z .size) in
-    record { sized = z; least = omega (arith, z .parts .size, z .size); ends = u; room = omega (arith, t .laid); few = omega (arith, t .few) }
+    let u : at + size ≤ length bundle = omega (arith, z .part .ends, z .size) in
+    record { sized = z; least = omega (arith, z .part .size, z .size); ends = u; room = omega (arith, t .laid); few = omega (arith, t .few) }
 
 -- ---- how the loop ends
 
@@ -322,13 +242,13 @@ few-bad xs (some ys) h = rw (lt-leb (length (xs ++ ys)) 256 (h ys refl)) (go (le
 
 sections-some : (s : List ℕ) → 0 < length s → (ys : List (List ℕ)) → sections s ≡ some ys → 0 < length ys
 unfolding ahead
-sections-some s h ys e = go (whole s) refl
+sections-some s h ys e = go (isPart 1 s) refl
   where
     one : (o : Option (List (List ℕ))) → ahead (streamOf s ∷ []) o ≡ some ys → 0 < length ys
     one none e′ = let z : _≡_ {A = ℕ} 0 1 = cc in absurd (omega arith)
     one (some zs) e′ = let f : streamOf s ∷ zs ≡ ys = cc in rw (← f) (omega arith)
 
-    go : (b : Bool) → whole s ≡ b → 0 < length ys
+    go : (b : Bool) → isPart 1 s ≡ b → 0 < length ys
     go true w = one (sections (drop (sizeOf s) s)) (sym (sections-more s h w) ∙ e)
     go false w = let n : none ≡ some ys = sym (sections-bad s h w) ∙ e in let z : _≡_ {A = ℕ} 0 1 = cc in absurd (omega arith)
 
@@ -355,10 +275,10 @@ module _ {bundle buffer cuts : List ℕ} {at bytes count : ℕ} (t : Taking bund
       ))
 
   -- no section where one should stand
-  pub bad-section : at < length bundle → sectionSize (drop at bundle) ≡ 0 → streamsIn bundle ≡ none
+  pub bad-section : at < length bundle → partSize 1 (drop at bundle) ≡ 0 → streamsIn bundle ≡ none
   unfolding few ahead
   bad-section more e =
-      judged ∙ ap (λ (o : Option (List (List ℕ))). few (ahead (cutOut buffer cuts count) o)) (sections-bad (drop at bundle) (omega (arith, length-drop at bundle)) (size-none (drop at bundle) e))
+      judged ∙ ap (λ (o : Option (List (List ℕ))). few (ahead (cutOut buffer cuts count) o)) (sections-bad (drop at bundle) (omega (arith, length-drop at bundle)) (size-none 1 (drop at bundle) e))
 
   ended : length bundle ≤ at → streamsIn bundle ≡ few (some (cutOut buffer cuts count))
   unfolding ahead

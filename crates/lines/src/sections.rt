@@ -1,17 +1,15 @@
 // A bundle taken apart into one buffer and cuts (RULES, Merging records: sections of whole length (4 bytes),
 // kind (2, always 1), then one stream).
+use crate::parts::PART_HEAD;
+use crate::parts::part_size;
 use leaves_limits::BUNDLE_BYTES;
 use leaves_limits::STREAMS;
 ghost use mathlib.Core.Path.{_≡_};
-ghost use Prim.Native.Nat.{_+_, _≤_};
-ghost use lib.ListN.{length, getD, drop};
+ghost use Prim.Native.Nat.{_≤_};
+ghost use lib.ListN.{length, getD};
 ghost use Rattle.leaves_limits.specs.Limits.{mostBundle};
-ghost use Rattle.lines.specs.Sections.{sectionSize, PartedOk};
+ghost use Rattle.lines.specs.Sections.{PartedOk};
 
-// A section's head: its whole length (4 bytes) and its kind (2).
-const HEAD: usize = 6;
-// Where in the head the kind stands.
-const KIND_AT: usize = 4;
 // The kind of a section that holds a stream.
 const STREAM: u16 = 1;
 
@@ -19,28 +17,6 @@ const STREAM: u16 = 1;
 pub enum Parted {
     Streams { count: usize, bytes: usize },
     Bad,
-}
-
-// The whole length of the section that stands at `at`, or 0 where none stands there.
-fn section_size(bundle: &[u8], at: usize) -> usize
-    requires { ⌜ at ≤ length (now bundle) ⌝ }
-    ensures { λ r. ⌜ r ≡ sectionSize (drop at (now (bundle .entry))) ⌝ }
-{
-    let left = bundle.len() - at;
-    if left < HEAD {
-        return 0;
-    }
-    let size = leaves_fields::fields::u32_at(bundle, at) as usize;
-    if size < HEAD {
-        return 0;
-    }
-    if left < size {
-        return 0;
-    }
-    if leaves_fields::fields::u16_at(bundle, at + KIND_AT) != STREAM {
-        return 0;
-    }
-    size
 }
 
 // Takes a bundle apart: the streams' bytes one after another in the buffer, and where each begins and ends in the cuts.
@@ -58,12 +34,12 @@ pub fn part(bundle: &[u8], buffer: &mut [u8], cuts: &mut [u64]) -> Parted
         if count == STREAMS {
             return Parted::Bad;
         }
-        let size = section_size(bundle, at);
+        let size = part_size(bundle, at, STREAM);
         if size == 0 {
             return Parted::Bad;
         }
-        crate::copy::copy(buffer, bytes, bundle, at + HEAD, size - HEAD);
-        bytes += size - HEAD;
+        crate::copy::copy(buffer, bytes, bundle, at + PART_HEAD, size - PART_HEAD);
+        bytes += size - PART_HEAD;
         at += size;
         count += 1;
         cuts[count] = bytes as u64;

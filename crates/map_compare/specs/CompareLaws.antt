@@ -6,9 +6,9 @@ use native.Mathlib.Omega.{arith}
 use mathlib.Core.Bool.{Bool, true, false, not, _&&_, _||_, cond}
 use mathlib.Core.List.{List, [], _∷_}
 use lib.ListN.{length}
-use lib.Dec.{T, ltb, eqb}
+use lib.Dec.{ltb, eqb}
 use mir.Facts.{ltb-yes, ltb-no}
-use Rattle.theory.specs.Bools.{fails, holds}
+use Rattle.theory.specs.Bools.{both, true-T, false-T, fails, holds}
 use Rattle.theory.specs.Answer.{Answer, answer}
 use Rattle.theory.specs.RunsTools.{cond-yes, cond-no, cond-lt, cond-ge}
 use Rattle.map_rules.specs.Table.{Row, Outcome, refusedBy, stored, ifRoom, namesFit, wellFormed}
@@ -175,16 +175,6 @@ module _ {left : List ℕ} {n : ℕ} {right : List ℕ} {m : ℕ} {l r : Positio
 
 -- ---- 15 and 14
 
-true-T : (b : Bool) → b ≡ true → T b
-true-T b e = rw e tt
-
-false-T : (b : Bool) → b ≡ false → T (not b)
-false-T b e = rw e tt
-
-and-both : (a b : Bool) → a && b ≡ true → (a ≡ true) × (b ≡ true)
-and-both true b e = (refl, e)
-and-both false b e = absurd (let z : _≡_ {A = ℕ} 0 1 = cc in omega arith)
-
 module _ (left n right m names long : ℕ) where
   -- what the first table's memory gives, the second's, and the list's
   pub unfit-left : {a : Bool} → a ≡ tableFits left n && namesFit names → a ≡ false → false ≡ compareFits left n right m names long
@@ -211,10 +201,10 @@ pub record Lends (left n right m long : ℕ) : Type 0 where
 pub lends : (left n right m names long : ℕ) {b : Bool} → b ≡ compareFits left n right m names long → not b ≡ false → Lends left n right m long
 unfolding compareFits
 lends left n right m names long e h =
-    let p = and-both (tableFits left n && namesFit names) ((tableFits right m && namesFit names) && eqb (long % stretchWidth) 0) (holds e h) in
-    let q = and-both (tableFits right m && namesFit names) (eqb (long % stretchWidth) 0) (p .1) in
-    let l : Lent left n = table-lent left n (and-both (tableFits left n) (namesFit names) (p .0) .0) in
-    let r : Lent right m = table-lent right m (and-both (tableFits right m) (namesFit names) (q .0) .0) in
+    let p = both (tableFits left n && namesFit names) ((tableFits right m && namesFit names) && eqb (long % stretchWidth) 0) (holds e h) in
+    let q = both (tableFits right m && namesFit names) (eqb (long % stretchWidth) 0) (p .1) in
+    let l : Lent left n = table-lent left n (both (tableFits left n) (namesFit names) (p .0) .0) in
+    let r : Lent right m = table-lent right m (both (tableFits right m) (namesFit names) (q .0) .0) in
     record {
       left-fits = omega (arith, l .whole, l .in-use);
       right-fits = omega (arith, r .whole, r .in-use);
@@ -236,7 +226,7 @@ module _ (left : List ℕ) (n : ℕ) (right : List ℕ) (m names : ℕ) where
   pub formed-order : {b : Bool} {long : ℕ} → Lends (length left) n (length right) m long → b ≡ bothFormed left n right m names → b ≡ true → InOrder left n right m
   unfolding bothFormed
   formed-order w e h =
-      let p = and-both (wellFormed sameValue knownValue names (rows left n)) (wellFormed sameValue knownValue names (rows right m)) (sym e ∙ h) in
+      let p = both (wellFormed sameValue knownValue names (rows left n)) (wellFormed sameValue knownValue names (rows right m)) (sym e ∙ h) in
       record {
         left-fits = w .left-fits;
         right-fits = w .right-fits;

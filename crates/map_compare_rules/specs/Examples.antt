@@ -10,32 +10,9 @@ use Rattle.theory.specs.Runs.{All}
 use Rattle.theory.specs.Fields.{field}
 use Rattle.map_rules.specs.Table.{Row, Outcome, ifRoom, roomFits, namesFit, wellFormed}
 use Rattle.map_rules.specs.Memory.{sameValue, rowAt, rowsFrom, bytesOf, rowBytes, rowsBytes, tableFits}
+use Rattle.map_rules.specs.Worked.{A, B, C, last, greatest, of, row}
 use Rattle.map_compare_rules.specs.Compare.{Difference, Stretches, stretch, compared}
 use Rattle.map_compare_rules.specs.Memory.{Value, symbolIn, stretchBytes, stretchesBytes, compareOutcome, comparedAnswer, comparedMemory}
-
--- the symbols
-abbrev A : Value
-A = 0
-
-abbrev B : Value
-B = 1
-
-abbrev C : Value
-C = 2
-
--- the greatest moment, and the greatest instrument
-abbrev last : ℕ
-last = 18446744073709551615
-
-abbrev greatest : ℕ
-greatest = 4294967295
-
--- an interval of an instrument, and of instrument 7
-abbrev of : ℕ → ℕ → ℕ → Value → Row Value
-of i a b v = record { instrument = i; start = a; end = b; value = v }
-
-abbrev row : ℕ → ℕ → Value → Row Value
-row a b v = of 7 a b v
 
 -- a stretch of an instrument that the left table alone speaks of, the right one alone, both
 abbrev leftOf : ℕ → ℕ → ℕ → Value → Row (Difference Value)

@@ -14,7 +14,7 @@ use lib.ListN.{length}
 use lib.Dec.{T, leb, ltb, eqb, lt→ltb, le→leb, eqb-refl, not-T, T-not}
 use lib.Arith.{le→nltb, lt→nleb}
 use mir.Facts.{eqb-yes}
-use Rattle.theory.specs.RunsTools.{cond-case, cond-yes, cond-no, cond-lt, cond-ge, T-and, Order, less, equal, more, order, none-some}
+use Rattle.theory.specs.RunsTools.{cond-case, cond-yes, cond-no, cond-lt, cond-ge, T-and, T-nor-l, T-nor-r, Order, less, equal, more, order, none-some}
 use Rattle.theory.specs.Runs.{Interval, Same, IsRun, Mem}
 use Rattle.theory.specs.RunsLongest.{Rising, same-run}
 use Rattle.map_rules.specs.Table.{Row, intervalOf, group, answerFor, Ordered}
@@ -43,14 +43,6 @@ module _ {A : Type 0} (same : A → A → Bool) where
   nor true b s t = absurd s
   nor false b s t = t
 
-  nand-l : (a b : Bool) → T (not a) → T (not (a && b))
-  nand-l true b t = absurd t
-  nand-l false b t = tt
-
-  nand-r : (a b : Bool) → T (not b) → T (not (a && b))
-  nand-r true b t = t
-  nand-r false b t = tt
-
   pub over-yes : (x y : Row A) → Past x y → T (over x y)
   unfolding over
   over-yes x y p = go (order (x .instrument) (y .instrument))
@@ -78,8 +70,8 @@ module _ {A : Type 0} (same : A → A → Bool) where
       go : Order (x .instrument) (y .instrument) → Dec (x .end ≤ y .start) → T (not (l || (q && r)))
       go (less h) k = absurd (n (record { upto = omega arith; ends = λ e. omega arith }))
       go (equal h) (yes k) = absurd (n (record { upto = omega arith; ends = λ e. k }))
-      go (equal h) (no k) = nor l (q && r) (le→nltb (x .instrument) (y .instrument) (omega arith)) (nand-r q r (lt→nleb (x .end) (y .start) (omega arith)))
-      go (more h) k = nor l (q && r) (le→nltb (x .instrument) (y .instrument) (omega arith)) (nand-l q r (not-T q (λ t. let z : x .instrument ≡ y .instrument = eqb-yes t in omega arith)))
+      go (equal h) (no k) = nor l (q && r) (le→nltb (x .instrument) (y .instrument) (omega arith)) (T-nor-r q r (lt→nleb (x .end) (y .start) (omega arith)))
+      go (more h) k = nor l (q && r) (le→nltb (x .instrument) (y .instrument) (omega arith)) (T-nor-l q r (not-T q (λ t. let z : x .instrument ≡ y .instrument = eqb-yes t in omega arith)))
 
   past? : (x y : Row A) → Dec (Past x y)
   past? x y = go (order (x .instrument) (y .instrument)) (decLe (x .end) (y .start))

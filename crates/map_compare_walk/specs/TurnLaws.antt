@@ -1,12 +1,13 @@
 -- Each way through the tests of a turn is one law. Assumes nothing.
-use mathlib.Core.Path.{_≡_, refl, sym, ap, _∙_}
+use mathlib.Core.Path.{_≡_, sym, ap, _∙_}
 use mathlib.Core.Logic.{_≢_}
 use Prim.Native.Nat.{ℕ, _≤_, _<_}
 use native.Mathlib.Omega.{arith}
 use mathlib.Core.Bool.{Bool, true, false, not, _&&_, _||_, cond}
-use lib.Dec.{T, leb, ltb, eqb, lt→ltb, eqb-refl, not-T}
+use lib.Dec.{leb, ltb, eqb, lt→ltb, eqb-refl, not-T}
 use lib.Arith.{le→nltb}
 use mir.Facts.{eqb-yes}
+use Rattle.theory.specs.Bools.{T-true, T-false}
 use Rattle.theory.specs.RunsTools.{cond-yes, cond-no, cond-lt, cond-ge}
 use Rattle.map_rules.specs.Table.{Row}
 use Rattle.map_rules.specs.Memory.{sameValue}
@@ -17,38 +18,30 @@ use Rattle.map_compare_walk.specs.declared.walk.Turn.{Turn}
 use Rattle.map_compare_walk.specs.declared.walk.Stretch.{Stretch}
 use Rattle.map_compare_walk.specs.Walk.{goesOn, cutTo, turnBy, bothOf, turnOf, saying, instrumentOf, tellsOf}
 
-is-true : (b : Bool) → T b → b ≡ true
-is-true true t = refl
-is-true false t = absurd t
-
-is-false : (b : Bool) → T (not b) → b ≡ false
-is-false true t = absurd t
-is-false false t = refl
-
 module _ (x y : Row Value) where
   -- one is over before the other starts
   pub over-lower : x .instrument < y .instrument → true ≡ over x y
   unfolding over
   over-lower h =
       sym (ap (λ (b : Bool). b || (eqb (x .instrument) (y .instrument) && leb (x .end) (y .start)))
-      (is-true (ltb (x .instrument) (y .instrument)) (lt→ltb (x .instrument) (y .instrument) h)))
+      (T-true (ltb (x .instrument) (y .instrument)) (lt→ltb (x .instrument) (y .instrument) h)))
 
   past : y .instrument ≤ x .instrument → over x y ≡ eqb (x .instrument) (y .instrument) && leb (x .end) (y .start)
   unfolding over
   past h =
       ap (λ (b : Bool). b || (eqb (x .instrument) (y .instrument) && leb (x .end) (y .start)))
-      (is-false (ltb (x .instrument) (y .instrument)) (le→nltb (x .instrument) (y .instrument) h))
+      (T-false (ltb (x .instrument) (y .instrument)) (le→nltb (x .instrument) (y .instrument) h))
 
   pub over-own : {b : Bool} → x .instrument ≡ y .instrument → b ≡ leb (x .end) (y .start) → b ≡ over x y
   over-own e f =
       f ∙ sym (past (omega arith)
-      ∙ ap (λ (b : Bool). b && leb (x .end) (y .start)) (is-true (eqb (x .instrument) (y .instrument)) (rw e (eqb-refl (y .instrument)))))
+      ∙ ap (λ (b : Bool). b && leb (x .end) (y .start)) (T-true (eqb (x .instrument) (y .instrument)) (rw e (eqb-refl (y .instrument)))))
 
   pub over-higher : y .instrument ≤ x .instrument → x .instrument ≢ y .instrument → false ≡ over x y
   over-higher h d =
       sym (past h
       ∙ ap (λ (b : Bool). b && leb (x .end) (y .start))
-      (is-false (eqb (x .instrument) (y .instrument)) (not-T (eqb (x .instrument) (y .instrument)) (λ t. d (eqb-yes t)))))
+      (T-false (eqb (x .instrument) (y .instrument)) (not-T (eqb (x .instrument) (y .instrument)) (λ t. d (eqb-yes t)))))
 
   -- two heads that start at the same moment
   module _ {s : Bool} {t : Turn} {u v : Onward} (e : s ≡ sameValue (x .value) (y .value)) where

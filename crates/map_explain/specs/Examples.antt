@@ -9,32 +9,9 @@ use Rattle.theory.specs.Runs.{All, interval}
 use Rattle.theory.specs.Fields.{field}
 use Rattle.map_rules.specs.Table.{Row, roomFits, namesFit, wellFormed}
 use Rattle.map_rules.specs.Memory.{rowAt, rowsFrom, bytesOf, rowBytes, rowsBytes, tableFits}
+use Rattle.map_rules.specs.Worked.{A, B, C, last, greatest, of, row}
 use Rattle.map_explain.specs.Reason.{Reason, in-one, unknown, before, after, between, explainedRows, saidBy}
 use Rattle.map_explain.specs.Explain.{Value, reasonAnswer, explainAnswer}
-
--- the symbols
-abbrev A : Value
-A = 0
-
-abbrev B : Value
-B = 1
-
-abbrev C : Value
-C = 2
-
--- the greatest moment, and the greatest instrument
-abbrev last : ℕ
-last = 18446744073709551615
-
-abbrev greatest : ℕ
-greatest = 4294967295
-
--- an interval of an instrument, and of instrument 7
-abbrev of : ℕ → ℕ → ℕ → Value → Row Value
-of i a b v = record { instrument = i; start = a; end = b; value = v }
-
-abbrev row : ℕ → ℕ → Value → Row Value
-row a b v = of 7 a b v
 
 -- a question about a table, and the reason
 record Case : Type 0 where

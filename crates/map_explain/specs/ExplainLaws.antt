@@ -6,15 +6,16 @@ use Prim.Native.Nat.{ℕ, zero, suc, _+_, _-_, _≤_, _<_}
 use native.Mathlib.Nat.{add-zero}
 use native.Mathlib.Decide.{decLt, ℕ-discrete}
 use native.Mathlib.Omega.{arith}
-use mathlib.Core.Bool.{Bool, true, false, not, _&&_, cond}
+use mathlib.Core.Bool.{Bool, true, false, not, _&&_, cond, false≢true}
 use mathlib.Core.Option.{none, some}
 use mathlib.Core.List.{List, [], _∷_, _++_}
-use lib.ListN.{length, getD, getElem?}
+use lib.ListN.{length, getElem?}
 use lib.Dec.{T, ltb, eqb, eqb-refl, lt→ltb}
 use lib.Arith.{le→nltb}
 use mir.Facts.{eqb-yes, ltb-yes}
 use borrow.Author.Tests.{not-true, not-false}
 use Rattle.theory.specs.Answer.{Answer, answer}
+use Rattle.theory.specs.Bools.{true-T, false-T, T-true, T-false}
 use Rattle.theory.specs.Runs.{Interval}
 use Rattle.theory.specs.RunsTools.{cond-lt, cond-ge, cond-yes, cond-no, T-fst, T-snd, T-nor-l, none-some, some-same}
 use Rattle.map_rules.specs.Table.{Row, intervalOf, group, Ordered, namesFit, wellFormed}
@@ -22,68 +23,34 @@ use Rattle.map_rules.specs.Groups.{Sorted, formed-iff}
 use Rattle.map_rules.specs.Lookup.{started}
 use Rattle.map_rules.specs.Places.{own, own-yes, own-no, lower, group-place, started-place}
 use Rattle.map_rules.specs.Memory.{sameValue, knownValue, rowAt, rows, tableFits}
-use Rattle.map_rules.specs.MemoryLaws.{blank, length-rows}
 use Rattle.map_rules.specs.Outcomes.{Lent, memory-lent, memory-holds, checked-ordered}
-use Rattle.map_rules.specs.Search.{at-row}
+use Rattle.map_rules.specs.Search.{row-in, row-out}
 use Rattle.map_rules.specs.Looks.{Begun, Reach}
 use Rattle.map_explain.specs.Reason.{Reason, in-one, unknown, before, after, between, explainedRows, Holds}
 use Rattle.map_explain.specs.ReasonLaws.{reason-only}
 use Rattle.map_explain.specs.Explain.{Value, numbersOf, reasonAnswer, rowsAnswer, explainAnswer, ownAt, InOrder, Placed}
 
--- ---- truth values
-
-true-T : (b : Bool) → b ≡ true → T b
-true-T b e = rw e tt
-
-T-true : (b : Bool) → T b → true ≡ b
-T-true true t = refl
-T-true false t = absurd t
-
-T-false : (b : Bool) → T (not b) → false ≡ b
-T-false true t = absurd t
-T-false false t = refl
-
-true-false : true ≡ false → ⊥
-true-false e = let z : _≡_ {A = ℕ} 0 1 = cc in omega arith
-
 -- ---- the interval at a place
-
-module _ {X : Type 0} where
-  get-in : (d : X) (xs : List X) (k : ℕ) → k < length xs → getElem? xs k ≡ some (getD xs k d)
-  get-in d [] k h = absurd (omega arith)
-  get-in d (x ∷ xs) zero h = refl
-  get-in d (x ∷ xs) (suc k) h = get-in d xs k (omega arith)
-
-  get-out : (xs : List X) (k : ℕ) → length xs ≤ k → getElem? xs k ≡ none
-  get-out [] k h = refl
-  get-out (x ∷ xs) zero h = absurd (omega arith)
-  get-out (x ∷ xs) (suc k) h = get-out xs k (omega arith)
 
 module _ (t : List ℕ) (used k i : ℕ) where
   -- how the code finds out whose it is
   pub own-out : used ≤ k → false ≡ ownAt t used k i
   unfolding ownAt
-  own-out h = T-false _ (T-nor-l (ltb k used) _ (le→nltb k used h))
+  own-out h = sym (T-false _ (T-nor-l (ltb k used) _ (le→nltb k used h)))
 
   pub own-in : {x : Row Value} {b : Bool} → x ≡ rowAt t k → k < used → b ≡ eqb (x .instrument) i → b ≡ ownAt t used k i
   unfolding ownAt
-  own-in e h f = f ∙ (λ j. T-true (ltb k used) (lt→ltb k used h) j && eqb (e j .instrument) i)
-
-  row-in : k < used → getElem? (rows t used) k ≡ some (rowAt t k)
-  row-in h =
-      get-in blank (rows t used) k (let e : length (rows t used) ≡ used = length-rows t 0 used in omega arith)
-      ∙ ap some (at-row t used k h)
+  own-in e h f = f ∙ (λ j. sym (T-true (ltb k used) (lt→ltb k used h)) j && eqb (e j .instrument) i)
 
   row-own : k < used → rowAt t k .instrument ≡ i → own i (getElem? (rows t used) k) ≡ some (intervalOf (rowAt t k))
-  row-own h e = ap (own i) (row-in h) ∙ own-yes i (rowAt t k) e
+  row-own h e = ap (own i) (row-in t used k h) ∙ own-yes i (rowAt t k) e
 
   row-other : k < used → rowAt t k .instrument ≢ i → own i (getElem? (rows t used) k) ≡ none
-  row-other h d = ap (own i) (row-in h) ∙ own-no i (rowAt t k) d
+  row-other h d = ap (own i) (row-in t used k h) ∙ own-no i (rowAt t k) d
 
-  row-out : used ≤ k → own i (getElem? (rows t used) k) ≡ none
+  row-past : used ≤ k → own i (getElem? (rows t used) k) ≡ none
   unfolding own
-  row-out h =
-      ap (own i) (get-out (rows t used) k (let e : length (rows t used) ≡ used = length-rows t 0 used in omega arith))
+  row-past h = ap (own i) (row-out t used k h)
 
   pub own-yes-row : {b : Bool} → b ≡ ownAt t used k i → b ≡ true → own i (getElem? (rows t used) k) ≡ some (intervalOf (rowAt t k))
   unfolding ownAt
@@ -103,19 +70,19 @@ module _ (t : List ℕ) (used k i : ℕ) where
       is-no = sym e ∙ f
 
       go : Dec (k < used) → Dec (rowAt t k .instrument ≡ i) → own i (getElem? (rows t used) k) ≡ none
-      go (no h) d = row-out (omega arith)
+      go (no h) d = row-past (omega arith)
       go (yes h) (no d) = row-other h d
       go (yes h) (yes d) =
-          let a : true ≡ ltb k used = T-true (ltb k used) (lt→ltb k used h) in
-          let b : true ≡ eqb (rowAt t k .instrument) i = T-true _ (rw d (eqb-refl i)) in
-          absurd (true-false ((λ j. a j && b j) ∙ is-no))
+          let a : ltb k used ≡ true = T-true (ltb k used) (lt→ltb k used h) in
+          let b : eqb (rowAt t k .instrument) i ≡ true = T-true _ (rw d (eqb-refl i)) in
+          absurd (false≢true (sym is-no ∙ (λ j. a j && b j)))
 
   -- an own interval there is the stored one
   own-is : (x : Interval Value) → own i (getElem? (rows t used) k) ≡ some x → x ≡ intervalOf (rowAt t k)
   own-is x e = go (decLt k used) (ℕ-discrete (rowAt t k .instrument) i)
     where
       go : Dec (k < used) → Dec (rowAt t k .instrument ≡ i) → x ≡ intervalOf (rowAt t k)
-      go (no h) d = absurd (none-some _ x (row-out (omega arith)) e)
+      go (no h) d = absurd (none-some _ x (row-past (omega arith)) e)
       go (yes h) (no d) = absurd (none-some _ x (row-other h d) e)
       go (yes h) (yes d) = some-same _ x (intervalOf (rowAt t k)) e (row-own h d)
 
@@ -255,9 +222,6 @@ module _ {t : List ℕ} {used i m g u : ℕ} (p : Placed t used i m g u) where
           (last-row .0, next, rw d at l, later)
 
 -- ---- 15 and 14
-
-false-T : (b : Bool) → b ≡ false → T (not b)
-false-T b e = rw e tt
 
 module _ (t : List ℕ) (used names i m : ℕ) where
   pub explained-unfit : {b : Bool} → b ≡ tableFits (length t) used && namesFit names → not b ≡ true

@@ -1,30 +1,30 @@
 -- What the steps of a mapping call's judgement show. Assumes nothing.
 use mathlib.Core.Path.{_≡_, refl, sym, ap, _∙_}
 use mathlib.Core.Logic.{_≢_, _⊎_, inl, inr}
-use Prim.Native.Nat.{ℕ, zero, suc, _+_, _-_, _≤_, _<_}
+use Prim.Native.Nat.{ℕ, _-_, _≤_, _<_}
 use native.Mathlib.Omega.{arith}
 use mathlib.Core.Bool.{Bool, true, false, not, _&&_, cond, false≢true}
-use mathlib.Core.List.{List, [], _∷_}
+use mathlib.Core.List.{List, []}
 use lib.ListN.{length, take, drop}
 use lib.Seq.{slice, take-length, length-slice}
-use lib.Dec.{leb, ltb, eqb}
-use borrow.Author.Tests.{leb-true, ltb-false, lt-ltb, le-ltb, le-leb, eq-eqb, ne-eqb}
-use Rattle.theory.specs.Bools.{and-left, and-right, holds, fails}
+use lib.Dec.{ltb, eqb}
+use borrow.Author.Tests.{ltb-false, lt-ltb, le-ltb, le-leb, eq-eqb, ne-eqb}
+use Rattle.theory.specs.Bools.{holds, fails}
 use Rattle.theory.specs.Answer.{Answer, answer}
 use Rattle.theory.specs.Fields.{field}
-use Rattle.leaves.specs.Refusal.{refused, numberOf, valuesOf}
+use Rattle.leaves.specs.Refusal.{refused}
 use Rattle.leaves.specs.declared.refusal.Refusal.the-variants.{Reversed, NoNameRoom, BadName, IllFormed, BadMemory}
 use Rattle.leaves.specs.declared.refusal.Refusal.{Refusal}
 use Rattle.leaves.specs.Frame.{Read, whole, ended, damaged, Mapped, other, symbol, notOne, mappingStart, ofKind, oneRecord, frameAt, mappedIn, mappedOf, mappingOf, nameIn}
 use Rattle.leaves.specs.FrameLaws.{mapped-other, mapped-symbol, mapped-refused}
-use Rattle.leaves.specs.RefusalLaws.{refused-not-done}
+use Rattle.leaves.specs.RefusalLaws.{refused-all}
 use Rattle.leaves.specs.declared.frame.Mapping.{Mapping}
 use Rattle.leaves.specs.declared.frame.Mapping.the-variants.{Other, Symbol, Refused as NotRead}
 use Rattle.leaves_names.specs.Names.{listFits, wellFormed, namesOf, least, isName, hasRoom, Ordered}
 use Rattle.leaves_names.specs.declared.names.Naming.{Naming}
 use Rattle.leaves_names.specs.declared.names.Naming.the-variants.{Old, New, Refused as NotNamed}
 use Rattle.leaves_names.specs.NamesLaws.{memory, formed, ordered}
-use Rattle.leaves_names.specs.NamingLaws.{numbered-old, numbered-fresh}
+use Rattle.leaves_names.specs.NamingLaws.{room, numbered-old, numbered-fresh}
 use Rattle.map_rules.specs.Table.{namesFit}
 use Rattle.map_plan.specs.Wanted.{Wanted, nothing, refuses, stores, numberingIn, numbered, wanted, judged, afterCheck, judgedBy, planOf, Lies, Placed, Forward, Formed, Ready}
 use Rattle.map_plan.specs.declared.planning.Plan.{Plan}
@@ -44,29 +44,6 @@ pub ready-planned : (over-time : Bool) (bytes ends : List ℕ) (names name-bytes
 ready-planned over-time bytes ends names name-bytes rec p e h f = record { placed = h; forward = f; formed = checked-done p (sym e) }
 
 -- ---- the number of a valid name
-
--- what room for one name more gives
-pub record Room (bytes places names name-bytes size : ℕ) : Type 0 where
-  pub few : names + 1 ≤ 4096
-  pub small : name-bytes + size ≤ 65536
-  pub place : names < places
-  pub inside : name-bytes + size ≤ bytes
-
-pub room : (bytes places names name-bytes size : ℕ) → hasRoom bytes places names name-bytes size ≡ true → Room bytes places names name-bytes size
-unfolding hasRoom
-room bytes places names name-bytes size e =
-    let a = leb (names + 1) 4096 in
-    let b = leb (name-bytes + size) 65536 in
-    let c = leb (names + 1) places in
-    let d = leb (name-bytes + size) bytes in
-    let abc : (a && b && c) ≡ true = and-left (a && b && c) d e in
-    let ab : (a && b) ≡ true = and-left (a && b) c abc in
-    record {
-      few = leb-true (names + 1) 4096 (and-left a b ab);
-      small = leb-true (name-bytes + size) 65536 (and-right a b ab);
-      place = omega (arith, leb-true (names + 1) places (and-right (a && b) c abc));
-      inside = leb-true (name-bytes + size) bytes (and-right (a && b && c) d e);
-    }
 
 -- where a name lies in a record's bytes
 abbrev pub Part : List ℕ → ℕ → ℕ → Type 0
@@ -124,8 +101,8 @@ module _ (bytes ends rec : List ℕ) (names name-bytes from to : ℕ) (m : listF
         apart = p .0;
         inside = p .1;
         name = p .2;
-        places = λ e. r .place;
-        room = λ e. r .inside;
+        places = λ e. omega (arith, r .place);
+        room = λ e. r .held;
         small = λ e. omega (arith, r .small);
       }
 
@@ -242,11 +219,7 @@ module _ (over-time : Bool) (bytes ends rec : List ℕ) (names name-bytes : ℕ)
 -- ---- the tests of memory, table and list
 
 refused-after : (r : Refusal) (w : Wanted) → afterCheck (refused r) w ≡ refuses (refused r)
-refused-after r w = go (numberOf r) (valuesOf r) (refused-not-done r)
-  where
-    go : (n : ℕ) (vs : List ℕ) → n ≢ 0 → afterCheck (answer n vs) w ≡ refuses (answer n vs)
-    go zero vs h = absurd (h refl)
-    go (suc n) vs h = refl
+refused-after r w = refused-all (λ (a : Answer). afterCheck a w ≡ refuses a) (λ n values. refl) r
 
 module _ (checked : Answer) (bytes ends : List ℕ) (names name-bytes : ℕ) (w : Wanted) where
   abbrev judge : Wanted

@@ -52,7 +52,7 @@ unfolding putEntry
 length-putEntry t i e = length-put 4 (putField 4 t (i * 8) (e .instrument)) (i * 8 + 4) (e .symbol) ∙ length-put 4 t (i * 8) (e .instrument)
 
 -- a byte of another place
-putEntry-byte : (t : List ℕ) (i : ℕ) (e : Entry) (x : ℕ) → (i * 8 ≤ x → x < i * 8 + 8 → ⊥) → getD (putEntry t i e) x 0 ≡ getD t x 0
+pub putEntry-byte : (t : List ℕ) (i : ℕ) (e : Entry) (x : ℕ) → (i * 8 ≤ x → x < i * 8 + 8 → ⊥) → getD (putEntry t i e) x 0 ≡ getD t x 0
 unfolding putEntry
 putEntry-byte t i e x out =
     put-byte 4 (putField 4 t (i * 8) (e .instrument)) (i * 8 + 4) (e .symbol) x (λ l u. out (omega arith) (omega arith))

@@ -11,13 +11,14 @@ use lib.Dec.{T, ltb, eqb, eqb-refl, lt→ltb}
 use borrow.Author.Tests.{lt-ltb, le-ltb, le-leb, ltb-true, ltb-false, eqb-false, ne-eqb}
 use mir.Facts.{ltb-yes}
 use Rattle.theory.specs.Answer.{Answer}
-use Rattle.theory.specs.Bools.{and-left, and-right}
+use Rattle.theory.specs.Bools.{and-left, and-right, true-T, T-true}
 use Rattle.theory.specs.RunsTools.{cond-case, cond-yes, T-and, T-fst, T-snd}
 use Rattle.leaves.specs.Refusal.{refused}
 use Rattle.leaves.specs.declared.refusal.Refusal.the-variants.{Reversed, BadName, NoNameRoom, IllFormed, BadMemory}
 use Rattle.leaves.specs.Frame.{Mapped, other, symbol, notOne, mappedIn, nameIn}
 use Rattle.leaves_names.specs.Names.{listFits, wellFormed as wellFormedNames, isName, namesOf, least, numbering, naming, hasRoom}
 use Rattle.leaves_names.specs.NamesLaws.{Memory, memory}
+use Rattle.leaves_names.specs.NamingLaws.{room}
 use Rattle.leaves_names.specs.declared.names.Naming.{Naming}
 use Rattle.leaves_names.specs.declared.names.Naming.the-variants.{Old, New, Refused as NotNamed}
 use Rattle.map_rules.specs.Table.{Row, Outcome, refusedBy, stored, nowStored, roomFits, namesFit, wellFormed, ordered, allKnown, entered, inserted}
@@ -31,7 +32,6 @@ use Rattle.map_point.specs.Points as points
 use Rattle.map_point.specs.Points.{rising, setEntry, pointsFit}
 use Rattle.map_point.specs.PointsLaws.{set-rising, set-known}
 use Rattle.map_plan.specs.Wanted.{Wanted, nothing, refuses, stores, numberingIn, numbered, wanted, judged}
-use Rattle.map_plan.specs.WantedLaws.{room}
 use Rattle.map_record.specs.Mapping.{timeJudged, pointJudged, pointOutcome, mappingRow, timeOutcome, outcomeComes, timeComes, namesThen, leftBy, timeLeft, Leaves, TimeLeaves}
 
 -- ---- what a call that stores has passed
@@ -178,13 +178,6 @@ known-more names more (x ∷ xs) h k =
     let l : x .value < names = ltb-yes (T-fst (ltb (x .value) names) (allKnown (knownValue names) xs) k) in
     T-and (ltb (x .value) more) (allKnown (knownValue more) xs) (lt→ltb (x .value) more (omega arith))
     (known-more names more xs h (T-snd (ltb (x .value) names) (allKnown (knownValue names) xs) k))
-
-true-T : (b : Bool) → b ≡ true → T b
-true-T b e = rw e tt
-
-T-true : (b : Bool) → T b → b ≡ true
-T-true true t = refl
-T-true false t = absurd t
 
 formed-more : (names more : ℕ) (xs : List (Row ℕ)) → names ≤ more → wellFormed sameValue knownValue names xs ≡ true → wellFormed sameValue knownValue more xs ≡ true
 unfolding wellFormed

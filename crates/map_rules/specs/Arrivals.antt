@@ -11,6 +11,7 @@ use mathlib.Core.List.{List, [], _∷_}
 use lib.ListN.{getD, getElem?}
 use lib.Dec.{leb, ltb, eqb}
 use borrow.Author.Tests.{ltb-true, ltb-false, leb-true, leb-false, eqb-true, lt-ltb, le-ltb, eq-eqb, ne-eqb}
+use Rattle.theory.specs.Bools.{both}
 use Rattle.theory.specs.Answer.{Answer, answer}
 use Rattle.theory.specs.Fields.{field}
 use Rattle.theory.specs.Runs.{Interval}
@@ -24,7 +25,7 @@ use Rattle.map_rules.specs.Memory.{width, rowAt, rows}
 use Rattle.map_rules.specs.MemoryLaws.{blank, length-rows}
 use Rattle.map_rules.specs.Search.{at-row}
 use Rattle.map_rules.specs.Halves.{Probe, RowFrom, Parts, Finds, near-all}
-use Rattle.map_rules.specs.Looks.{saidAnswer, Tells, Begun, Reach, last, coversAt, lookAt, look-yes, look-no, Covering, covering, covers-own, and-true}
+use Rattle.map_rules.specs.Looks.{saidAnswer, Tells, Begun, Reach, last, coversAt, lookAt, look-yes, look-no, Covering, covering, covers-own}
 
 -- ---- the tests of the searches
 
@@ -214,7 +215,7 @@ module _ (t : List ℕ) (used i : ℕ) (w : Ordered (rows t used)) where
       from = reach-from;
       upto = v;
       before = λ k l h e.
-          let p = and-true (eqb (rowAt t k .instrument) i) (leb (rowAt t k .start) m) e in
+          let p = both (eqb (rowAt t k .instrument) i) (leb (rowAt t k .start) m) e in
           let d : rowAt t k .instrument ≡ i = eqb-true _ i (p .0) in
           on-row t used w i m k (omega arith) (record { upto = omega arith; starts = λ d′. leb-true _ m (p .1) });
       behind = λ k l h e. off-row t used w i m k (omega arith) (record { from = not-low k l (omega arith); starts = λ d. late k d e });

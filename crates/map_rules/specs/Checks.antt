@@ -5,11 +5,12 @@ use Prim.Native.Nat.{ℕ, suc, _+_, _-_, _≤_, _<_}
 use native.Mathlib.Omega.{arith}
 use mathlib.Core.Bool.{Bool, true, false, not, _&&_}
 use mathlib.Core.List.{List, [], _∷_}
-use lib.Dec.{T, leb, ltb, eqb, eqb-refl, lt→ltb, le→leb, not-T}
+use lib.Dec.{leb, ltb, eqb, eqb-refl, lt→ltb, le→leb, not-T}
 use lib.Arith.{le→nltb, lt→nleb}
 use borrow.Author.Tests.{not-true, not-false}
 use mir.Facts.{eqb-yes}
 use Rattle.theory.specs.Runs.{meets, apart}
+use Rattle.theory.specs.Bools.{T-true, T-false}
 use Rattle.theory.specs.RunsTools.{T-and, T-nor-l, Order, less, equal, more, order}
 use Rattle.map_rules.specs.Table.{Row, allKnown, apartRow, ordered, wellFormed}
 use Rattle.map_rules.specs.Tests.{apart-lower, apart-higher, apart-own}
@@ -44,14 +45,6 @@ pub record Sofar (t : List ℕ) (used names k : ℕ) (x : Row ℕ) : Type 0 wher
 
 -- ---- truth values
 
-is-true : (b : Bool) → T b → true ≡ b
-is-true true t = refl
-is-true false t = absurd t
-
-is-false : (b : Bool) → T (not b) → false ≡ b
-is-false true t = absurd t
-is-false false t = refl
-
 and-true : (b : Bool) → b && true ≡ b
 and-true true = refl
 and-true false = refl
@@ -61,14 +54,14 @@ and-true false = refl
 module _ (names : ℕ) (x : Row ℕ) where
   pub valid-rest : {v : Bool} → x .start < x .end → v ≡ ltb (x .value) names → v ≡ valid names x
   unfolding valid
-  valid-rest h e = e ∙ ap (λ (b : Bool). b && ltb (x .value) names) (is-true (ltb (x .start) (x .end)) (lt→ltb (x .start) (x .end) h))
+  valid-rest h e = e ∙ ap (λ (b : Bool). b && ltb (x .value) names) (sym (T-true (ltb (x .start) (x .end)) (lt→ltb (x .start) (x .end) h)))
 
   pub valid-empty : x .end ≤ x .start → false ≡ valid names x
   unfolding valid
   valid-empty h =
       let a : Bool = ltb (x .start) (x .end) in
       let b : Bool = ltb (x .value) names in
-      is-false (a && b) (T-nor-l a b (le→nltb (x .start) (x .end) h))
+      sym (T-false (a && b) (T-nor-l a b (le→nltb (x .start) (x .end) h)))
 
 -- ---- two neighbours
 
@@ -77,9 +70,9 @@ module _ (x y : Row ℕ) where
   follow-other d e = e ∙ go (order (x .instrument) (y .instrument))
     where
       go : Order (x .instrument) (y .instrument) → ltb (x .instrument) (y .instrument) ≡ apartRow sameValue x (y ∷ [])
-      go (less h) = sym (is-true _ (lt→ltb (x .instrument) (y .instrument) h)) ∙ sym (apart-lower sameValue symbols x y [] h)
+      go (less h) = T-true _ (lt→ltb (x .instrument) (y .instrument) h) ∙ sym (apart-lower sameValue symbols x y [] h)
       go (equal h) = absurd (d h)
-      go (more h) = sym (is-false _ (le→nltb (x .instrument) (y .instrument) (omega arith))) ∙ sym (apart-higher sameValue symbols x y [] h)
+      go (more h) = T-false _ (le→nltb (x .instrument) (y .instrument) (omega arith)) ∙ sym (apart-higher sameValue symbols x y [] h)
 
   module _ (h : x .instrument ≡ y .instrument) where
     one : apartRow sameValue x (y ∷ []) ≡ leb (x .end) (y .start) && not (eqb (x .end) (y .start) && sameValue (x .value) (y .value))
@@ -91,25 +84,25 @@ module _ (x y : Row ℕ) where
         let a : Bool = leb (x .end) (y .start) in
         let e : Bool = eqb (x .end) (y .start) in
         let d : x .end ≢ y .start = omega arith in
-        is-true _ (T-and a (not (e && sameValue (x .value) (y .value))) (le→leb (x .end) (y .start) (omega arith))
-        (T-nor-l e (sameValue (x .value) (y .value)) (not-T e (λ t. d (eqb-yes t))))) ∙ sym one
+        sym (one ∙ T-true _ (T-and a (not (e && sameValue (x .value) (y .value))) (le→leb (x .end) (y .start) (omega arith))
+        (T-nor-l e (sameValue (x .value) (y .value)) (not-T e (λ t. d (eqb-yes t))))))
 
     pub follow-overlap : y .start < x .end → false ≡ apartRow sameValue x (y ∷ [])
     follow-overlap l =
         let a : Bool = leb (x .end) (y .start) in
-        is-false _ (T-nor-l a (not (eqb (x .end) (y .start) && sameValue (x .value) (y .value))) (lt→nleb (x .end) (y .start) l)) ∙ sym one
+        sym (one ∙ T-false _ (T-nor-l a (not (eqb (x .end) (y .start) && sameValue (x .value) (y .value))) (lt→nleb (x .end) (y .start) l)))
 
     pub follow-touch : {p : Bool} → y .start ≤ x .end → x .end ≤ y .start → p ≡ sameValue (x .value) (y .value) → not p ≡ apartRow sameValue x (y ∷ [])
     follow-touch l m e = ap not e ∙ sym (one ∙ (λ i. yes-left i && not (yes-eq i && sameValue (x .value) (y .value))))
       where
         yes-left : leb (x .end) (y .start) ≡ true
-        yes-left = sym (is-true (leb (x .end) (y .start)) (le→leb (x .end) (y .start) m))
+        yes-left = T-true (leb (x .end) (y .start)) (le→leb (x .end) (y .start) m)
 
         same : x .end ≡ y .start
         same = omega arith
 
         yes-eq : eqb (x .end) (y .start) ≡ true
-        yes-eq = sym (is-true (eqb (x .end) (y .start)) (rw same (eqb-refl (y .start))))
+        yes-eq = T-true (eqb (x .end) (y .start)) (rw same (eqb-refl (y .start)))
 
   module _ (names : ℕ) {v : Bool} (e : v ≡ valid names y) where
     pub follows-not : v ≡ false → false ≡ follows names x y

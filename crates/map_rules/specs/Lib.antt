@@ -21,3 +21,4 @@ pub mod Looks
 pub mod Arrivals
 pub mod Calls
 pub mod Trace
+pub mod Worked

@@ -1,31 +1,31 @@
 -- A lookup in lent memory: its answer and its new hint, what one row says, and what the memory is asked. How it arrives at a row is in
 -- Arrivals. Assumes nothing.
-use mathlib.Core.Path.{_≡_, refl, sym, ap, _∙_}
+use mathlib.Core.Path.{_≡_, sym, ap, _∙_}
 use mathlib.Core.Logic.{_≢_, _⊎_, inl, inr}
-use Prim.Native.Nat.{ℕ, zero, suc, _+_, _-_, _*_, _≤_, _<_}
+use Prim.Native.Nat.{ℕ, _+_, _-_, _*_, _≤_, _<_}
 use native.Mathlib.Decide.{decLt, ℕ-discrete}
 use native.Mathlib.Omega.{arith}
-use mathlib.Core.Bool.{Bool, true, false, not, _&&_, _||_, cond, false≢true}
+use mathlib.Core.Bool.{Bool, true, false, not, _&&_, _||_, cond}
 use mathlib.Core.Option.{Option, none, some}
 use mathlib.Core.List.{List, [], _∷_}
-use lib.ListN.{length, getD, getElem?}
+use lib.ListN.{length, getElem?}
 use lib.Dec.{T, leb, ltb, eqb, eqb-refl, not-T, lt→ltb}
 use lib.Arith.{le→nltb, lt→nleb}
 use borrow.Author.Tests.{ltb-true, leb-true, eqb-true, lt-ltb, le-leb, eq-eqb}
 use mir.Facts.{eqb-yes, ltb-yes}
 use Rattle.theory.specs.Answer.{Answer, answer}
 use Rattle.theory.specs.Runs.{Interval, covers}
+use Rattle.theory.specs.Bools.{both, true-T, T-false}
 use Rattle.theory.specs.RunsTools.{cond-yes, cond-no, T-and, T-fst, T-snd, T-nor-l, T-nor-r}
 use Rattle.map_rules.specs.Table.{Row, intervalOf, group, Ordered, ordered}
 use Rattle.map_rules.specs.Tests.{ordered-iff}
 use Rattle.map_rules.specs.Lookup.{Finding, says, started, arrive, lookupRows}
 use Rattle.map_rules.specs.Places.{own, own-yes, own-no, lower, upper}
 use Rattle.map_rules.specs.Memory.{width, sameValue, rowAt, rows, tableFits}
-use Rattle.map_rules.specs.MemoryLaws.{blank, length-rows}
 use Rattle.map_rules.specs.Pieces.{symbols}
 use Rattle.map_rules.specs.Outcomes.{Lent, table-lent}
 use Rattle.map_rules.specs.Halves.{Probe, RowFrom}
-use Rattle.map_rules.specs.Search.{at-row}
+use Rattle.map_rules.specs.Search.{row-in, row-out}
 
 -- ---- definitions
 
@@ -79,47 +79,18 @@ pub record Reach (t : List ℕ) (used i m lo hi : ℕ) : Type 0 where
 
 -- ---- one row
 
-module _ {X : Type 0} where
-  get-in : (d : X) (xs : List X) (k : ℕ) → k < length xs → getElem? xs k ≡ some (getD xs k d)
-  get-in d [] k h = absurd (omega arith)
-  get-in d (x ∷ xs) zero h = refl
-  get-in d (x ∷ xs) (suc k) h = get-in d xs k (omega arith)
-
-  get-out : (xs : List X) (k : ℕ) → length xs ≤ k → getElem? xs k ≡ none
-  get-out [] k h = refl
-  get-out (x ∷ xs) zero h = absurd (omega arith)
-  get-out (x ∷ xs) (suc k) h = get-out xs k (omega arith)
-
-true-T : (b : Bool) → b ≡ true → T b
-true-T b e = rw e tt
-
-T-true : (b : Bool) → T b → true ≡ b
-T-true true t = refl
-T-true false t = absurd t
-
-T-false : (b : Bool) → T (not b) → false ≡ b
-T-false true t = absurd t
-T-false false t = refl
-
-pub and-true : (a b : Bool) → a && b ≡ true → (a ≡ true) × (b ≡ true)
-and-true true b e = (refl, e)
-and-true false b e = absurd (false≢true e)
-
 never : (b : Bool) → T b → b ≡ false → ⊥
 never true t e = let z : _≡_ {A = ℕ} 0 1 = cc in omega arith
 never false t e = t
 
 module _ (t : List ℕ) (used k i m : ℕ) where
-  row-in : k < used → getElem? (rows t used) k ≡ some (rowAt t k)
-  row-in h = get-in blank (rows t used) k (let e : length (rows t used) ≡ used = length-rows t 0 used in omega arith) ∙ ap some (at-row t used k h)
-
   look-out : used ≤ k → lookAt t used k i m ≡ none
   unfolding lookAt own says
-  look-out h = ap (λ (o : Option (Row ℕ)). says (own i o) m) (get-out (rows t used) k (let e : length (rows t used) ≡ used = length-rows t 0 used in omega arith))
+  look-out h = ap (λ (o : Option (Row ℕ)). says (own i o) m) (row-out t used k h)
 
   look-row : k < used → lookAt t used k i m ≡ says (own i (some (rowAt t k))) m
   unfolding lookAt
-  look-row h = ap (λ (o : Option (Row ℕ)). says (own i o) m) (row-in h)
+  look-row h = ap (λ (o : Option (Row ℕ)). says (own i o) m) (row-in t used k h)
 
   look-other : k < used → rowAt t k .instrument ≢ i → lookAt t used k i m ≡ none
   unfolding says
@@ -176,14 +147,14 @@ module _ (t : List ℕ) (used k i m : ℕ) where
   unfolding coversAt
   covering e f =
       let x : Row ℕ = rowAt t k in
-      let p = and-true (ltb k used) _ (sym e ∙ f) in
-      let q = and-true (eqb (x .instrument) i) _ (p .1) in
-      let r = and-true (leb (x .start) m) (ltb m (x .end)) (q .1) in
+      let p = both (ltb k used) _ (sym e ∙ f) in
+      let q = both (eqb (x .instrument) i) _ (p .1) in
+      let r = both (leb (x .start) m) (ltb m (x .end)) (q .1) in
       record { in-use = ltb-true k used (p .0); own = eqb-true _ i (q .0); starts = leb-true _ m (r .0); ends = ltb-true m _ (r .1) }
 
   covers-out : used ≤ k → false ≡ coversAt t used i m k
   unfolding coversAt
-  covers-out h = T-false _ (T-nor-l (ltb k used) _ (le→nltb k used h))
+  covers-out h = sym (T-false _ (T-nor-l (ltb k used) _ (le→nltb k used h)))
 
   pub covers-own : k < used → rowAt t k .instrument ≡ i → rowAt t k .start ≤ m → ltb m (rowAt t k .end) ≡ coversAt t used i m k
   unfolding coversAt
@@ -191,12 +162,12 @@ module _ (t : List ℕ) (used k i m : ℕ) where
 
   covers-other : rowAt t k .instrument ≢ i → false ≡ coversAt t used i m k
   unfolding coversAt
-  covers-other d = T-false _ (T-nor-r (ltb k used) _ (T-nor-l (eqb (rowAt t k .instrument) i) _ (not-T (eqb (rowAt t k .instrument) i) (λ z. d (eqb-yes z)))))
+  covers-other d = sym (T-false _ (T-nor-r (ltb k used) _ (T-nor-l (eqb (rowAt t k .instrument) i) _ (not-T (eqb (rowAt t k .instrument) i) (λ z. d (eqb-yes z))))))
 
   covers-early : m < rowAt t k .start → false ≡ coversAt t used i m k
   unfolding coversAt
   covers-early l =
-      T-false _ (T-nor-r (ltb k used) _ (T-nor-r (eqb (rowAt t k .instrument) i) _ (T-nor-l (leb (rowAt t k .start) m) _ (lt→nleb (rowAt t k .start) m l))))
+      sym (T-false _ (T-nor-r (ltb k used) _ (T-nor-r (eqb (rowAt t k .instrument) i) _ (T-nor-l (leb (rowAt t k .start) m) _ (lt→nleb (rowAt t k .start) m l)))))
 
 -- how the code finds out
 module _ (t : List ℕ) (used i m : ℕ) {at : ℕ} where

@@ -4,14 +4,14 @@ use mathlib.Core.Logic.{_≢_}
 use Prim.Native.Nat.{ℕ, _*_, _/_, _%_, _≤_, _<_}
 use native.Mathlib.Decide.{decLe}
 use native.Mathlib.Omega.{arith}
-use mathlib.Core.Bool.{Bool, true, false, not, _&&_, cond, false≢true}
+use mathlib.Core.Bool.{Bool, true, false, not, _&&_, cond}
 use mathlib.Core.List.{List, [], _∷_}
 use lib.ListN.{length}
 use lib.Dec.{T, leb, eqb, eqb-refl, not-T}
 use lib.Arith.{lt→nleb}
 use borrow.Author.Tests.{le-leb, eq-eqb, eqb-true}
 use mir.Facts.{eqb-yes}
-use Rattle.theory.specs.Bools.{fails, holds}
+use Rattle.theory.specs.Bools.{both, true-T, false-T, T-true, T-false, fails, holds}
 use Rattle.theory.specs.Answer.{Answer, answer}
 use Rattle.theory.specs.Fields.{Bytes}
 use Rattle.theory.specs.RunsTools.{cond-lt, cond-ge, cond-yes, cond-no, T-and}
@@ -23,26 +23,8 @@ use Rattle.map_rules.specs.Pieces.{symbols}
 
 -- ---- the memory
 
-true-T : (b : Bool) → b ≡ true → T b
-true-T b e = rw e tt
-
-false-T : (b : Bool) → b ≡ false → T (not b)
-false-T b e = rw e tt
-
-T-false : (b : Bool) → T (not b) → false ≡ b
-T-false true t = absurd t
-T-false false t = refl
-
-T-true : (b : Bool) → T b → b ≡ true
-T-true true t = refl
-T-true false t = absurd t
-
 and-false : (a b : Bool) → a ≡ false → false ≡ a && b
 and-false a b e = rw e refl
-
-and-true : (a b : Bool) → a && b ≡ true → (a ≡ true) × (b ≡ true)
-and-true true b e = (refl, e)
-and-true false b e = absurd (false≢true e)
 
 -- what a table's memory is where it fits, as numbers
 pub record Lent (long used : ℕ) : Type 0 where
@@ -54,7 +36,7 @@ pub record Lent (long used : ℕ) : Type 0 where
 pub table-lent : (long used : ℕ) → tableFits long used ≡ true → Lent long used
 unfolding tableFits
 table-lent long used e =
-    let p : (eqb (long % width) 0 ≡ true) × (roomFits (long / width) used ≡ true) = and-true (eqb (long % width) 0) (roomFits (long / width) used) e in
+    let p : (eqb (long % width) 0 ≡ true) × (roomFits (long / width) used ≡ true) = both (eqb (long % width) 0) (roomFits (long / width) used) e in
     let z : long % width ≡ 0 = eqb-true (long % width) 0 (p .0) in
     let g : Good (long / width) used = room-good (long / width) used (true-T (roomFits (long / width) used) (p .1)) in
     record { whole = omega arith; even = z; limit = g .limit; in-use = g .in-use }
@@ -85,7 +67,7 @@ module _ (long used : ℕ) where
       go (yes l) =
           let g : T (roomFits (long / width) used) = good-room (long / width) used (record { limit = omega arith; in-use = omega arith }) in
           le-leb (used * width) long l ∙ sym (λ i. eq-eqb (long % width) 0 k i && T-true (roomFits (long / width) used) g i)
-      go (no l) = sym (T-false (leb (used * width) long) (lt→nleb (used * width) long (omega arith))) ∙ unfit (λ l′. omega (arith, l′ .whole, l′ .in-use))
+      go (no l) = T-false (leb (used * width) long) (lt→nleb (used * width) long (omega arith)) ∙ unfit (λ l′. omega (arith, l′ .whole, l′ .in-use))
 
 -- with the names
 module _ (long used names : ℕ) where
@@ -97,7 +79,7 @@ module _ (long used names : ℕ) where
   memory-rest e f = sym (ap (λ (c : Bool). c && leb names 4096) (sym e ∙ f))
 
   pub memory-lent : {b : Bool} → b ≡ tableFits long used && namesFit names → not b ≡ false → Lent long used
-  memory-lent e f = table-lent long used (and-true (tableFits long used) (namesFit names) (holds e f) .0)
+  memory-lent e f = table-lent long used (both (tableFits long used) (namesFit names) (holds e f) .0)
 
   -- what the code asks of it
   pub memory-holds : {b : Bool} → b ≡ tableFits long used && namesFit names → not b ≡ false → used * width ≤ long
@@ -201,7 +183,7 @@ module _ (t : List ℕ) (used names : ℕ) (n : Row ℕ) where
       → i ≡ cond (wellFormed sameValue knownValue names (rows t used)) (entered sameValue knownValue names (length t / width) n (rows t used)) (refusedBy 14)
   unfolding insertOutcome inserted
   fit e f =
-      let p : (tableFits (length t) used ≡ true) × (namesFit names ≡ true) = and-true (tableFits (length t) used) (namesFit names) (holds e f) in
+      let p : (tableFits (length t) used ≡ true) × (namesFit names ≡ true) = both (tableFits (length t) used) (namesFit names) (holds e f) in
       let l : Lent (length t) used = table-lent (length t) used (p .0) in
       let g : T (roomFits (length t / width) used) = good-room (length t / width) used (record { limit = l .limit; in-use = l .in-use }) in
       ap (λ (q : Bool). cond q (inserted sameValue knownValue names (length t / width) n (rows t used)) (refusedBy 15)) (eq-eqb (length t % width) 0 (l .even))

@@ -1,13 +1,14 @@
 -- A binary search by the side of a row: before, touching or after another. What its two ends tell is, in an ordered table,
 -- where the table is cut (cuts). Assumes nothing.
-use mathlib.Core.Path.{_≡_, sym, ap, _∙_, subst}
-use Prim.Native.Nat.{ℕ, _+_, _-_, _/_, _≤_, _<_}
+use mathlib.Core.Path.{_≡_, refl, sym, ap, _∙_, subst}
+use Prim.Native.Nat.{ℕ, zero, suc, _+_, _-_, _≤_, _<_}
 use native.Mathlib.Nat.{zero-add}
 use native.Mathlib.Decide.{decLe}
 use native.Mathlib.Omega.{arith}
 use mathlib.Core.Bool.{cond}
-use mathlib.Core.List.{List}
-use lib.ListN.{getD}
+use mathlib.Core.Option.{none, some}
+use mathlib.Core.List.{List, [], _∷_}
+use lib.ListN.{length, getD, getElem?}
 use lib.Dec.{ltb}
 use Rattle.theory.specs.Bracket.{Bracket, bracket-met}
 use Rattle.theory.specs.RunsTools.{cond-lt, cond-ge, Order, less, equal, more, order}
@@ -123,6 +124,25 @@ module _ {t : List ℕ} {used : ℕ} {n : Row ℕ} {hi : ℕ} where
 
 pub at-row : (t : List ℕ) (n k : ℕ) → k < n → getD (rows t n) k blank ≡ rowAt t k
 at-row t n k h = getD-rows t 0 n k blank h ∙ ap (rowAt t) (zero-add k)
+
+module _ {X : Type 0} where
+  get-in : (d : X) (xs : List X) (k : ℕ) → k < length xs → getElem? xs k ≡ some (getD xs k d)
+  get-in d [] k h = absurd (omega arith)
+  get-in d (x ∷ xs) zero h = refl
+  get-in d (x ∷ xs) (suc k) h = get-in d xs k (omega arith)
+
+  get-out : (xs : List X) (k : ℕ) → length xs ≤ k → getElem? xs k ≡ none
+  get-out [] k h = refl
+  get-out (x ∷ xs) zero h = absurd (omega arith)
+  get-out (x ∷ xs) (suc k) h = get-out xs k (omega arith)
+
+-- the row at a place, and none past those in use
+module _ (t : List ℕ) (used k : ℕ) where
+  pub row-in : k < used → getElem? (rows t used) k ≡ some (rowAt t k)
+  row-in h = get-in blank (rows t used) k (omega (arith, length-rows t 0 used)) ∙ ap some (at-row t used k h)
+
+  pub row-out : used ≤ k → getElem? (rows t used) k ≡ none
+  row-out h = get-out (rows t used) k (omega (arith, length-rows t 0 used))
 
 module _ (n x : Row ℕ) (h : n .start < n .end) (k : x .start < x .end) where
   to-before : sideOf n x < 1 → Before n x

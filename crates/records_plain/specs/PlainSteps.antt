@@ -44,17 +44,8 @@ heard-by y e k =
 
 module _ {b : ℕ → Stream} {n : ℕ} {ms₀ ts₀ cs₀ hs₀ ms ts cs hs : List ℕ}
     (g : Scanning b n ms₀ ts₀ cs₀ hs₀ ms ts cs hs) (room : PlainRoom n ms₀ ts₀ cs₀ hs₀) {p : ℕ} (ch : Chosen n ms ts p) where
-  hk : n ≤ length ms
-  hk = omega (arith, room, g .marks)
-
-  ht : n ≤ length ts
-  ht = omega (arith, room, g .times)
-
-  hc : n ≤ length cs
-  hc = omega (arith, room, g .places)
-
-  hl : n ≤ length hs
-  hl = omega (arith, room, g .heads)
+  long : (n ≤ length ms) × (n ≤ length ts) × (n ≤ length cs) × (n ≤ length hs)
+  long = (omega (arith, room, g .marks), omega (arith, room, g .times), omega (arith, room, g .places), omega (arith, room, g .heads))
 
   -- all are gone
   pub turn-end : p ≡ n → Done b n ms₀ ts₀ cs₀ hs₀ (answerOf end) ms ts cs hs
@@ -71,10 +62,10 @@ module _ {b : ℕ → Stream} {n : ℕ} {ms₀ ts₀ cs₀ hs₀ ms ts cs hs : L
     turn-record d a f k =
         let small = g .small k in
         let fit : getD cs p 0 + getD hs p 0 % 65536 < 2 ^ 64 = small p lt in
-        let in-places : p < length cs = omega (arith, lt, hc) in
-        let in-heads : p < length hs = omega (arith, lt, hl) in
+        let in-places : p < length cs = omega (arith, lt, long .2) in
+        let in-heads : p < length hs = omega (arith, lt, long .3) in
         rw (f fit) (heard-by (says p (record-at (getD cs p 0) (recIn (getD hs p 0) (getD ts p 0))))
-        (sym (g .same) ∙ law-record b n ms ts cs hs p ch lt hk ht hc hl d)
+        (sym (g .same) ∙ law-record b n ms ts cs hs p ch lt long d)
         (small-move n cs hs p (getD cs p 0 + getD hs p 0 % 65536) in-places in-heads small fit))
 
     module _ (w : getD ms p 0 ≡ 1) (k t l : ℕ) (got : gotOf k t l ≡ b p .read (getD cs p 0)) where
@@ -87,28 +78,28 @@ module _ {b : ℕ → Stream} {n : ℕ} {ms₀ ts₀ cs₀ hs₀ ms ts cs hs : L
             places = g .places;
             heads = g .heads;
             small = g .small;
-            same = law-ended b n ms ts cs hs p ch lt hk ht hc hl w k t l got d ∙ g .same;
+            same = law-ended b n ms ts cs hs p ch lt long w k t l got d ∙ g .same;
           }
 
       -- it is damaged
       pub turn-damaged : k ≢ 0 → k < 4 → Done b n ms₀ ts₀ cs₀ hs₀ (answerOf (says p (damage-at (getD cs p 0) k))) (set ms p 0) ts cs hs
       turn-damaged d h z =
           heard-by (says p (damage-at (getD cs p 0) k))
-          (sym (g .same) ∙ law-damaged b n ms ts cs hs p ch lt hk ht hc hl w k t l got d h)
+          (sym (g .same) ∙ law-damaged b n ms ts cs hs p ch lt long w k t l got d h)
           (g .small z)
 
       -- it stands at a record now
       pub turn-whole : 4 ≤ k → b p .size < 2 ^ 64 → Scanning b n ms₀ ts₀ cs₀ hs₀ (set ms p 2) (set ts p t) cs (set hs p l)
       turn-whole h hb =
-          let fits : getD cs p 0 + l % 65536 ≤ b p .size = law-small b n ms ts cs hs p ch lt hk ht hc hl w k t l got h in
-          let in-heads : p < length hs = omega (arith, lt, hl) in
+          let fits : getD cs p 0 + l % 65536 ≤ b p .size = law-small b n ms ts cs hs p ch lt long w k t l got h in
+          let in-heads : p < length hs = omega (arith, lt, long .3) in
           record {
             marks = length-set ms p 2 ∙ g .marks;
             times = length-set ts p t ∙ g .times;
             places = g .places;
             heads = length-set hs p l ∙ g .heads;
             small = λ z. small-set n cs hs p l in-heads (g .small z) (omega arith);
-            same = law-whole b n ms ts cs hs p ch lt hk ht hc hl w k t l got h ∙ g .same;
+            same = law-whole b n ms ts cs hs p ch lt long w k t l got h ∙ g .same;
           }
 
 -- ---- the test of what is lent, and the opening

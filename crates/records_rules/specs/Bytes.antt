@@ -9,12 +9,12 @@ use lib.ListN.{length, getD, length-take, length-drop}
 use lib.Seq.{slice}
 use lib.Dec.{T, eqb, ltb}
 use mir.Facts.{ltb-no, eqb-yes, eqb-no}
+use Rattle.theory.specs.RunsTools.{cond-case}
 use Rattle.theory.specs.Fields.{field}
 use Rattle.leaves.specs.Frame.{Read, whole, judged, recordAt, frameAt}
-use Rattle.records_rules.specs.Least.{cond-case}
 use Rattle.records_rules.specs.Machine.{Fits, Stream}
 
-neither : (x y : Bool) → T (not (x || y)) → T (not x) × T (not y)
+pub neither : (x y : Bool) → T (not (x || y)) → T (not x) × T (not y)
 neither true y h = absurd h
 neither false true h = absurd h
 neither false false h = (tt, tt)

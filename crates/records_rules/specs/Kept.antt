@@ -11,11 +11,12 @@ use lib.ListN.{length, getD, set, length-set}
 use lib.Seq.{getD-set-same, getD-set-other}
 use lib.Dec.{eqb}
 use mir.Facts.{eqb-yes, eqb-no}
+use Rattle.theory.specs.RunsTools.{cond-case}
 use Rattle.leaves.specs.Frame.{Read, whole, ended, damaged}
 use Rattle.records_rules.specs.Machine.{rec, Fits, Stream, Said, record-at, damage-at, ownOn, ownF, own}
 use Rattle.records_rules.specs.Machine.{Status, waiting, standing, gone, key, First, nobody, first, least}
 use Rattle.records_rules.specs.Machine.{Answer, says, end, Step, done, again, afterRead, chosen, stepAt, step, Turn, turn, onward, nextF, next, answer, rest, upTo, runF, tell, mine}
-use Rattle.records_rules.specs.Least.{cond-case, IsFirst, LeastOk, least-ok}
+use Rattle.records_rules.specs.Least.{IsFirst, LeastOk, least-ok}
 
 -- ---- what a stream says by itself
 

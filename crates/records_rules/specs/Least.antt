@@ -4,17 +4,13 @@ use mathlib.Core.Path.{_≡_, refl}
 use Prim.Native.Nat.{ℕ, zero, suc, _≤_, _<_, zero-le, suc-le-suc}
 use native.Mathlib.Nat.{le-refl, le-trans}
 use native.Mathlib.Omega.{arith}
-use mathlib.Core.Bool.{Bool, true, false, not, cond}
 use mathlib.Core.Option.{Option, none, some}
 use mathlib.Core.List.{List, [], _∷_}
 use lib.ListN.{getD}
-use lib.Dec.{T, leb}
+use lib.Dec.{leb}
 use mir.Facts.{leb-yes, leb-no}
+use Rattle.theory.specs.RunsTools.{cond-case}
 use Rattle.records_rules.specs.Machine.{Status, gone, key, First, nobody, first, up, before, least}
-
-pub cond-case : {X : Type 0} (P : X → Type 0) (b : Bool) (x y : X) → (T b → P x) → (T (not b) → P y) → P (cond b x y)
-cond-case P true x y f g = f tt
-cond-case P false x y f g = g tt
 
 -- (t, p) is not after (u, q)
 pub record Upto (t p u q : ℕ) : Type 0 where

@@ -16,7 +16,7 @@ use Rattle.records_rules.specs.View.{tab, statusOf, statusesOf}
 use Rattle.records_rules.specs.Sift.{Heaped}
 use Rattle.records_rules.specs.Holds.{Holds, holds-moved}
 use Rattle.records_rules.specs.State.{arraysFit, rightStreams, Room, riseTo, padded, StreamsOpened}
-use Rattle.theory.specs.Bools.{both}
+use Rattle.theory.specs.Bools.{and-false, both}
 
 -- ---- each place of the 256 is laid
 
@@ -133,6 +133,10 @@ module _ {n : ℕ} {hints ms ts cs hs hp : List ℕ} (few : n ≤ 256) (given : 
 
 -- ---- the tests
 
+-- an array of 256 places has the room
+pub full : (n : ℕ) → eqb n 256 ≡ true → 256 ≤ n
+full n e = omega (arith, eqb-true n 256 e)
+
 pub arrays-room : (held : ℕ) (ms ts cs hs hp : List ℕ) → arraysFit held (length ms) (length ts) (length cs) (length hs) (length hp) ≡ true → Room held ms ts cs hs hp
 unfolding arraysFit
 arrays-room held ms ts cs hs hp e =
@@ -142,11 +146,11 @@ arrays-room held ms ts cs hs hp e =
     let d = both _ _ (c .1) in
     let f = both _ _ (d .1) in (
       leb-true held 256 (a .0),
-      omega (arith, eqb-true (length ms) 256 (b .0)),
-      omega (arith, eqb-true (length ts) 256 (c .0)),
-      omega (arith, eqb-true (length cs) 256 (d .0)),
-      omega (arith, eqb-true (length hs) 256 (f .0)),
-      omega (arith, eqb-true (length hp) 256 (f .1)),
+      full (length ms) (b .0),
+      full (length ts) (c .0),
+      full (length cs) (d .0),
+      full (length hs) (f .0),
+      full (length hp) (f .1),
     )
 
 either : (x y : Bool) → (x || y) ≡ true → (x ≡ true) ⊎ (y ≡ true)
@@ -177,10 +181,6 @@ unfolding riseTo
 falls zero i cuts h l = absurd (omega arith)
 falls (suc n) i cuts h l = go (ℕ-discrete i n) (λ b. falls n i cuts b l)
   where
-    and-false : (x : Bool) → (x && false) ≡ false
-    and-false true = refl
-    and-false false = refl
-
     go : Dec (i ≡ n) → (i < n → riseTo n cuts ≡ false) → (leb (getD cuts n 0) (getD cuts (n + 1) 0) && riseTo n cuts) ≡ false
     go (yes e) ih = simp (lt-leb (getD cuts n 0) (getD cuts (n + 1) 0) (rw e at l))
     go (no d) ih = rw (ih (omega arith)) (and-false (leb (getD cuts n 0) (getD cuts (n + 1) 0)))

@@ -21,7 +21,7 @@ use Rattle.records_rules.specs.Least.{Upto, IsFirst, LeastOk, least-ok, 
 use Rattle.records_rules.specs.Kept.{inside, total, waits, unread, sumBy, sum-set, size, StepOk, step-ok}
 use Rattle.records_rules.specs.Rules.{next-done, next-again}
 use Rattle.records_rules.specs.Others.{without, others, records, reports}
-use Rattle.records_rules.specs.Whole.{allFrom, all-step, run-same, run, run-all, Ends, run-ends}
+use Rattle.records_rules.specs.Whole.{allFrom, set-gone, all-step, run-same, run, run-all, Ends, run-ends}
 
 -- ---- a run by steps
 
@@ -53,17 +53,12 @@ never k u d e = let z : _≡_ {A = ℕ} 0 1 = cc in absurd (omega arith)
 unfoldable pub bare : ℕ → List Status → List Status
 bare p ss = set ss p gone
 
-blank : (l : List Status) (i : ℕ) → getD (set l i gone) i gone ≡ gone
-blank [] i = refl
-blank (x ∷ l) zero = refl
-blank (x ∷ l) (suc i) = blank l i
-
 bare-first : (p : ℕ) (ss : List Status) (t q : ℕ) → q ≢ p → IsFirst ss t q → IsFirst (set ss p gone) t q
 unfolding key
 bare-first p ss t q d k = record { has = ap key (getD-set-other ss p q gone gone d) ∙ k .has; low = λ r u e. at r u e (ℕ-discrete r p) }
   where
     at : (r u : ℕ) → key (getD (set ss p gone) r gone) ≡ some u → Dec (r ≡ p) → Upto t q u r
-    at r u e (yes z) = never (key (getD (set ss p gone) r gone)) u (ap (λ (i : ℕ). key (getD (set ss p gone) i gone)) z ∙ ap key (blank ss p)) e
+    at r u e (yes z) = never (key (getD (set ss p gone) r gone)) u (ap (λ (i : ℕ). key (getD (set ss p gone) i gone)) z ∙ ap key (set-gone ss p)) e
     at r u e (no z) = k .low r u (ap key (sym (getD-set-other ss p r gone gone z)) ∙ e)
 
 module _ (p f : ℕ) (b : ℕ → Stream) (ss : List Status) (h : work b ss < suc f)
@@ -156,7 +151,7 @@ module _ (p f : ℕ) (b : ℕ → Stream) (ss : List Status) (h : work b ss < su
       ∙ sym (all-done b (set ss p gone) end (set ss p gone) (ap (stepAt b (set ss p gone)) (least-none (set ss p gone) (λ q. keyless q (ℕ-discrete q p))))))
     where
       keyless : (q : ℕ) → Dec (q ≡ p) → key (getD (set ss p gone) q gone) ≡ none
-      keyless q (yes z) = ap (λ (i : ℕ). key (getD (set ss p gone) i gone)) z ∙ ap key (blank ss p)
+      keyless q (yes z) = ap (λ (i : ℕ). key (getD (set ss p gone) i gone)) z ∙ ap key (set-gone ss p)
       keyless q (no z) = ap key (getD-set-other ss p q gone gone z) ∙ k q
 
   erased-step : (r : First) → least ss ≡ r → LeastOk ss r → Goal
@@ -250,7 +245,7 @@ complaint p b b′ hs hs′ l e h =
     ap (others p) (run-all b hs)
     ∙ erased p (suc (work b (start hs))) b (start hs) (omega arith)
     ∙ ap (λ (ss : List Status). others p (allFrom b ss)) (bare-start p hs hs′ l h)
-    ∙ ap (others p) (all-agree p b b′ e (set (start hs′) p gone) (blank (start hs′) p))
+    ∙ ap (others p) (all-agree p b b′ e (set (start hs′) p gone) (set-gone (start hs′) p))
     ∙ sym (erased p (suc (work b′ (start hs′))) b′ (start hs′) (omega arith))
     ∙ sym (ap (others p) (run-all b′ hs′))
 

@@ -11,7 +11,7 @@ use Rattle.records_rules.specs.Machine as machine
 use Rattle.records_rules.specs.View.{recIn, statusesOf}
 use Rattle.records_rules.specs.Heap.{at}
 use Rattle.records_rules.specs.State.{answerOf, gotOf}
-use Rattle.records_rules.specs.StateLaws.{law-end, law-record, law-ended, law-damaged, law-whole, law-small, small-set, small-move}
+use Rattle.records_rules.specs.StateLaws.{room-kept, room-enough, law-end, law-record, law-ended, law-damaged, law-whole, law-small, small-set, small-move}
 use Rattle.records_rules.specs.Holds.{Chosen, ok-chosen, ok-none, holds-moved, holds-kind, holds-drop, but-drop, but-key}
 use Rattle.records_rules.specs.State.{Room, StateOk, Says, arrays, TurnSays}
 use Rattle.records_rules.specs.Sift.{Sifted}
@@ -47,23 +47,11 @@ Done b held ks₀ ts₀ cs₀ ls₀ hp₀ x size ms ts cs hs hp = TurnSays b hel
 
 module _ {b : ℕ → Stream} {held : ℕ} {ks₀ ts₀ cs₀ ls₀ hp₀ : List ℕ} {size : ℕ} {ms ts cs hs hp : List ℕ}
     (g : Going b held ks₀ ts₀ cs₀ ls₀ hp₀ size ms ts cs hs hp) (room : Room held ks₀ ts₀ cs₀ ls₀ hp₀) where
-  hk : 256 ≤ length ms
-  hk = omega (arith, room .1, g .marks)
+  roomy : Room size ms ts cs hs hp
+  roomy = room-kept room (g .few) (g .marks) (g .times) (g .places) (g .heads) (g .heap)
 
-  ht : 256 ≤ length ts
-  ht = omega (arith, room .2, g .times)
-
-  hc : 256 ≤ length cs
-  hc = omega (arith, room .3, g .places)
-
-  hl : 256 ≤ length hs
-  hl = omega (arith, room .4, g .heads)
-
-  hh : 256 ≤ length hp
-  hh = omega (arith, room .5, g .heap)
-
-  hz : size ≤ 256
-  hz = omega (arith, room .0, g .few)
+  enough : (n : ℕ) → n ≤ 256 → (n ≤ length ms) × (n ≤ length ts) × (n ≤ length cs) × (n ≤ length hs)
+  enough n hn = room-enough roomy hn
 
   pub step-end : size ≡ 0 → Done b held ks₀ ts₀ cs₀ ls₀ hp₀ (answerOf end) size ms ts cs hs hp
   step-end e = record {
@@ -94,11 +82,12 @@ module _ {b : ℕ → Stream} {held : ℕ} {ks₀ ts₀ cs₀ ls₀ hp₀ : List
           let ok = x .sound in
           let r : p < n = root n hn ok in
           let fit : getD cs p 0 + getD hs p 0 % 65536 < 2 ^ 64 = ok .small p r in
+          let m = enough n hn in
           rw (f fit) (heard-by (says p (record-at (getD cs p 0) (recIn (getD hs p 0) (getD ts p 0))))
-          (sym (x .same) ∙ law-record b n ms ts cs hs p (ch n hn ok) r (omega (arith, hk)) (omega (arith, ht)) (omega (arith, hc)) (omega (arith, hl)) d)
+          (sym (x .same) ∙ law-record b n ms ts cs hs p (ch n hn ok) r m d)
           (record {
-            small = small-move n cs hs p (getD cs p 0 + getD hs p 0 % 65536) (omega (arith, hc)) (omega (arith, hl)) (ok .small) fit;
-            heaped = record { holds = holds-kind p 1 (omega (arith, hk)) (live n hn ok) (λ z. omega arith) (ok .heaped .holds); heap = ok .heaped .heap };
+            small = small-move n cs hs p (getD cs p 0 + getD hs p 0 % 65536) (omega (arith, m .2)) (omega (arith, m .3)) (ok .small) fit;
+            heaped = record { holds = holds-kind p 1 (omega (arith, m .0)) (live n hn ok) (λ z. omega arith) (ok .heaped .holds); heap = ok .heaped .heap };
           }));
     }
 
@@ -106,13 +95,13 @@ module _ {b : ℕ → Stream} {held : ℕ} {ks₀ ts₀ cs₀ ls₀ hp₀ : List
       module _ {hq : List ℕ} (sf : Sifted ts (size - 1) 0 (set hp 0 (at hp (size - 1))) hq) where
         dropped : (n : ℕ) → n ≤ 256 → StateOk n size ms ts cs hs hp → StateOk n (size - 1) (set ms p 0) ts cs hs hq
         dropped n hn ok =
-            let hk' : n ≤ length ms = omega (arith, hk) in
-            let hh' : size ≤ length hp = omega (arith, hh, hz) in
+            let m = enough n hn in
+            let hh' : size ≤ length hp = omega (arith, roomy .5, roomy .0) in
             record {
               small = ok .small;
               heaped = record {
-                holds = rw e (holds-moved (holds-drop n ms ts hp size pos hk' hh' (ok .heaped)) (sf .moved));
-                heap = sf .heap (but-drop n ms ts hp size pos hk' hh' (ok .heaped));
+                holds = rw e (holds-moved (holds-drop n ms ts hp size pos (m .0) hh' (ok .heaped)) (sf .moved));
+                heap = sf .heap (but-drop n ms ts hp size pos (m .0) hh' (ok .heaped));
               };
             }
 
@@ -129,10 +118,10 @@ module _ {b : ℕ → Stream} {held : ℕ} {ks₀ ts₀ cs₀ ls₀ hp₀ : List
               keeps = λ n hn z.
                   let x = g .keeps n hn z in
                   let ok = x .sound in
+                  let m = enough n hn in
                   record {
                     sound = dropped n hn ok;
-                    same = law-ended b n ms ts cs hs p (ch n hn ok) (root n hn ok) (omega (arith, hk)) (omega (arith, ht)) (omega (arith, hc)) (omega (arith, hl)) w k t l got d
-                        ∙ x .same;
+                    same = law-ended b n ms ts cs hs p (ch n hn ok) (root n hn ok) m w k t l got d ∙ x .same;
                   };
             }
 
@@ -143,8 +132,9 @@ module _ {b : ℕ → Stream} {held : ℕ} {ks₀ ts₀ cs₀ ls₀ hp₀ : List
           says = λ n hn z.
               let x = g .keeps n hn z in
               let ok = x .sound in
+              let m = enough n hn in
               heard-by (says p (damage-at (getD cs p 0) k))
-              (sym (x .same) ∙ law-damaged b n ms ts cs hs p (ch n hn ok) (root n hn ok) (omega (arith, hk)) (omega (arith, ht)) (omega (arith, hc)) (omega (arith, hl)) w k t l got d h)
+              (sym (x .same) ∙ law-damaged b n ms ts cs hs p (ch n hn ok) (root n hn ok) m w k t l got d h)
               (dropped n hn ok);
         }
 
@@ -163,19 +153,16 @@ module _ {b : ℕ → Stream} {held : ℕ} {ks₀ ts₀ cs₀ ls₀ hp₀ : List
                 let x = g .keeps n hn z in
                 let ok = x .sound in
                 let r : p < n = root n hn ok in
-                let hk' : n ≤ length ms = omega (arith, hk) in
-                let ht' : n ≤ length ts = omega (arith, ht) in
-                let hc' : n ≤ length cs = omega (arith, hc) in
-                let hl' : n ≤ length hs = omega (arith, hl) in
-                let fits : getD cs p 0 + l % 65536 ≤ b p .size = law-small b n ms ts cs hs p (ch n hn ok) r hk' ht' hc' hl' w k t l got h in
+                let m = enough n hn in
+                let fits : getD cs p 0 + l % 65536 ≤ b p .size = law-small b n ms ts cs hs p (ch n hn ok) r m w k t l got h in
                 record {
                   sound = record {
-                    small = small-set n cs hs p l (omega arith) (ok .small) (omega (arith, fits));
+                    small = small-set n cs hs p l (omega (arith, m .3)) (ok .small) (omega (arith, fits));
                     heaped = record {
-                      holds = holds-moved (holds-kind p 2 (omega arith) (live n hn ok) (λ z. omega arith) (ok .heaped .holds)) (sf .moved);
+                      holds = holds-moved (holds-kind p 2 (omega (arith, m .0)) (live n hn ok) (λ z. omega arith) (ok .heaped .holds)) (sf .moved);
                       heap = sf .heap (rw e (but-key n ms ts hp size t pos (ok .heaped)));
                     };
                   };
-                  same = law-whole b n ms ts cs hs p (ch n hn ok) r hk' ht' hc' hl' w k t l got h ∙ x .same;
+                  same = law-whole b n ms ts cs hs p (ch n hn ok) r m w k t l got h ∙ x .same;
                 };
           }

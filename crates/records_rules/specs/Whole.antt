@@ -89,7 +89,7 @@ Shut (turn (says p (record-at a r)) ss') = Unit {0}
 Shut (turn (says p (damage-at a k)) ss') = getD ss' p gone ≡ gone
 Shut (turn end ss') = Unit {0}
 
-set-gone : (ss : List Status) (p : ℕ) → getD (set ss p gone) p gone ≡ gone
+pub set-gone : (ss : List Status) (p : ℕ) → getD (set ss p gone) p gone ≡ gone
 set-gone [] p = refl
 set-gone (s ∷ ss) zero = refl
 set-gone (s ∷ ss) (suc p) = set-gone ss p

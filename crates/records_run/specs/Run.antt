@@ -10,7 +10,7 @@ use Rattle.theory.specs.Answer.{Answer, answer}
 use Rattle.leaves.specs.Refusal.{numberOf, refused}
 use Rattle.leaves.specs.RefusalLaws.{refused-not-done, refused-one}
 use Rattle.run_rules.specs.Batch.{Ran}
-use Rattle.run_rules.specs.Rows.{runFits, most, Note, writes, stops, runOf, going, ended, Gives}
+use Rattle.run_rules.specs.Rows.{runFits, most, Note, writes, stops, runOf, going, ended, Gives, RunRefused}
 use Rattle.records_rules.specs.Machine.{Stream, record-at, damage-at, Status, says, end, next, rest}
 use Rattle.records_rules.specs.Machine as machine
 use Rattle.records_rules.specs.State.{Arrays, fitIn, statusesAt, SoundIn}
@@ -57,15 +57,6 @@ last-one (last.Refused r) last.End z = let n : numberOf r ≡ 0 = cc in absurd (
 last-one (last.Refused r) (last.Refused q) z = ap last.Refused (refused-one r q z)
 
 -- ---- a run's contract
-
--- bad memory or allowance: 15, nothing was called, and everything is as at entry
-pub record RunRefused (a : Arrays) (ws : List ℕ) (size c w size' : ℕ) (x : Answer) (a' : Arrays) (ws' : List ℕ) : Type 0 where
-  pub answers : x ≡ answer 15 []
-  pub calls : c ≡ 0
-  pub written : w ≡ 0
-  pub held : size' ≡ size
-  pub untouched : a' ≡ a
-  pub list : ws' ≡ ws
 
 -- a run of at most k calls: its numbers, its list and the statuses left are those of the machine's run, and the state left is sound
 pub record RunSays (b : ℕ → Stream) (n k : ℕ) (a : Arrays) (ws : List ℕ) (c w size : ℕ) (x : Answer) (a' : Arrays) (ws' : List ℕ) : Type 0 where

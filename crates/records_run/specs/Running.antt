@@ -6,7 +6,7 @@ use mathlib.Core.Bool.{Bool, true, false}
 use mathlib.Core.List.{List, [], _∷_}
 use lib.ListN.{length}
 use Rattle.theory.specs.Answer.{Answer, answer}
-use Rattle.leaves.specs.Refusal.{numberOf, refused}
+use Rattle.leaves.specs.Refusal.{refused}
 use Rattle.leaves.specs.RefusalLaws.{refused-not-done}
 use Rattle.leaves.specs.declared.refusal.Refusal.{Refusal}
 use Rattle.run_rules.specs.Rows.{going, ended, row, Noted}
@@ -14,6 +14,7 @@ use Rattle.run_rules.specs.RowsLaws.{noted-record, noted-stop, Lengths, lengths
 use Rattle.records_rules.specs.Machine.{Stream, record-at, damage-at, Status, says, end}
 use Rattle.records_rules.specs.Machine as machine
 use Rattle.records_rules.specs.State.{answerOf, Room, Arrays, statusesAt, SoundIn}
+use Rattle.records_rules.specs.StateLaws.{room-kept}
 use Rattle.records_run.specs.Run.{noteOf, say, go, RunSays}
 
 -- ---- a call
@@ -96,14 +97,7 @@ module _ {b : ℕ → Stream} {limit held₀ : ℕ} {a₀ : Arrays} {ws₀ : Lis
     (u : Under b limit held₀ a₀ ws₀ calls held a ws) where
   pub under-room : Room held₀ (a₀ .marks) (a₀ .times) (a₀ .places) (a₀ .heads) (a₀ .heap)
       → Room held (a .marks) (a .times) (a .places) (a .heads) (a .heap)
-  under-room (h, m, t, c, d, p) = (
-    omega (arith, u .holds, h),
-    omega (arith, u .lengths .marks, m),
-    omega (arith, u .lengths .times, t),
-    omega (arith, u .lengths .places, c),
-    omega (arith, u .lengths .heads, d),
-    omega (arith, u .lengths .heap, p),
-  )
+  under-room r = let l = u .lengths in room-kept r (u .holds) (l .marks) (l .times) (l .places) (l .heads) (l .heap)
 
   -- the loop ends
   pub under-done : 3 * limit ≤ length ws₀ → limit ≤ calls → StepsSay b limit held₀ a₀ ws₀ calls calls held going a ws

@@ -1,20 +1,18 @@
 -- No text but that of a bad bundle begins with a `b`: a line begins with a digit, or with the `e` of the end. Assumes nothing.
-use mathlib.Core.Path.{_≡_, refl, ap, _∙_}
+use mathlib.Core.Path.{_≡_, refl}
 use Prim.Native.Nat.{ℕ, zero, suc, _+_, _/_, _%_}
 use native.Mathlib.Omega.{arith}
 use mathlib.Core.Bool.{Bool, true, false, cond}
 use mathlib.Core.Option.{Option, none, some}
 use mathlib.Core.List.{List, [], _∷_, _++_}
-use lib.ListN.{length, getD, take, drop, replicate}
-use lib.Seq.{take-at}
+use lib.ListN.{length, getD, replicate}
 use lib.Dec.{ltb}
 use borrow.Author.Tests.{ltb-true, eq-eqb, ne-eqb}
-use Rattle.theory.specs.Answer as theory
 use Rattle.records_rules.specs.Machine.{record-at, damage-at, Answer, says, end}
 use Rattle.records_rules.specs.Literal.{literalRun}
-use Rattle.lines.specs.Lines.{decimalF, decimal, blank, newline, damagedWord, recordLine, damageLine, endLine, badLine, laid}
+use Rattle.lines.specs.Lines.{decimalF, decimal, blank, newline, damagedWord, recordLine, damageLine, endLine, badLine}
 use Rattle.lines.specs.Sections.{streamsIn}
-use Rattle.replay_text.specs.Replay.{among, lineOf, linesOf, textOf, replayText, replayAnswer, replayLaid}
+use Rattle.replay_text.specs.Replay.{among, lineOf, linesOf, textOf, replayText}
 use Rattle.replay_main.specs.Status.{statusOf, textStatus}
 
 -- ---- the first byte
@@ -85,18 +83,3 @@ status-bad text h = rw (eq-eqb (getD text 0 0) 98 h) refl
 pub status-good : (text : List ℕ) → (getD text 0 0 ≡ 98 → ⊥) → 0 ≡ textStatus text
 unfolding textStatus
 status-good text h = rw (ne-eqb (getD text 0 0) 98 h) refl
-
--- ---- the text that was laid
-
--- what a call laid and counted is the text
-pub text-taken : (bundle text text' : List ℕ) (n : ℕ) → theory.answer 0 (n ∷ []) ≡ replayAnswer bundle (length text) → text' ≡ replayLaid bundle text
-    → take n text' ≡ replayText bundle
-unfolding replayAnswer replayLaid laid
-text-taken bundle text text' n e l = go (ltb (length text) 252441) e l
-  where
-    go : (b : Bool) → theory.answer 0 (n ∷ []) ≡ cond b (theory.answer 15 []) (theory.answer 0 (length (replayText bundle) ∷ []))
-        → text' ≡ cond b text (laid text 0 (replayText bundle)) → take n text' ≡ replayText bundle
-    go true e′ l′ = let z : _≡_ {A = ℕ} 0 15 = cc in absurd (omega arith)
-    go false e′ l′ =
-        let w : length (replayText bundle) ≡ n = cc in
-        ap (take n) l′ ∙ take-at (replayText bundle) (drop (0 + length (replayText bundle)) text) n w

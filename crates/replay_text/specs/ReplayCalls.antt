@@ -4,7 +4,7 @@ use Prim.Native.Nat.{ℕ, zero, suc, _-_, _+_, _≤_, _<_}
 use native.Mathlib.Omega.{arith}
 use mathlib.Core.List.{List, [], _∷_}
 use lib.ListN.{length, getD, take, drop, replicate, length-append}
-use lib.Seq.{length-take-le}
+use lib.Seq.{take-at, length-take-le}
 use mathlib.Core.Bool.{Bool, true, false, cond}
 use lib.Dec.{ltb}
 use borrow.Author.Tests.{le-leb, eq-eqb, lt-ltb, le-ltb}
@@ -102,18 +102,19 @@ replay-laid bundle {text} {text'} {r} h l =
     let e : r ≡ length (replayText bundle) = omega (arith, l .behind) in
     (rw (le-ltb (length text) 252441 h) (ap (λ (k : ℕ). theory.answer 0 (k ∷ [])) e), rw (le-ltb (length text) 252441 h) (l .whole))
 
--- a text that was laid is no longer than what it was laid in
-pub text-fits : (bundle text text' : List ℕ) (n : ℕ) → theory.answer 0 (n ∷ []) ≡ replayAnswer bundle (length text) → text' ≡ replayLaid bundle text
-    → length text' ≡ length text → n ≤ length text'
+-- what a call laid and counted is the text, no longer than what it was laid in
+pub text-taken : (bundle text text' : List ℕ) (n : ℕ) → theory.answer 0 (n ∷ []) ≡ replayAnswer bundle (length text) → text' ≡ replayLaid bundle text
+    → (take n text' ≡ replayText bundle) × (n ≤ length text')
 unfolding replayAnswer replayLaid laid
-text-fits bundle text text' n e l k = go (ltb (length text) 252441) e l
+text-taken bundle text text' n e l = go (ltb (length text) 252441) e l
   where
     go : (b : Bool) → theory.answer 0 (n ∷ []) ≡ cond b (theory.answer 15 []) (theory.answer 0 (length (replayText bundle) ∷ []))
-        → text' ≡ cond b text (laid text 0 (replayText bundle)) → n ≤ length text'
+        → text' ≡ cond b text (laid text 0 (replayText bundle)) → (take n text' ≡ replayText bundle) × (n ≤ length text')
     go true e′ l′ = let z : _≡_ {A = ℕ} 0 15 = cc in absurd (omega arith)
     go false e′ l′ =
-        let w : n ≡ length (replayText bundle) = cc in
-        omega (arith, ap length l′, length-append (replayText bundle) (drop (0 + length (replayText bundle)) text))
+        let w : length (replayText bundle) ≡ n = cc in
+        let behind = drop (0 + length (replayText bundle)) text in
+        (ap (take n) l′ ∙ take-at (replayText bundle) behind n w, omega (arith, ap length l′, length-append (replayText bundle) behind))
 
 -- only one answer fits
 pub replayed-one : (x y : Replayed) → replayedOf x ≡ replayedOf y → x ≡ y

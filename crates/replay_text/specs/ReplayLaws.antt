@@ -10,13 +10,13 @@ use lib.ListN.{length, getD, take, drop, replicate, length-take, length-drop, Li
 use lib.Seq.{slice, drop-nil, take-take, getD-take, length-take-le}
 use lib.Dec.{T, eqb, ltb}
 use mir.Facts.{ltb-no}
+use Rattle.theory.specs.RunsTools.{cond-case}
 use Rattle.theory.specs.Fields.{field}
 use Rattle.leaves.specs.Frame.{Read, whole, ended, damaged, judged, recordAt, frameAt}
 use Rattle.records_rules.specs.Machine.{Fits, Stream, Said, ownOn, ownF, own}
 use Rattle.records_rules.specs.Machine.{Status, Answer, says, end, Turn, turn, next, answer, rest, upTo, start}
 use Rattle.records_rules.specs.Bytes.{bytesOf, frame-fits, streamsOf}
 use Rattle.records_rules.specs.Literal.{literalRun, told-run}
-use Rattle.records_rules.specs.Least.{cond-case}
 use Rattle.records_rules.specs.Kept.{size, leftOf, sumBy, total, TurnOk, next-ok}
 use Rattle.records_rules.specs.Whole.{run, allFrom, all-step, run-all}
 use Rattle.lines.specs.Sections.{streamAt, cutOut, Cuts, Apart}

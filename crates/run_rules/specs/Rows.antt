@@ -89,6 +89,15 @@ pub record Gives {S : Type 0} (r : Ran Note S) (ws : List ℕ) (c w : ℕ) (x : 
   pub answers : x ≡ lastIn (r .heard)
   pub list : ws' ≡ listAfter (r .heard) ws
 
+-- bad memory or allowance: 15, nothing was called, and everything is as at entry
+pub record RunRefused {S : Type 0} (a : S) (ws : List ℕ) (size c w size' : ℕ) (x : Answer) (a' : S) (ws' : List ℕ) : Type 0 where
+  pub answers : x ≡ answer 15 []
+  pub calls : c ≡ 0
+  pub written : w ≡ 0
+  pub held : size' ≡ size
+  pub untouched : a' ≡ a
+  pub list : ws' ≡ ws
+
 -- the row i of a list, written
 unfoldable pub row : List ℕ → ℕ → ℕ → ℕ → ℕ → List ℕ
 row ws i p a t = set (set (set ws (3 * i) p) (3 * i + 1) a) (3 * i + 2) t

@@ -32,28 +32,16 @@ const ON_RECORD_POINT: u8 = 6;
 
 // Whether the case that a line holds, from a place behind its kind on, is answered as expected.
 fn is_right(text: &[u8], at: usize, kind: u8) -> bool {
-    if kind == CHECK {
-        return tables::check(text, at);
+    match kind {
+        CHECK => tables::check(text, at, true),
+        INSERT => tables::insert(text, at),
+        GET_FOR_TS => tables::get_for_ts(text, at),
+        CHECK_POINT => tables::check(text, at, false),
+        GET_POINT => points::get(text, at),
+        ON_RECORD => mappings::on_record(text, at, true),
+        ON_RECORD_POINT => mappings::on_record(text, at, false),
+        _ => false,
     }
-    if kind == INSERT {
-        return tables::insert(text, at);
-    }
-    if kind == GET_FOR_TS {
-        return tables::get_for_ts(text, at);
-    }
-    if kind == CHECK_POINT {
-        return points::check(text, at);
-    }
-    if kind == GET_POINT {
-        return points::get(text, at);
-    }
-    if kind == ON_RECORD {
-        return mappings::on_record(text, at, true);
-    }
-    if kind == ON_RECORD_POINT {
-        return mappings::on_record(text, at, false);
-    }
-    false
 }
 
 // Runs the lines of one kind and prints the group's line.

@@ -157,6 +157,18 @@ fn past_number(text: &[u8], at: usize, said: Said) -> usize {
     }
 }
 
+// The place after the bytes that are expected at a place, where they are these; else 0.
+fn past_bytes(text: &[u8], at: usize, bytes: &[u8]) -> usize {
+    let mut expected = room();
+    let given = vectors_text::bytes_at(text, at, &mut expected);
+    let n = given.count;
+    if check::same(bytes, &expected[..n]) {
+        given.next
+    } else {
+        0
+    }
+}
+
 // Whether a name list with these numbers in use is expected at a place.
 fn is_list(text: &[u8], at: usize, said: Said, bytes: &[u8], ends: &[u32]) -> bool {
     let names = vectors_text::number_at(text, at);
@@ -167,13 +179,11 @@ fn is_list(text: &[u8], at: usize, said: Said, bytes: &[u8], ends: &[u32]) -> bo
     if name_bytes.value as usize != said.name_bytes {
         return false;
     }
-    let mut expected = room();
-    let given = vectors_text::bytes_at(text, name_bytes.next, &mut expected);
-    let n = given.count;
-    if !check::same(bytes, &expected[..n]) {
+    let behind = past_bytes(text, name_bytes.next, bytes);
+    if behind == 0 {
         return false;
     }
-    are_ends(text, given.next, ends)
+    are_ends(text, behind, ends)
 }
 
 // Whether the answer and what the call left are as expected at a place.
@@ -193,13 +203,29 @@ fn is_expected(
     if used.value as usize != said.used {
         return false;
     }
-    let mut expected = room();
-    let given = vectors_text::bytes_at(text, used.next, &mut expected);
-    let n = given.count;
-    if !check::same(table, &expected[..n]) {
+    let behind = past_bytes(text, used.next, table);
+    if behind == 0 {
         return false;
     }
-    is_list(text, given.next, said, bytes, ends)
+    is_list(text, behind, said, bytes, ends)
+}
+
+// What a mapping call answers on a table over time, or on one at a point in time.
+fn called(
+    over_time: bool,
+    table: &mut [u8],
+    bytes: &mut [u8],
+    ends: &mut [u32],
+    given: InUse,
+    rec: &[u8],
+) -> Recorded {
+    let used = given.used;
+    let names = given.names;
+    let name_bytes = given.name_bytes;
+    if over_time {
+        return map_record::mapping::on_record(table, used, bytes, ends, names, name_bytes, rec);
+    }
+    map_record::mapping::on_record_point(table, used, bytes, ends, names, name_bytes, rec)
 }
 
 // Whether a call answers and leaves what is expected at a place.
@@ -213,28 +239,7 @@ fn records(
     given: InUse,
     rec: &[u8],
 ) -> bool {
-    if over_time {
-        let recorded = map_record::mapping::on_record(
-            table,
-            given.used,
-            bytes,
-            ends,
-            given.names,
-            given.name_bytes,
-            rec,
-        );
-        let answer = answer_of(recorded, given);
-        return is_expected(text, at, answer, table, bytes, ends);
-    }
-    let recorded = map_record::mapping::on_record_point(
-        table,
-        given.used,
-        bytes,
-        ends,
-        given.names,
-        given.name_bytes,
-        rec,
-    );
+    let recorded = called(over_time, table, bytes, ends, given, rec);
     let answer = answer_of(recorded, given);
     is_expected(text, at, answer, table, bytes, ends)
 }

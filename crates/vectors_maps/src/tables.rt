@@ -1,4 +1,4 @@
-// Cases of the table over time: check, insert, get_for_ts.
+// Cases of check, of either table, and of insert and get_for_ts, over time.
 use map_look::lookup::Found;
 use map_look::lookup::Looked;
 use map_table::interval::Interval;
@@ -15,17 +15,41 @@ pub fn room() -> [u8; 2048]
     [0; 2048]
 }
 
+// What is in use of a table, the names, and the number that its check is expected to answer.
+struct Checking {
+    used: usize,
+    names: usize,
+    number: u64,
+}
+
+fn checking_at(text: &[u8], at: usize) -> Checking {
+    let used = vectors_text::number_at(text, at);
+    let names = vectors_text::number_at(text, used.next);
+    let number = vectors_text::number_at(text, vectors_text::past_equals(text, names.next));
+    Checking {
+        used: used.value as usize,
+        names: names.value as usize,
+        number: number.value,
+    }
+}
+
+// What the check of a table over time answers, or of one at a point in time.
+fn checked(table: &[u8], over_time: bool, asked: Checking) -> Checked {
+    if over_time {
+        return map_table::table::check(table, asked.used, asked.names);
+    }
+    map_point::points::check_points(table, asked.used, asked.names)
+}
+
 // A line `TABLE USED NAMES = NUMBER`.
-pub fn check(text: &[u8], at: usize) -> bool {
+pub fn check(text: &[u8], at: usize, over_time: bool) -> bool {
     let mut table = room();
     let given = vectors_text::bytes_at(text, at, &mut table);
     let n = given.count;
-    let used = vectors_text::number_at(text, given.next);
-    let names = vectors_text::number_at(text, used.next);
-    let number = vectors_text::number_at(text, vectors_text::past_equals(text, names.next));
-    match map_table::table::check(&table[..n], used.value as usize, names.value as usize) {
-        Checked::WellFormed => number.value == 0,
-        Checked::Refused(r) => number.value == leaves::refusal::number(r) as u64,
+    let asked = checking_at(text, given.next);
+    match checked(&table[..n], over_time, asked) {
+        Checked::WellFormed => asked.number == 0,
+        Checked::Refused(r) => asked.number == leaves::refusal::number(r) as u64,
     }
 }
 
@@ -68,17 +92,22 @@ fn asked_at(text: &[u8], at: usize) -> Asked {
     }
 }
 
+// Whether an insert answered as expected.
+fn is_inserted(inserted: Inserted, asked: Asked) -> bool {
+    match inserted {
+        Inserted::Done(used) => asked.number == 0 && used == asked.used_after,
+        Inserted::Refused(r) => asked.number == leaves::refusal::number(r) as u64,
+    }
+}
+
 // Whether the insert answers as expected, and leaves the lent bytes as expected.
 fn inserts(table: &mut [u8], asked: Asked, after: &[u8]) -> bool {
     let interval = asked.interval;
-    match map_time::insert::insert(table, asked.used, asked.names, interval) {
-        Inserted::Done(used) => asked.number == 0
-            && used == asked.used_after
-            && check::same(table, after),
-        Inserted::Refused(r) => {
-            asked.number == leaves::refusal::number(r) as u64 && check::same(table, after)
-        }
+    let inserted = map_time::insert::insert(table, asked.used, asked.names, interval);
+    if !is_inserted(inserted, asked) {
+        return false;
     }
+    check::same(table, after)
 }
 
 // A line `TABLE USED NAMES INSTRUMENT START END SYMBOL = NUMBER USED TABLE`.
@@ -93,15 +122,44 @@ pub fn insert(text: &[u8], at: usize) -> bool {
     inserts(&mut before[..n], asked, &after[..m])
 }
 
+// What a lookup is expected to find, and the place after it.
+pub struct Expected {
+    number: u64,
+    found: u64,
+    symbol: u64,
+    next: usize,
+}
+
+pub fn expected_at(text: &[u8], at: usize) -> Expected {
+    let number = vectors_text::number_at(text, vectors_text::past_equals(text, at));
+    let found = vectors_text::number_at(text, number.next);
+    let symbol = vectors_text::number_at(text, found.next);
+    Expected {
+        number: number.value,
+        found: found.value,
+        symbol: symbol.value,
+        next: symbol.next,
+    }
+}
+
+// Whether a lookup found what is expected.
+pub fn is_found(found: Found, expected: Expected) -> bool {
+    match found {
+        Found::Symbol(s) => {
+            expected.number == 0 && expected.found == 1 && expected.symbol == s as u64
+        }
+        Found::Nothing => expected.number == 0 && expected.found == 0,
+        Found::Refused(r) => expected.number == leaves::refusal::number(r) as u64,
+    }
+}
+
 // A lookup, and what it is expected to answer.
 struct Lookup {
     used: usize,
     instrument: u32,
     moment: u64,
     hint: u64,
-    number: u64,
-    found: u64,
-    symbol: u64,
+    expected: Expected,
     hint_after: u64,
 }
 
@@ -110,18 +168,14 @@ fn lookup_at(text: &[u8], at: usize) -> Lookup {
     let instrument = vectors_text::number_at(text, used.next);
     let moment = vectors_text::number_at(text, instrument.next);
     let hint = vectors_text::number_at(text, moment.next);
-    let number = vectors_text::number_at(text, vectors_text::past_equals(text, hint.next));
-    let found = vectors_text::number_at(text, number.next);
-    let symbol = vectors_text::number_at(text, found.next);
-    let after = vectors_text::number_at(text, symbol.next);
+    let expected = expected_at(text, hint.next);
+    let after = vectors_text::number_at(text, expected.next);
     Lookup {
         used: used.value as usize,
         instrument: narrow(instrument.value),
         moment: moment.value,
         hint: hint.value,
-        number: number.value,
-        found: found.value,
-        symbol: symbol.value,
+        expected,
         hint_after: after.value,
     }
 }
@@ -132,11 +186,8 @@ fn is_expected(looked: Looked, asked: Lookup) -> bool {
         return false;
     }
     let found = looked.found;
-    match found {
-        Found::Symbol(s) => asked.number == 0 && asked.found == 1 && asked.symbol == s as u64,
-        Found::Nothing => asked.number == 0 && asked.found == 0,
-        Found::Refused(r) => asked.number == leaves::refusal::number(r) as u64,
-    }
+    let expected = asked.expected;
+    is_found(found, expected)
 }
 
 // Whether the lookup answers as expected, and so a cursor with the same hint.

@@ -5,9 +5,9 @@ use Prim.Native.Nat.{_≤_}
 use lib.ListN.{length}
 use lib.Seq.{length-take-le}
 use Rattle.replay_text.specs.Replay.{replayedOf}
-use Rattle.replay_text.specs.ReplayCalls.{text-fits}
+use Rattle.replay_text.specs.ReplayCalls.{text-taken}
 use Rattle.replay_main.specs.Status.{textStatus}
-use Rattle.replay_main.specs.StatusLaws.{text-status, text-taken}
+use Rattle.replay_main.specs.StatusLaws.{text-status}
 use borrow.Author.Needs.{needs}
 use Rattle.replay_main.proofs.show.Statement.{statement}
 use Rattle.replay_main.proofs.show.Tie as tie
@@ -21,7 +21,7 @@ enum-known-n c = search needs
 fits : (c : tie.After-known-told) → c .before .n .given .0 .0 ≤ length (c .before .before .before .before .before .replay-by .last .1 .1 .0)
 fits c =
     let r = c .before .before .before .before .before .replay-by in
-    text-fits _ _ _ _ (ap replayedOf (sym (c .before .n .given .1)) ∙ r .ensures .0) (r .ensures .1) (r .kept .1 .1 .0)
+    text-taken _ _ _ _ (ap replayedOf (sym (c .before .n .given .1)) ∙ r .ensures .0) (r .ensures .1) .1
 
 slice-reshare-prefix-put : tie.Need-slice-reshare-prefix-put
 slice-reshare-prefix-put c = fits c
@@ -41,7 +41,7 @@ same-length c = search needs
 returns : tie.Need-returns
 returns c = λ h.
     let r = c .before .before .before .before .before .before .before .replay-by in
-    c .put .ensures h ∙ ap textStatus (text-taken _ _ _ _ (ap replayedOf (sym (c .before .before .before .n .given .1)) ∙ r .ensures .0) (r .ensures .1))
+    c .put .ensures h ∙ ap textStatus (text-taken _ _ _ _ (ap replayedOf (sym (c .before .before .before .n .given .1)) ∙ r .ensures .0) (r .ensures .1) .0)
     ∙ text-status _
 
 same-length-2 : tie.Need-same-length-2

@@ -29,13 +29,14 @@ unfolding numberIn valueIn
 returns c =
     let o = c .before .before .before .before .before .before .before .add .ensures in
     let t = c .before .before .before .before .before .before .before .before .before .before .before .before .before .before .before .before .args .taken .now in
-    let g = c .before .added .given .1 in (
-      (λ w. let x = o .0 w in let e = answer-same addedOf (x .0) g in (done-number e, done-value t 0 e, x .1, x .2)),
-      (λ w n held ts hp hn ok.
-          let x = o .1 w n held ts hp hn ok in
+    let g = c .before .added .given .1 in
+    record {
+      refused = λ w. let x = o .refused w in let e = answer-same addedOf (x .0) g in (done-number e, done-value t 0 e, x .1, x .2);
+      says = λ w n held ts hp hn ok.
+          let x = o .says w n held ts hp hn ok in
           let e = answer-same addedOf (x .heard) g in
-          (done-number e, done-value t 0 e, rw (← x .heard) x)),
-    )
+          (done-number e, done-value t 0 e, rw (← x .heard) x);
+    }
 
 same-length-3 : tie.Need-same-length-3
 same-length-3 c = c .before .before .before .before .before .before .before .before .add .kept .1 .1 .1 .1 .1 .0
@@ -49,13 +50,14 @@ returns-2 c =
     let o = c .before .before .before .before .before .before .before .before .add .ensures in
     let t = c .before .before .before .before .before .before .before .before .before .before .before .before .before .before .before .before .before .args .taken .now in
     let g = c .before .before .added2 .given .1 in
-    let r = c .before .before .added2 .given .0 .0 in (
-      (λ w. let x = o .0 w in let e = answer-same addedOf (x .0) g in (not-number r (c .number .ensures) e, not-value r t 0 e, x .1, x .2)),
-      (λ w n held ts hp hn ok.
-          let x = o .1 w n held ts hp hn ok in
+    let r = c .before .before .added2 .given .0 .0 in
+    record {
+      refused = λ w. let x = o .refused w in let e = answer-same addedOf (x .0) g in (not-number r (c .number .ensures) e, not-value r t 0 e, x .1, x .2);
+      says = λ w n held ts hp hn ok.
+          let x = o .says w n held ts hp hn ok in
           let e = answer-same addedOf (x .heard) g in
-          (not-number r (c .number .ensures) e, not-value r t 0 e, rw (← x .heard) x)),
-    )
+          (not-number r (c .number .ensures) e, not-value r t 0 e, rw (← x .heard) x);
+    }
 
 pub desk-feed-bytes-spec : {M : Type 1} → statement M
 desk-feed-bytes-spec =

@@ -1,5 +1,4 @@
 -- Each arm of the match is what its case says. Assumes nothing.
-use mathlib.Core.Path.{refl}
 use Rattle.feed_window.specs.Answers.{endedOf}
 use Rattle.door_answers.specs.Answers.{numberIn}
 use Rattle.door_answers.specs.AnswersLaws.{answer-same, done-number, not-number}
@@ -26,14 +25,13 @@ returns : tie.Need-returns
 unfolding numberIn
 returns c =
     let o = c .before .before .before .before .end .ensures in
-    let g = c .enum-told .given .1 in (
-      (λ w. let x = o .0 w in (done-number (answer-same endedOf (x .0) g), x .1)),
-      (λ w n held window ts cs hs hp hn ok. let x = o .1 w n held window ts cs hs hp hn ok in (
-        done-number (answer-same endedOf (x .heard) g),
-        record
-            { heard = refl; leaves = x .leaves; sound = x .sound; refused = x .refused; spans = x .spans },
-      )),
-    )
+    let g = c .enum-told .given .1 in
+    record {
+      refused = λ w. let x = o .refused w in (done-number (answer-same endedOf (x .0) g), x .1);
+      says = λ w n held window ts cs hs hp hn ok.
+          let x = o .says w n held window ts cs hs hp hn ok in
+          (done-number (answer-same endedOf (x .heard) g), rw (← x .heard) x);
+    }
 
 same-length-2 : tie.Need-same-length-2
 same-length-2 c = c .before .before .before .before .before .before .end .kept .1 .1 .0
@@ -43,12 +41,13 @@ unfolding numberIn
 returns-2 c =
     let o = c .before .before .before .before .before .before .end .ensures in
     let g = c .before .before .ended .given .1 in
-    let r = c .before .before .ended .given .0 .0 in (
-      (λ w. let x = o .0 w in (not-number r (c .number .ensures) (answer-same endedOf (x .0) g), x .1)),
-      (λ w n held window ts cs hs hp hn ok.
-          let x = o .1 w n held window ts cs hs hp hn ok in
-          (not-number r (c .number .ensures) (answer-same endedOf (x .heard) g), record { heard = refl; leaves = x .leaves; sound = x .sound; refused = x .refused; spans = x .spans })),
-    )
+    let r = c .before .before .ended .given .0 .0 in
+    record {
+      refused = λ w. let x = o .refused w in (not-number r (c .number .ensures) (answer-same endedOf (x .0) g), x .1);
+      says = λ w n held window ts cs hs hp hn ok.
+          let x = o .says w n held window ts cs hs hp hn ok in
+          (not-number r (c .number .ensures) (answer-same endedOf (x .heard) g), rw (← x .heard) x);
+    }
 
 pub desk-feed-end-spec : {M : Type 1} → statement M
 desk-feed-end-spec =

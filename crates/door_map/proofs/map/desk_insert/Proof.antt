@@ -22,17 +22,27 @@ same-length c = search needs
 
 returns : tie.Need-returns
 returns c =
-    let e = answer-same insertedOf (c .before .before .before .before .before .insert .ensures .answers) (c .before .inserted .given .1) in
-    (done-number e, (done-value (c .before .before .before .before .before .before .before .before .before .args .used .now) 0 e, c .before .before .before .before .before .insert .ensures .memory))
+    let call = c .before .before .before .before .before in
+    let e = answer-same insertedOf (call .insert .ensures .answers) (c .before .inserted .given .1) in
+    record {
+      returns = done-number e;
+      in-use = done-value (call .before .before .before .before .args .used .now) 0 e;
+      memory = call .insert .ensures .memory;
+    }
 
 same-length-2 : tie.Need-same-length-2
 same-length-2 c = search needs
 
 returns-2 : tie.Need-returns-2
 returns-2 c =
-    let e = answer-same insertedOf (c .before .before .before .before .before .before .insert .ensures .answers) (c .before .before .inserted2 .given .1) in
+    let call = c .before .before .before .before .before .before in
+    let e = answer-same insertedOf (call .insert .ensures .answers) (c .before .before .inserted2 .given .1) in
     let r = c .before .before .inserted2 .given .0 .0 in
-    (not-number r (c .number .ensures) e, (not-value r (c .before .before .before .before .before .before .before .before .before .before .args .used .now) 0 e, c .before .before .before .before .before .before .insert .ensures .memory))
+    record {
+      returns = not-number r (c .number .ensures) e;
+      in-use = not-value r (call .before .before .before .before .args .used .now) 0 e;
+      memory = call .insert .ensures .memory;
+    }
 
 pub desk-insert-spec : {M : Type 1} → statement M
 desk-insert-spec =

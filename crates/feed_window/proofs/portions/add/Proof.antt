@@ -56,16 +56,17 @@ portions-fit-requires c κs = search needs
 returns : tie.Need-returns
 returns c =
     let no : portionFits _ _ _ _ _ ≡ false = sym (c .before .portions-fit .ensures) ∙ not-true _ (c .if1 .taken) in
-    ((λ e. (refl, refl, refl)), (λ e. absurd (true≢false (sym e ∙ no))))
+    record { refused = λ e. (refl, refl, refl); says = λ e. absurd (true≢false (sym e ∙ no)) }
 
 returns-2 : tie.Need-returns-2
 returns-2 c =
     let there = c .before in
-    let a = start there .args in (
-      (λ e. absurd (true≢false (sym (fits there) ∙ e))),
-      (λ e n held ts hp hn ok. add-shut (a .window .now) hn ok (a .stream) (a .portion .now)
-          (shut-far (a .window .now) hn ok (a .stream) (a .portion .now) (c .if2 .taken))),
-    )
+    let a = start there .args in
+    record {
+      refused = λ e. absurd (true≢false (sym (fits there) ∙ e));
+      says = λ e n held ts hp hn ok. add-shut (a .window .now) hn ok (a .stream) (a .portion .now)
+          (shut-far (a .window .now) hn ok (a .stream) (a .portion .now) (c .if2 .taken));
+    }
 
 shared-slice-read-mark : tie.Need-shared-slice-read-mark
 shared-slice-read-mark c = omega (arith, room (first (c .before)) .marks, c .before .if2 .left)
@@ -73,11 +74,12 @@ shared-slice-read-mark c = omega (arith, room (first (c .before)) .marks, c .bef
 returns-3 : tie.Need-returns-3
 returns-3 c =
     let there = c .before .before in
-    let a = start (first there) .args in (
-      (λ e. absurd (true≢false (sym (fits (first there)) ∙ e))),
-      (λ e n held ts hp hn ok. add-shut (a .window .now) hn ok (a .stream) (a .portion .now)
-          (shut-gone (a .window .now) hn ok (a .stream) (a .portion .now) (there .if2 .left) (c .if3 .taken))),
-    )
+    let a = start (first there) .args in
+    record {
+      refused = λ e. absurd (true≢false (sym (fits (first there)) ∙ e));
+      says = λ e n held ts hp hn ok. add-shut (a .window .now) hn ok (a .stream) (a .portion .now)
+          (shut-gone (a .window .now) hn ok (a .stream) (a .portion .now) (there .if2 .left) (c .if3 .taken));
+    }
 
 mul-span : tie.Need-mul-span
 mul-span c = search needs
@@ -88,11 +90,12 @@ slice-read-span c = let there = second (c .before) in omega (arith, room (first 
 returns-4 : tie.Need-returns-4
 returns-4 c =
     let there = c .before .before in
-    let a = start (first (second there)) .args in (
-      (λ e. absurd (true≢false (sym (fits (first (second there))) ∙ e))),
-      (λ e n held ts hp hn ok. add-shut (a .window .now) hn ok (a .stream) (a .portion .now)
-          (shut-ended (a .window .now) hn ok (a .stream) (a .portion .now) (second there .if2 .left) (there .if3 .left) (c .if4 .taken))),
-    )
+    let a = start (first (second there)) .args in
+    record {
+      refused = λ e. absurd (true≢false (sym (fits (first (second there))) ∙ e));
+      says = λ e n held ts hp hn ok. add-shut (a .window .now) hn ok (a .stream) (a .portion .now)
+          (shut-ended (a .window .now) hn ok (a .stream) (a .portion .now) (second there .if2 .left) (there .if3 .left) (c .if4 .taken));
+    }
 
 add-if5 : tie.Need-add-if5
 add-if5 c = search needs
@@ -100,12 +103,13 @@ add-if5 c = search needs
 returns-5 : tie.Need-returns-5
 returns-5 c =
     let there = third (c .before) in
-    let a = start (first (second there)) .args in (
-      (λ e. absurd (true≢false (sym (fits (first (second there))) ∙ e))),
-      (λ e n held ts hp hn ok.
+    let a = start (first (second there)) .args in
+    record {
+      refused = λ e. absurd (true≢false (sym (fits (first (second there))) ∙ e));
+      says = λ e n held ts hp hn ok.
           let o = slot (a .window .now) hn ok (a .stream) (a .portion .now) (second there .if2 .left) (there .if3 .left) (c .before .if4 .left) in
-          absurd (omega (arith, c .if5 .taken, o .short))),
-    )
+          absurd (omega (arith, c .if5 .taken, o .short));
+    }
 
 mul-room-for : tie.Need-mul-room-for
 mul-room-for c = search needs
@@ -157,12 +161,13 @@ returns-6 c =
     let last = fourth (c .before .before .before .before .before .before .before) in
     let there = second (third last) in
     let a = start (first there) .args in
-    let r = room (first there) in (
-      (λ e. absurd (true≢false (sym (fits (first there)) ∙ e))),
-      (λ e n held ts hp hn ok. rw (c .before .before .lay .ensures, c .before .before .before .before .room-for .ensures)
+    let r = room (first there) in
+    record {
+      refused = λ e. absurd (true≢false (sym (fits (first there)) ∙ e));
+      says = λ e n held ts hp hn ok. rw (c .before .before .lay .ensures, c .before .before .before .before .room-for .ensures)
           (add-done (a .window .now) hn ok (a .stream) (a .portion .now) (there .if2 .left) (third last .if3 .left) (last .if4 .left)
-          (r .bytes) (omega (arith, r .spans)))),
-    )
+          (r .bytes) (omega (arith, r .spans)));
+    }
 
 pub add-spec : {M : Type 1} → statement M
 add-spec =

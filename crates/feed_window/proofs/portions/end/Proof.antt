@@ -34,15 +34,16 @@ words-fit-requires c κs = search needs
 returns : tie.Need-returns
 returns c =
     let no : wordFits _ _ ≡ false = sym (c .before .words-fit .ensures) ∙ not-true _ (c .if1 .taken) in
-    ((λ e. (refl, refl)), (λ e. absurd (true≢false (sym e ∙ no))))
+    record { refused = λ e. (refl, refl); says = λ e. absurd (true≢false (sym e ∙ no)) }
 
 returns-2 : tie.Need-returns-2
 returns-2 c =
     let there = c .before in
-    let p = start there .args .stream in (
-      (λ e. absurd (true≢false (sym (fits there) ∙ e))),
-      (λ e n held window ts cs hs hp hn ok. end-shut window hn ok p (shut-far window hn ok p [] (c .if2 .taken))),
-    )
+    let p = start there .args .stream in
+    record {
+      refused = λ e. absurd (true≢false (sym (fits there) ∙ e));
+      says = λ e n held window ts cs hs hp hn ok. end-shut window hn ok p (shut-far window hn ok p [] (c .if2 .taken));
+    }
 
 shared-slice-read-if3 : tie.Need-shared-slice-read-if3
 shared-slice-read-if3 c = omega (arith, room (first (c .before)) .0, c .before .if2 .left)
@@ -50,10 +51,11 @@ shared-slice-read-if3 c = omega (arith, room (first (c .before)) .0, c .before .
 returns-3 : tie.Need-returns-3
 returns-3 c =
     let there = c .before .before in
-    let p = start (first there) .args .stream in (
-      (λ e. absurd (true≢false (sym (fits (first there)) ∙ e))),
-      (λ e n held window ts cs hs hp hn ok. end-shut window hn ok p (shut-gone window hn ok p [] (there .if2 .left) (c .if3 .taken))),
-    )
+    let p = start (first there) .args .stream in
+    record {
+      refused = λ e. absurd (true≢false (sym (fits (first there)) ∙ e));
+      says = λ e n held window ts cs hs hp hn ok. end-shut window hn ok p (shut-gone window hn ok p [] (there .if2 .left) (c .if3 .taken));
+    }
 
 mul-span : tie.Need-mul-span
 mul-span c = search needs
@@ -64,11 +66,12 @@ slice-read-span c = let there = second (c .before) in omega (arith, room (first 
 returns-4 : tie.Need-returns-4
 returns-4 c =
     let there = c .before .before in
-    let p = start (first (second there)) .args .stream in (
-      (λ e. absurd (true≢false (sym (fits (first (second there))) ∙ e))),
-      (λ e n held window ts cs hs hp hn ok. end-shut window hn ok p
-          (shut-ended window hn ok p [] (second there .if2 .left) (there .if3 .left) (c .if4 .taken))),
-    )
+    let p = start (first (second there)) .args .stream in
+    record {
+      refused = λ e. absurd (true≢false (sym (fits (first (second there))) ∙ e));
+      says = λ e n held window ts cs hs hp hn ok. end-shut window hn ok p
+          (shut-ended window hn ok p [] (second there .if2 .left) (there .if3 .left) (c .if4 .taken));
+    }
 
 add-spans : tie.Need-add-spans
 add-spans c = search needs
@@ -85,11 +88,12 @@ same-length c = search needs
 returns-5 : tie.Need-returns-5
 returns-5 c =
     let there = c .before .before in
-    let p = start (first (second there)) .args .stream in (
-      (λ e. absurd (true≢false (sym (fits (first (second there))) ∙ e))),
-      (λ e n held window ts cs hs hp hn ok. end-done window hn ok p (second there .if2 .left) (there .if3 .left) (c .if4 .left)
-          (omega (arith, room (first (second there)) .1))),
-    )
+    let p = start (first (second there)) .args .stream in
+    record {
+      refused = λ e. absurd (true≢false (sym (fits (first (second there))) ∙ e));
+      says = λ e n held window ts cs hs hp hn ok. end-done window hn ok p (second there .if2 .left) (there .if3 .left) (c .if4 .left)
+          (omega (arith, room (first (second there)) .1));
+    }
 
 pub end-spec : {M : Type 1} → statement M
 end-spec =

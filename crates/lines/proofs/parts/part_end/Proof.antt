@@ -1,59 +1,27 @@
--- Each return has the one fact that decides it. Assumes nothing.
+-- A section ends behind its bytes. Assumes nothing.
+use native.Mathlib.Omega.{arith}
 use borrow.Author.Needs.{needs}
-use Rattle.lines.specs.Parts.{part-no-head, part-no-size, part-no-end, part-no-kind, part-there}
+use Rattle.lines.specs.Parts.{end-none, end-some}
 use Rattle.lines.proofs.parts.part_end.Statement.{statement}
 use Rattle.lines.proofs.parts.part_end.Tie as tie
 
-sub-left : tie.Need-sub-left
-sub-left c = search needs
+part-size-requires : tie.Need-part-size-requires
+part-size-requires c κs = search needs
 
 returns : tie.Need-returns
-returns c = (search (needs, part-no-head), search needs)
-
-u32-at-requires : tie.Need-u32-at-requires
-u32-at-requires c κs = search needs
-
-cast-size : tie.Need-cast-size
-cast-size c = search needs
-
-returns-2 : tie.Need-returns-2
-returns-2 c = (search (needs, part-no-size), search needs)
-
-returns-3 : tie.Need-returns-3
-returns-3 c = (search (needs, part-no-end), search needs)
-
-add-u16-at : tie.Need-add-u16-at
-add-u16-at c = search needs
-
-u16-at-requires : tie.Need-u16-at-requires
-u16-at-requires c κs = search needs
-
-returns-4 : tie.Need-returns-4
-returns-4 c = (search (needs, part-no-kind), search needs)
+returns c = (search (needs, end-none), search needs)
 
 add-result : tie.Need-add-result
-add-result c = search needs
+add-result c = omega (arith, end-some _ _ _ (c .before .before .before .pre) (c .before .part-size .ensures) (c .if1 .left) .1)
 
-returns-5 : tie.Need-returns-5
-returns-5 c =
-    let d = c .before .before .before in (
-      part-there _ _ _ (d .before .u32-at .ensures) (c .before .u16-at .ensures) (d .before .before .if1 .left) (d .if2 .left)
-          (c .before .before .if3 .left) (c .if4 .left),
-      search needs,
-    )
+returns-2 : tie.Need-returns-2
+returns-2 c = end-some _ _ _ (c .before .before .before .pre) (c .before .part-size .ensures) (c .if1 .left)
 
 pub part-end-spec : {M : Type 1} → statement M
 part-end-spec =
     tie.close
     (tie.spec
-    sub-left
+    part-size-requires
     returns
-    u32-at-requires
-    cast-size
-    returns-2
-    returns-3
-    add-u16-at
-    u16-at-requires
-    returns-4
     add-result
-    returns-5)
+    returns-2)

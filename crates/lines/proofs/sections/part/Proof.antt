@@ -31,8 +31,8 @@ returns-2 : tie.Need-returns-2 Inv-loop μ-loop
 returns-2 c =
     bad-many (c .before .before .loop .inv .2) (c .before .before .before .if1 .left) (c .before .loop-test .taken) (c .if2 .taken)
 
-section-size-requires : tie.Need-section-size-requires Inv-loop μ-loop
-section-size-requires c κs = omega (arith, c .before .before .loop .inv .2 .within)
+part-size-requires : tie.Need-part-size-requires Inv-loop μ-loop
+part-size-requires c κs = omega (arith, c .before .before .loop .inv .2 .within)
 
 same-length-3 : tie.Need-same-length-3 Inv-loop μ-loop
 same-length-3 c = c .before .before .before .before .loop .inv .0
@@ -42,13 +42,13 @@ same-length-4 c = c .before .before .before .before .loop .inv .1
 
 returns-3 : tie.Need-returns-3 Inv-loop μ-loop
 returns-3 c =
-    bad-section (c .before .before .before .before .loop .inv .2) (c .before .before .before .before .before .if1 .left) (c .before .before .before .loop-test .taken) (sym (c .before .section-size .ensures) ∙ c .if3 .taken)
+    bad-section (c .before .before .before .before .loop .inv .2) (c .before .before .before .before .before .if1 .left) (c .before .before .before .loop-test .taken) (sym (c .before .part-size .ensures) ∙ c .if3 .taken)
 
 turned-at : (c : tie.Else3 Inv-loop μ-loop)
-    → Turned (now (c .before .before .before .before .before .before .before .before .before .args .bundle)) (c .before .before .before .before .loop .at) (c .before .before .before .before .loop .bytes) (c .before .before .before .before .loop .count) (c .before .section-size .result)
+    → Turned (now (c .before .before .before .before .before .before .before .before .before .args .bundle)) (c .before .before .before .before .loop .at) (c .before .before .before .before .loop .bytes) (c .before .before .before .before .loop .count) (c .before .part-size .result)
 turned-at c =
     turned (c .before .before .before .before .loop .inv .2) (c .before .before .before .loop-test .taken)
-    (c .before .before .before .before .before .if1 .left) (c .before .before .if2 .left) (c .before .section-size .ensures) (c .if3 .left)
+    (c .before .before .before .before .before .if1 .left) (c .before .before .if2 .left) (c .before .part-size .ensures) (c .if3 .left)
 
 add-copy : tie.Need-add-copy Inv-loop μ-loop
 add-copy c = let t = turned-at (c .before) in omega arith
@@ -125,7 +125,7 @@ part-spec =
     same-length
     same-length-2
     returns-2
-    section-size-requires
+    part-size-requires
     same-length-3
     same-length-4
     returns-3

@@ -1,8 +1,8 @@
 -- Each return has the one fact that decides it. Assumes nothing.
 use borrow.Author.Needs.{needs}
-use Rattle.lines.specs.SectionsLaws.{no-head, no-size, no-end, no-kind, section-there}
-use Rattle.lines.proofs.sections.section_size.Statement.{statement}
-use Rattle.lines.proofs.sections.section_size.Tie as tie
+use Rattle.lines.specs.Parts.{no-head, no-size, no-end, no-kind, size-there}
+use Rattle.lines.proofs.parts.part_size.Statement.{statement}
+use Rattle.lines.proofs.parts.part_size.Tie as tie
 
 sub-left : tie.Need-sub-left
 sub-left c = search needs
@@ -32,10 +32,10 @@ returns-4 : tie.Need-returns-4
 returns-4 c = search (needs, no-kind)
 
 returns-5 : tie.Need-returns-5
-returns-5 c = search (needs, section-there)
+returns-5 c = search (needs, size-there)
 
-pub section-size-spec : {M : Type 1} → statement M
-section-size-spec =
+pub part-size-spec : {M : Type 1} → statement M
+part-size-spec =
     tie.close
     (tie.spec
     sub-left
