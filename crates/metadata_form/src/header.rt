@@ -1,4 +1,6 @@
 // A metadata's header, the test of its memory (15), the six fields compared (6), and the fields of a merge.
+use leaves::numbers::greater;
+use leaves::numbers::lesser;
 use leaves_limits::ENTRIES;
 use leaves_limits::INTERVALS;
 use leaves_limits::MAPPINGS;
@@ -6,7 +8,7 @@ use metadata_words::words::INTERVAL_WORDS;
 use metadata_words::words::MAPPING_WORDS;
 use metadata_words::words::count_at;
 ghost use mathlib.Core.Path.{_≡_};
-ghost use Prim.Native.Nat.{_+_, _-_, _*_, _<_, _≤_, min, max};
+ghost use Prim.Native.Nat.{_*_, _≤_};
 ghost use lib.ListN.{length};
 ghost use Rattle.leaves_limits.specs.Limits.{mostMappings};
 ghost use Rattle.metadata_rules.specs.Words.{before};
@@ -153,18 +155,6 @@ pub fn differs(header: Header, added: Header) -> u32
         return 6;
     }
     0
-}
-
-fn lesser(a: u64, b: u64) -> u64
-    ensures { λ r. ⌜ r ≡ min a b ⌝ }
-{
-    if a <= b { a } else { b }
-}
-
-fn greater(a: u64, b: u64) -> u64
-    ensures { λ r. ⌜ r ≡ max a b ⌝ }
-{
-    if a <= b { b } else { a }
 }
 
 // An unequal schema becomes none.
