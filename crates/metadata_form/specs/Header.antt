@@ -86,15 +86,15 @@ unfolding lengthsFit
 metadataFits header lengths mappings =
     lengthsFit header lengths && leb (before mappings (header .mappings)) (lengths .intervals / 3)
 
--- the header of a merge
-abbrev pub mergedHeader : Header → Header → Counts → Header
-mergedHeader h g c = record {
+-- a header with this schema, start, end and limit, and with these counts
+abbrev pub headerWith : Header → ℕ → ℕ → ℕ → ℕ → Counts → Header
+headerWith h schema start end limit c = record {
   version = h .version;
   dataset = h .dataset;
-  schema = sameSchema (h .schema) (g .schema);
-  start = min (h .start) (g .start);
-  end = max (h .end) (g .end);
-  limit = 0;
+  schema = schema;
+  start = start;
+  end = end;
+  limit = limit;
   «stype_in» = h .«stype_in»;
   «stype_out» = h .«stype_out»;
   «ts_out» = h .«ts_out»;
@@ -105,24 +105,13 @@ mergedHeader h g c = record {
   mappings = c .mappings;
 }
 
+-- the header of a merge
+abbrev pub mergedHeader : Header → Header → Counts → Header
+mergedHeader h g c = headerWith h (sameSchema (h .schema) (g .schema)) (min (h .start) (g .start)) (max (h .end) (g .end)) 0 c
+
 -- a header with other counts
 abbrev pub countedHeader : Header → Counts → Header
-countedHeader h c = record {
-  version = h .version;
-  dataset = h .dataset;
-  schema = h .schema;
-  start = h .start;
-  end = h .end;
-  limit = h .limit;
-  «stype_in» = h .«stype_in»;
-  «stype_out» = h .«stype_out»;
-  «ts_out» = h .«ts_out»;
-  «symbol_cstr_len» = h .«symbol_cstr_len»;
-  symbols = c .symbols;
-  partial = c .partial;
-  «not_found» = c .«not_found»;
-  mappings = c .mappings;
-}
+countedHeader h c = headerWith h (h .schema) (h .start) (h .end) (h .limit) c
 
 -- an outcome's counts within the rooms; where not, 2
 unfoldable pub outcomeFits : Counts → Lengths → Bool
