@@ -10,10 +10,13 @@ use lib.Dec.{leb, eqb}
 use borrow.Author.Tests.{leb-true, eqb-true}
 use Rattle.leaves_limits.specs.Limits.{mostEntries, mostIntervals, mostMappings}
 use Rattle.theory.specs.Bools.{and-left, and-right}
-use Rattle.theory.specs.Answer.{bit}
+use Rattle.theory.specs.Answer.{Answer, answer, bit}
+use Rattle.leaves.specs.Refusal.{refused}
 use Rattle.metadata_rules.specs.Metadata.{Metadata, Fields, sameSchema}
 use Rattle.metadata_rules.specs.Words.{before, mappingsFrom}
 use Rattle.metadata_form.specs.declared.header.Header.{Header}
+use Rattle.metadata_form.specs.declared.header.MetadataAnswer.{MetadataAnswer}
+use Rattle.metadata_form.specs.declared.header.MetadataAnswer.the-variants.{Done, Refused}
 use Rattle.metadata_form.specs.declared.header.Lengths.{Lengths}
 use Rattle.metadata_form.specs.declared.header.Counts.{Counts}
 
@@ -37,6 +40,11 @@ abbrev pub numbersOf : Header → List ℕ
 numbersOf h =
     h .version ∷ h .dataset ∷ h .schema ∷ h .start ∷ h .end ∷ h .limit ∷ h .«stype_in» ∷ h .«stype_out» ∷ bit (h .«ts_out») ∷ h .«symbol_cstr_len»
     ∷ h .symbols ∷ h .partial ∷ h .«not_found» ∷ h .mappings ∷ []
+
+-- what a call answers: done with the header's numbers, or a refusal
+abbrev pub metadataAnswerOf : MetadataAnswer → Answer
+metadataAnswerOf (Done h) = answer 0 (numbersOf h)
+metadataAnswerOf (Refused r) = refused r
 
 -- the five lent lists, whole
 pub record Lists : Type 0 where

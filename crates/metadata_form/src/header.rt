@@ -1,6 +1,7 @@
 // A metadata's header, the test of its memory (15), the six fields compared (6), and the fields of a merge.
 use leaves::numbers::greater;
 use leaves::numbers::lesser;
+use leaves::refusal::Refusal;
 use leaves_limits::ENTRIES;
 use leaves_limits::INTERVALS;
 use leaves_limits::MAPPINGS;
@@ -32,6 +33,12 @@ pub struct Header {
     pub partial: usize,
     pub not_found: usize,
     pub mappings: usize,
+}
+
+// What a call of the metadata merge answers: a header, or a refusal.
+pub enum MetadataAnswer {
+    Done(Header),
+    Refused(Refusal),
 }
 
 // The lengths of the five lent lists, in words.

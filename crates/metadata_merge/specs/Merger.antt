@@ -23,9 +23,11 @@ use Rattle.metadata_lists.specs.NamesWords.{Stands, stands}
 use Rattle.metadata_gather.specs.Arrivals.{addAll-small}
 use Rattle.metadata_gather.specs.Sides.{Sound, lost-count, count-all}
 use Rattle.metadata_form.specs.declared.header.Header.{Header}
+use Rattle.metadata_form.specs.declared.header.MetadataAnswer.{MetadataAnswer}
+use Rattle.metadata_form.specs.declared.header.MetadataAnswer.the-variants.{Done, Refused}
 use Rattle.metadata_form.specs.declared.header.Lengths.{Lengths}
 use Rattle.metadata_form.specs.declared.header.Counts.{Counts}
-use Rattle.metadata_form.specs.Header.{Lists, lists, lengthsOf, headerFields, metadataOf, metadataFits, mergedHeader, countedHeader, MetadataFitting, metadata-fitting, outcomeFits, numbersOf}
+use Rattle.metadata_form.specs.Header.{Lists, lists, lengthsOf, headerFields, metadataOf, metadataFits, mergedHeader, countedHeader, MetadataFitting, metadata-fitting, outcomeFits, numbersOf, metadataAnswerOf}
 use Rattle.metadata_words.specs.Over.{over}
 use Rattle.metadata_gather.specs.Sets.{AllUnited}
 use Rattle.metadata_merge.specs.Outcome.{given, Deciding, Decided, Fitted, countsOf, front}
@@ -33,25 +35,6 @@ use Rattle.metadata_merge.specs.OutcomeCalls.{Outcomes, Plannable, Commi
 use Rattle.metadata_merge.specs.Room.{names-length}
 use Rattle.metadata_merge.specs.declared.outcome.Verdict.{Verdict}
 use Rattle.metadata_merge.specs.declared.outcome.Verdict.the-variants as verdict
-use Rattle.metadata_merge.specs.declared.merger.OpenedMetadata.{OpenedMetadata}
-use Rattle.metadata_merge.specs.declared.merger.OpenedMetadata.the-variants as opening
-use Rattle.metadata_merge.specs.declared.merger.MergedMetadata.{MergedMetadata}
-use Rattle.metadata_merge.specs.declared.merger.MergedMetadata.the-variants as merging
-use Rattle.metadata_merge.specs.declared.merger.FinishedMetadata.{FinishedMetadata}
-use Rattle.metadata_merge.specs.declared.merger.FinishedMetadata.the-variants as finishing
-
--- what each answer says: done with the header's numbers, or a refusal
-abbrev pub openedOf : OpenedMetadata → Answer
-openedOf (opening.Done h) = answer 0 (numbersOf h)
-openedOf (opening.Refused r) = refused r
-
-abbrev pub mergedOf : MergedMetadata → Answer
-mergedOf (merging.Done h) = answer 0 (numbersOf h)
-mergedOf (merging.Refused r) = refused r
-
-abbrev pub finishedOf : FinishedMetadata → Answer
-finishedOf (finishing.Done h) = answer 0 (numbersOf h)
-finishedOf (finishing.Refused r) = refused r
 
 -- a metadata's numbers: its fields, and how many entries and mappings it has
 unfoldable pub valuesOf : Metadata → List ℕ
@@ -91,8 +74,8 @@ unfoldable pub openLists : Header → Lists → Lists
 unfolding laidOver
 openLists h l = cond (metadataFits h (lengthsOf l) (l .mappings)) (laidOver h l (opened (metadataOf h l))) l
 
-pub record Open (h : Header) (l : Lists) (r : OpenedMetadata) (l' : Lists) : Type 0 where
-  pub answers : openedOf r ≡ openAnswer h l
+pub record Open (h : Header) (l : Lists) (r : MetadataAnswer) (l' : Lists) : Type 0 where
+  pub answers : metadataAnswerOf r ≡ openAnswer h l
   pub holds : l' ≡ openLists h l
 
 -- ---- merge
@@ -113,8 +96,8 @@ unfoldable pub mergeLists : ℕ → Header → Lists → Header → Lists → Li
 unfolding heldBy
 mergeLists names h l g r = cond (allFit names h l g r) (heldBy h l (merge (given names l) (metadataOf h l) (metadataOf g r))) l
 
-pub record Merge (names : ℕ) (h : Header) (l : Lists) (g : Header) (r : Lists) (a : MergedMetadata) (l' : Lists) : Type 0 where
-  pub answers : mergedOf a ≡ mergeAnswer names h l g r
+pub record Merge (names : ℕ) (h : Header) (l : Lists) (g : Header) (r : Lists) (a : MetadataAnswer) (l' : Lists) : Type 0 where
+  pub answers : metadataAnswerOf a ≡ mergeAnswer names h l g r
   pub holds : l' ≡ mergeLists names h l g r
 
 -- ---- finish
@@ -126,7 +109,7 @@ finishAnswer h l = cond (metadataFits h (lengthsOf l) (l .mappings)) (answer 0 (
 -- ---- laws of the merge
 
 module _ (names : ℕ) (h : Header) (l : Lists) (g : Header) (r : Lists) where
-  pub merge-unfit : (b : Bool) → b ≡ allFit names h l g r → b ≡ false → Merge names h l g r (merging.Refused BadMemory) l
+  pub merge-unfit : (b : Bool) → b ≡ allFit names h l g r → b ≡ false → Merge names h l g r (Refused BadMemory) l
   unfolding mergeAnswer mergeLists
   merge-unfit b e d =
       let f = sym e ∙ d in
@@ -136,7 +119,7 @@ module _ (names : ℕ) (h : Header) (l : Lists) (g : Header) (r : Lists) where
     fit-true : allFit names h l g r ≡ true
     fit-true = sym e ∙ d
 
-    merge-from : (a : MergedMetadata) (l' : Lists) (x : Outcome) → merge (given names l) (metadataOf h l) (metadataOf g r) ≡ x → mergedOf a ≡ answerOf x → l' ≡ heldBy h l x → Merge names h l g r a l'
+    merge-from : (a : MetadataAnswer) (l' : Lists) (x : Outcome) → merge (given names l) (metadataOf h l) (metadataOf g r) ≡ x → metadataAnswerOf a ≡ answerOf x → l' ≡ heldBy h l x → Merge names h l g r a l'
     unfolding mergeAnswer mergeLists
     merge-from a l' x z y w =
         let f = fit-true in
@@ -146,10 +129,10 @@ module _ (names : ℕ) (h : Header) (l : Lists) (g : Header) (r : Lists) where
     unfolding merge mergeOpened opened metadataOf
     merge-differ n y = ap (ifSame (given names l) (opened (metadataOf h l)) (metadataOf g r)) (sym y)
 
-    pub merge-differs : (n : ℕ) → n ≡ differsAt (headerFields h) (headerFields g) → n ≢ 0 → Merge names h l g r (merging.Refused (Differ n)) l
+    pub merge-differs : (n : ℕ) → n ≡ differsAt (headerFields h) (headerFields g) → n ≢ 0 → Merge names h l g r (Refused (Differ n)) l
     unfolding ifSame answerOf heldBy
     merge-differs zero y z = absurd (z refl)
-    merge-differs (suc n) y z = merge-from (merging.Refused (Differ (suc n))) l (stopped (answer 6 (suc n ∷ []))) (merge-differ (suc n) y) refl refl
+    merge-differs (suc n) y z = merge-from (Refused (Differ (suc n))) l (stopped (answer 6 (suc n ∷ []))) (merge-differ (suc n) y) refl refl
 
     pub both-plannable : (len : Lengths) → len ≡ lengthsOf l → (sa sb sc sm sv : ℕ) → sa ≡ 8192 → sb ≡ 8192 → sc ≡ 8192 → sm ≡ 16384 → sv ≡ 393216 → Plannable names h len l g r sa sb sc sm sv
     unfolding bothFit
@@ -176,12 +159,12 @@ module _ (names : ℕ) (h : Header) (l : Lists) (g : Header) (r : Lists) where
       unfolding ifSame
       merge-agreed = merge-differ n y ∙ ap (ifSame (given names l) (opened (metadataOf h l)) (metadataOf g r)) z
 
-      pub merge-refuses : (x : Refusal) → v ≡ verdict.Refused x → Merge names h l g r (merging.Refused x) l
+      pub merge-refuses : (x : Refusal) → v ≡ verdict.Refused x → Merge names h l g r (Refused x) l
       unfolding Outcomes Deciding answerOf heldBy
       merge-refuses x f =
           let w : agreedMerge (given names l) (opened (metadataOf h l)) (metadataOf g r) ≡ stopped (refused x) =
           subst (λ (q : Verdict). Decided (agreedMerge (given names l) (opened (metadataOf h l)) (metadataOf g r)) (fieldsOf (headerFields h) (headerFields g)) (lengthsOf l) q ta tb tc om out) f o in
-          merge-from (merging.Refused x) l (stopped (refused x)) (merge-agreed ∙ w) refl refl
+          merge-from (Refused x) l (stopped (refused x)) (merge-agreed ∙ w) refl refl
 
       pub fitted : (c : Counts) → v ≡ verdict.Fits c → Fitted (agreedMerge (given names l) (opened (metadataOf h l)) (metadataOf g r)) (fieldsOf (headerFields h) (headerFields g)) (lengthsOf l) c ta tb tc om out
       unfolding Outcomes Deciding
@@ -215,12 +198,12 @@ module _ (names : ℕ) (h : Header) (l : Lists) (g : Header) (r : Lists) where
           })
 
       pub merge-done : (c : Counts) → v ≡ verdict.Fits c → (used : ℕ) → used ≡ before (l .mappings) (h .mappings) → (l' : Lists) → l' ≡ committed h used c l (lists ta tb tc om out)
-          → (k : Header) → k ≡ mergedHeader h g c → Merge names h l g r (merging.Done k) l'
+          → (k : Header) → k ≡ mergedHeader h g c → Merge names h l g r (Done k) l'
       unfolding answerOf heldBy valuesOf laidOver fieldsOf
       merge-done c f used u l' w k i =
           let t = fitted c f in
           let x = t .fields in
-          merge-from (merging.Done k) l' (done (t .value)) (merge-agreed ∙ t .is)
+          merge-from (Done k) l' (done (t .value)) (merge-agreed ∙ t .is)
           (ap (λ (j : Header). answer 0 (numbersOf j)) i
           ∙ rw (x, sym (t .n-symbols), sym (t .n-partial), sym (t .n-not-found), sym (t .n-mappings)) refl)
           (w ∙ rw (sym (t .symbols), sym (t .partial), sym (t .not-found), sym (t .mappings), sym (t .intervals), sym u) refl)
@@ -254,7 +237,7 @@ module _ (h : Header) (l : Lists) where
       let s = flat-count (l .mappings) (l .intervals) (h .mappings) 0 0 in
       rw (sym e ∙ d, p, q, r, s) refl
 
-  pub open-unfit : (b : Bool) → b ≡ metadataFits h (lengthsOf l) (l .mappings) → b ≡ false → Open h l (opening.Refused BadMemory) l
+  pub open-unfit : (b : Bool) → b ≡ metadataFits h (lengthsOf l) (l .mappings) → b ≡ false → Open h l (Refused BadMemory) l
   unfolding openAnswer openLists
   open-unfit b e d = let f = sym e ∙ d in record { answers = rw f refl; holds = rw f refl }
 
@@ -324,7 +307,7 @@ module _ (h : Header) (l : Lists) where
           })
 
       pub open-done : (used : ℕ) → used ≡ before (l .mappings) (h .mappings) → (l' : Lists) → l' ≡ committed h used (countsOf ca cb cd q k) l (lists ta tb tc om out)
-          → (r : Header) → r ≡ countedHeader h (countsOf ca cb cd q k) → Open h l (opening.Done r) l'
+          → (r : Header) → r ≡ countedHeader h (countsOf ca cb cd q k) → Open h l (Done r) l'
       unfolding openAnswer openLists valuesOf laidOver opened metadataOf addAll
       open-done used y l' z r x =
           let f = sym e ∙ d in

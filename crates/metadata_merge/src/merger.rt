@@ -12,6 +12,7 @@ use leaves_limits::NAMES;
 use metadata_form::header::Counts;
 use metadata_form::header::Header;
 use metadata_form::header::Lengths;
+use metadata_form::header::MetadataAnswer;
 use metadata_form::header::counted;
 use metadata_form::header::differs;
 use metadata_form::header::lengths_by;
@@ -23,28 +24,9 @@ use metadata_gather::sides::lose_repeats;
 use metadata_words::words::INTERVAL_WORDS;
 use metadata_words::words::MAPPING_WORDS;
 ghost use mathlib.Core.Path.{_≡_};
-ghost use mathlib.Core.Bool.{_&&_};
 ghost use lib.ListN.{length};
-ghost use Rattle.metadata_form.specs.Header.{lists, lengthsOf};
-ghost use Rattle.metadata_merge.specs.Merger.{finishedOf, finishAnswer, bothFit, Merge, Open};
-
-// What opening answers: the header with the counts that are left, or 15.
-pub enum OpenedMetadata {
-    Done(Header),
-    Refused(Refusal),
-}
-
-// What a merge answers: the header of both together, or 15, 6, 11, 3, 1, 7, 2.
-pub enum MergedMetadata {
-    Done(Header),
-    Refused(Refusal),
-}
-
-// What finishing answers: the header as it was, or 15.
-pub enum FinishedMetadata {
-    Done(Header),
-    Refused(Refusal),
-}
+ghost use Rattle.metadata_form.specs.Header.{lists, metadataAnswerOf};
+ghost use Rattle.metadata_merge.specs.Merger.{finishAnswer, bothFit, Merge, Open};
 
 // Scratch for one metadata at the limits: words of its mappings and of its intervals.
 const ONE_MAPPING_WORDS: usize = MAPPINGS * MAPPING_WORDS;
@@ -85,7 +67,7 @@ pub fn open(
     not_found: &mut [u32],
     mappings: &mut [u32],
     intervals: &mut [u32],
-) -> OpenedMetadata
+) -> MetadataAnswer
     ensures { λ r. ⌜ Open header (lists (now (symbols .entry)) (now (partial .entry)) (now («not_found» .entry)) (now (mappings .entry))
         (now (intervals .entry))) r (lists (now (symbols .exit)) (now (partial .exit)) (now («not_found» .exit)) (now (mappings .exit)) (now (intervals .exit)))
         ⌝ }
@@ -98,7 +80,7 @@ pub fn open(
         intervals.len(),
     );
     if !metadata_fits(header, lengths, mappings) {
-        return OpenedMetadata::Refused(Refusal::BadMemory);
+        return MetadataAnswer::Refused(Refusal::BadMemory);
     }
     let mut out_symbols = [0u32; ENTRIES];
     let mut out_partial = [0u32; ENTRIES];
@@ -139,7 +121,7 @@ pub fn open(
         &out_intervals,
     );
     let r = counted(header, counts);
-    OpenedMetadata::Done(r)
+    MetadataAnswer::Done(r)
 }
 
 // One more metadata is merged into a gathered one, which loses its repeats first where it was never opened. `names` is how many
@@ -158,7 +140,7 @@ pub fn merge(
     added_not_found: &[u32],
     added_mappings: &[u32],
     added_intervals: &[u32],
-) -> MergedMetadata
+) -> MetadataAnswer
     ensures { λ r. ⌜ Merge names header (lists (now (symbols .entry)) (now (partial .entry)) (now («not_found» .entry)) (now (mappings .entry))
         (now (intervals .entry))) added (lists (now («added_symbols» .entry)) (now («added_partial» .entry)) (now («added_not_found» .entry))
         (now («added_mappings» .entry)) (now («added_intervals» .entry))) r
@@ -187,11 +169,11 @@ pub fn merge(
         added_lengths,
         added_mappings,
     ) {
-        return MergedMetadata::Refused(Refusal::BadMemory);
+        return MetadataAnswer::Refused(Refusal::BadMemory);
     }
     let field = differs(header, added);
     if field != 0 {
-        return MergedMetadata::Refused(Refusal::Differ(field));
+        return MetadataAnswer::Refused(Refusal::Differ(field));
     }
     let mut out_symbols = [0u32; BOTH_ENTRIES];
     let mut out_partial = [0u32; BOTH_ENTRIES];
@@ -220,7 +202,7 @@ pub fn merge(
         &mut out_intervals,
     );
     match verdict {
-        Verdict::Refused(why) => MergedMetadata::Refused(why),
+        Verdict::Refused(why) => MetadataAnswer::Refused(why),
         Verdict::Fits(counts) => {
             let used = total(mappings, header.mappings);
             commit(
@@ -239,7 +221,7 @@ pub fn merge(
                 &out_intervals,
             );
             let r = merged_header(header, added, counts);
-            MergedMetadata::Done(r)
+            MetadataAnswer::Done(r)
         }
     }
 }
@@ -252,8 +234,8 @@ pub fn finish(
     not_found: &[u32],
     mappings: &[u32],
     intervals: &[u32],
-) -> FinishedMetadata
-    ensures { λ r. ⌜ finishedOf r ≡ finishAnswer header (lists (now (symbols .entry)) (now (partial .entry)) (now («not_found» .entry)) (now (mappings .entry)) (now (intervals .entry))) ⌝ }
+) -> MetadataAnswer
+    ensures { λ r. ⌜ metadataAnswerOf r ≡ finishAnswer header (lists (now (symbols .entry)) (now (partial .entry)) (now («not_found» .entry)) (now (mappings .entry)) (now (intervals .entry))) ⌝ }
 {
     let lengths = lengths_by(
         symbols.len(),
@@ -263,7 +245,7 @@ pub fn finish(
         intervals.len(),
     );
     if !metadata_fits(header, lengths, mappings) {
-        return FinishedMetadata::Refused(Refusal::BadMemory);
+        return MetadataAnswer::Refused(Refusal::BadMemory);
     }
-    FinishedMetadata::Done(header)
+    MetadataAnswer::Done(header)
 }
