@@ -17,7 +17,8 @@ use Rattle.metadata_form.specs.declared.header.Header.{Header}
 use Rattle.metadata_form.specs.declared.header.MetadataAnswer.{MetadataAnswer}
 use Rattle.metadata_form.specs.declared.header.MetadataAnswer.the-variants as answers
 use Rattle.metadata_form.specs.Header.{Lists, numbersOf, metadataAnswerOf}
-use Rattle.metadata_merge.specs.Merger.{finishAnswer, Open, Merge}
+use Rattle.metadata_open.specs.Opening.{finishAnswer, Open}
+use Rattle.metadata_merge.specs.Merger.{Merge}
 use Rattle.door_answers.specs.Answers.{numberIn}
 use Rattle.door_answers.specs.HeaderLaws.{refused-words}
 use Rattle.door_answers.specs.Header.{widths, within, headerFits, headerOf, wordsIn}

@@ -55,7 +55,7 @@ pub extern "C" fn desk_metadata_open(
         return BAD_MEMORY;
     }
     let h = header_of(header);
-    let opened = metadata_merge::merger::open(h, symbols, partial, not_found, mappings, intervals);
+    let opened = metadata_open::opening::open(h, symbols, partial, not_found, mappings, intervals);
     match opened {
         MetadataAnswer::Done(g) => {
             put_header(header, g);
@@ -138,7 +138,7 @@ pub extern "C" fn desk_metadata_finish(
         return BAD_MEMORY;
     }
     let h = header_of(header);
-    let finished = metadata_merge::merger::finish(
+    let finished = metadata_open::opening::finish(
         h,
         symbols,
         partial,

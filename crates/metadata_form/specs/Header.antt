@@ -60,6 +60,9 @@ lists a b c m v = record { symbols = a; partial = b; not-found = c; mappings = m
 abbrev pub lengthsBy : ℕ → ℕ → ℕ → ℕ → ℕ → Lengths
 lengthsBy a b c m v = record { symbols = a; partial = b; «not_found» = c; mappings = m; intervals = v }
 
+abbrev pub countsBy : ℕ → ℕ → ℕ → ℕ → ℕ → Counts
+countsBy a b c m v = record { symbols = a; partial = b; «not_found» = c; mappings = m; intervals = v }
+
 abbrev pub lengthsOf : Lists → Lengths
 lengthsOf l = lengthsBy (length (l .symbols)) (length (l .partial)) (length (l .not-found)) (length (l .mappings)) (length (l .intervals))
 

@@ -24,7 +24,9 @@ use Rattle.metadata_form.specs.declared.header.MetadataAnswer.the-variants.{Don
 use Rattle.metadata_form.specs.Header.{Lists, lengthsOf, headerFields, metadataOf, metadataFits, numbersOf}
 use Rattle.metadata_words.specs.Over.{over}
 use Rattle.metadata_merge.specs.Outcome.{given}
-use Rattle.metadata_merge.specs.Merger.{valuesOf, laidOver, answerOf, heldBy, openAnswer, openLists, Open, allFit, mergeAnswer, mergeLists, Merge, laid-read}
+use Rattle.metadata_open.specs.Commit.{laidOver, laid-read}
+use Rattle.metadata_open.specs.Opening.{valuesOf, openAnswer, openLists, Open}
+use Rattle.metadata_merge.specs.Merger.{answerOf, heldBy, allFit, mergeAnswer, mergeLists, Merge}
 
 -- ---- the numbers that come with a done answer are the header's
 

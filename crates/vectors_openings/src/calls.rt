@@ -34,7 +34,7 @@ fn called(
     let m = a.mappings;
     let v = a.intervals;
     if opening {
-        let opened = metadata_merge::merger::open(
+        let opened = metadata_open::opening::open(
             h,
             &mut symbols[..i],
             &mut partial[..j],
@@ -44,7 +44,7 @@ fn called(
         );
         return said_of(opened, h);
     }
-    let finished = metadata_merge::merger::finish(
+    let finished = metadata_open::opening::finish(
         h,
         &symbols[..i],
         &partial[..j],
