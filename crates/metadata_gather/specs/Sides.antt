@@ -14,7 +14,7 @@ use Rattle.theory.specs.Runs.{All}
 use Rattle.metadata_rules.specs.declared.Interval.{Interval}
 use Rattle.metadata_rules.specs.Cases.{eqb-case, cond-eq, cond-ne}
 use Rattle.metadata_rules.specs.Metadata.{Mapping, mapping, enter, enterAll, countIntervals}
-use Rattle.metadata_rules.specs.Words.{nameAt, countAt, stretch, mappingsFrom, before}
+use Rattle.metadata_rules.specs.Words.{nameAt, countAt, stretch, mappingsFrom, before, stretch-length}
 use Rattle.metadata_words.specs.Words.{putMapping, layIntervals}
 use Rattle.metadata_lists.specs.Flat.{listAt, placedFrom, placedTo}
 use Rattle.metadata_rules.specs.WordsLaws.{before-next, before-up}
@@ -168,11 +168,6 @@ within-of m v off n j f h a b c =
     let u = before-up m (j + 1) n (omega arith) in
     record { words = omega arith; offs = omega arith; spans = omega arith }
 
-stretch-size : (v : List ℕ) (o n : ℕ) → length (stretch v o n) ≡ n
-unfolding stretch
-stretch-size v o zero = refl
-stretch-size v o (suc n) = ap suc (stretch-size v (o + 1) n)
-
 count-flat : (m v : List ℕ) (n t o : ℕ) → countIntervals (mappingsFrom m v t o n) + before m t ≡ before m (t + n)
 unfolding mappingsFrom countIntervals
 count-flat m v zero t o = let z : t ≡ t + 0 = omega arith in let r = ap (before m) z in omega arith
@@ -180,7 +175,7 @@ count-flat m v (suc n) t o =
     let z : (t + 1) + n ≡ t + suc n = omega arith in
     let r = count-flat m v n (t + 1) (o + countAt m t) ∙ ap (before m) z in
     let b = before-next m t in
-    let s = stretch-size v o (countAt m t) in
+    let s = stretch-length v o (countAt m t) in
     omega arith
 
 -- a metadata's mappings have as many intervals as their counts say
