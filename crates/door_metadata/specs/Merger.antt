@@ -8,7 +8,8 @@ use lib.ListN.{getD}
 use Rattle.theory.specs.Answer.{Answer, answer}
 use Rattle.metadata_form.specs.declared.header.Header.{Header}
 use Rattle.metadata_form.specs.Header.{Lists}
-use Rattle.metadata_merge.specs.Merger.{openAnswer, openLists, mergeAnswer, mergeLists, finishAnswer}
+use Rattle.metadata_open.specs.Opening.{openAnswer, openLists, finishAnswer}
+use Rattle.metadata_merge.specs.Merger.{mergeAnswer, mergeLists}
 use Rattle.door_answers.specs.Answers.{numberIn}
 use Rattle.door_answers.specs.Header.{headerFits, headerOf, wordsIn}
 

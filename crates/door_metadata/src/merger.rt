@@ -8,9 +8,7 @@ use door_answers::header::is_header;
 use door_answers::header::put_header;
 use leaves::refusal::Refusal;
 use leaves::refusal::number;
-use metadata_merge::merger::FinishedMetadata;
-use metadata_merge::merger::MergedMetadata;
-use metadata_merge::merger::OpenedMetadata;
+use metadata_form::header::MetadataAnswer;
 ghost use mathlib.Core.Path.{_≡_};
 ghost use mathlib.Core.Bool.{_&&_};
 ghost use Rattle.leaves.specs.Refusal.{refused};
@@ -57,13 +55,13 @@ pub extern "C" fn desk_metadata_open(
         return BAD_MEMORY;
     }
     let h = header_of(header);
-    let opened = metadata_merge::merger::open(h, symbols, partial, not_found, mappings, intervals);
+    let opened = metadata_open::opening::open(h, symbols, partial, not_found, mappings, intervals);
     match opened {
-        OpenedMetadata::Done(g) => {
+        MetadataAnswer::Done(g) => {
             put_header(header, g);
             DONE
         }
-        OpenedMetadata::Refused(refusal) => number(refusal),
+        MetadataAnswer::Refused(refusal) => number(refusal),
     }
 }
 
@@ -113,11 +111,11 @@ pub extern "C" fn desk_metadata_merge(
         added_intervals,
     );
     match merged {
-        MergedMetadata::Done(k) => {
+        MetadataAnswer::Done(k) => {
             put_header(header, k);
             DONE
         }
-        MergedMetadata::Refused(refusal) => {
+        MetadataAnswer::Refused(refusal) => {
             *field = field_in(refusal, *field);
             number(refusal)
         }
@@ -140,7 +138,7 @@ pub extern "C" fn desk_metadata_finish(
         return BAD_MEMORY;
     }
     let h = header_of(header);
-    let finished = metadata_merge::merger::finish(
+    let finished = metadata_open::opening::finish(
         h,
         symbols,
         partial,
@@ -149,7 +147,7 @@ pub extern "C" fn desk_metadata_finish(
         intervals,
     );
     match finished {
-        FinishedMetadata::Done(_) => DONE,
-        FinishedMetadata::Refused(refusal) => number(refusal),
+        MetadataAnswer::Done(_) => DONE,
+        MetadataAnswer::Refused(refusal) => number(refusal),
     }
 }

@@ -4,12 +4,13 @@ use crate::spans::FILL;
 use crate::spans::PLACES;
 use crate::spans::WINDOW;
 use crate::spans::WINDOW_BYTES;
+use leaves::numbers::lesser;
 use leaves::refusal::Refusal;
 use leaves_limits::STREAMS;
 use records_state::state::GONE;
 use records_state::state::WAITING;
 ghost use mathlib.Core.Path.{_≡_};
-ghost use Prim.Native.Nat.{_+_, _-_, _≤_, _^_, min};
+ghost use Prim.Native.Nat.{_+_, _-_, _≤_, _^_};
 ghost use lib.ListN.{length, drop};
 ghost use lib.Seq.{paste};
 ghost use Rattle.feed_rules.specs.Spans.{counts};
@@ -60,16 +61,6 @@ fn portions_fit(marks: usize, places: usize, heads: usize, spans: usize, window:
         return false;
     }
     words_fit(marks, spans)
-}
-
-// The lesser of two numbers.
-fn lesser(a: u64, b: u64) -> u64
-    ensures { λ r. ⌜ r ≡ min a b ⌝ }
-{
-    if a <= b {
-        return a;
-    }
-    b
 }
 
 // How many bytes before the place of a stream still count: those of the record that it handed out last.

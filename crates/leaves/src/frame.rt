@@ -1,5 +1,6 @@
 // A record's frame (RULES, Merging records): what stands at a place of a stream's bytes, and a symbol
 // mapping's parts where the bytes are exactly one record.
+use crate::numbers::lesser;
 use crate::refusal::Refusal;
 use leaves_fields::fields::u16_at;
 use leaves_fields::fields::u32_at;
@@ -74,16 +75,6 @@ fn no_record(found: u64) -> Head
         instrument: 0,
         time: 0,
     }
-}
-
-// The lesser of two numbers.
-fn lesser(a: u64, b: u64) -> u64
-    ensures { λ r. ⌜ r ≡ min a b ⌝ }
-{
-    if a <= b {
-        return a;
-    }
-    b
 }
 
 // How many bytes are left from a place on of the part from `from` to `to` of a buffer of `size` bytes.

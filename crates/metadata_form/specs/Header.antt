@@ -10,10 +10,13 @@ use lib.Dec.{leb, eqb}
 use borrow.Author.Tests.{leb-true, eqb-true}
 use Rattle.leaves_limits.specs.Limits.{mostEntries, mostIntervals, mostMappings}
 use Rattle.theory.specs.Bools.{and-left, and-right}
-use Rattle.theory.specs.Answer.{bit}
+use Rattle.theory.specs.Answer.{Answer, answer, bit}
+use Rattle.leaves.specs.Refusal.{refused}
 use Rattle.metadata_rules.specs.Metadata.{Metadata, Fields, sameSchema}
 use Rattle.metadata_rules.specs.Words.{before, mappingsFrom}
 use Rattle.metadata_form.specs.declared.header.Header.{Header}
+use Rattle.metadata_form.specs.declared.header.MetadataAnswer.{MetadataAnswer}
+use Rattle.metadata_form.specs.declared.header.MetadataAnswer.the-variants.{Done, Refused}
 use Rattle.metadata_form.specs.declared.header.Lengths.{Lengths}
 use Rattle.metadata_form.specs.declared.header.Counts.{Counts}
 
@@ -38,6 +41,11 @@ numbersOf h =
     h .version ∷ h .dataset ∷ h .schema ∷ h .start ∷ h .end ∷ h .limit ∷ h .«stype_in» ∷ h .«stype_out» ∷ bit (h .«ts_out») ∷ h .«symbol_cstr_len»
     ∷ h .symbols ∷ h .partial ∷ h .«not_found» ∷ h .mappings ∷ []
 
+-- what a call answers: done with the header's numbers, or a refusal
+abbrev pub metadataAnswerOf : MetadataAnswer → Answer
+metadataAnswerOf (Done h) = answer 0 (numbersOf h)
+metadataAnswerOf (Refused r) = refused r
+
 -- the five lent lists, whole
 pub record Lists : Type 0 where
   pub symbols : List ℕ
@@ -51,6 +59,9 @@ lists a b c m v = record { symbols = a; partial = b; not-found = c; mappings = m
 
 abbrev pub lengthsBy : ℕ → ℕ → ℕ → ℕ → ℕ → Lengths
 lengthsBy a b c m v = record { symbols = a; partial = b; «not_found» = c; mappings = m; intervals = v }
+
+abbrev pub countsBy : ℕ → ℕ → ℕ → ℕ → ℕ → Counts
+countsBy a b c m v = record { symbols = a; partial = b; «not_found» = c; mappings = m; intervals = v }
 
 abbrev pub lengthsOf : Lists → Lengths
 lengthsOf l = lengthsBy (length (l .symbols)) (length (l .partial)) (length (l .not-found)) (length (l .mappings)) (length (l .intervals))
@@ -86,15 +97,15 @@ unfolding lengthsFit
 metadataFits header lengths mappings =
     lengthsFit header lengths && leb (before mappings (header .mappings)) (lengths .intervals / 3)
 
--- the header of a merge
-abbrev pub mergedHeader : Header → Header → Counts → Header
-mergedHeader h g c = record {
+-- a header with this schema, start, end and limit, and with these counts
+abbrev pub headerWith : Header → ℕ → ℕ → ℕ → ℕ → Counts → Header
+headerWith h schema start end limit c = record {
   version = h .version;
   dataset = h .dataset;
-  schema = sameSchema (h .schema) (g .schema);
-  start = min (h .start) (g .start);
-  end = max (h .end) (g .end);
-  limit = 0;
+  schema = schema;
+  start = start;
+  end = end;
+  limit = limit;
   «stype_in» = h .«stype_in»;
   «stype_out» = h .«stype_out»;
   «ts_out» = h .«ts_out»;
@@ -105,24 +116,13 @@ mergedHeader h g c = record {
   mappings = c .mappings;
 }
 
+-- the header of a merge
+abbrev pub mergedHeader : Header → Header → Counts → Header
+mergedHeader h g c = headerWith h (sameSchema (h .schema) (g .schema)) (min (h .start) (g .start)) (max (h .end) (g .end)) 0 c
+
 -- a header with other counts
 abbrev pub countedHeader : Header → Counts → Header
-countedHeader h c = record {
-  version = h .version;
-  dataset = h .dataset;
-  schema = h .schema;
-  start = h .start;
-  end = h .end;
-  limit = h .limit;
-  «stype_in» = h .«stype_in»;
-  «stype_out» = h .«stype_out»;
-  «ts_out» = h .«ts_out»;
-  «symbol_cstr_len» = h .«symbol_cstr_len»;
-  symbols = c .symbols;
-  partial = c .partial;
-  «not_found» = c .«not_found»;
-  mappings = c .mappings;
-}
+countedHeader h c = headerWith h (h .schema) (h .start) (h .end) (h .limit) c
 
 -- an outcome's counts within the rooms; where not, 2
 unfoldable pub outcomeFits : Counts → Lengths → Bool

@@ -1,4 +1,7 @@
 // A metadata's header, the test of its memory (15), the six fields compared (6), and the fields of a merge.
+use leaves::numbers::greater;
+use leaves::numbers::lesser;
+use leaves::refusal::Refusal;
 use leaves_limits::ENTRIES;
 use leaves_limits::INTERVALS;
 use leaves_limits::MAPPINGS;
@@ -6,12 +9,12 @@ use metadata_words::words::INTERVAL_WORDS;
 use metadata_words::words::MAPPING_WORDS;
 use metadata_words::words::count_at;
 ghost use mathlib.Core.Path.{_≡_};
-ghost use Prim.Native.Nat.{_+_, _-_, _*_, _<_, _≤_, min, max};
+ghost use Prim.Native.Nat.{_*_, _≤_};
 ghost use lib.ListN.{length};
 ghost use Rattle.leaves_limits.specs.Limits.{mostMappings};
 ghost use Rattle.metadata_rules.specs.Words.{before};
 ghost use Rattle.metadata_rules.specs.Metadata.{sameSchema, sameBool, differsAt};
-ghost use Rattle.metadata_form.specs.Header.{headerFields, lengthsBy, setFits, lengthsFit, metadataFits, mergedHeader, countedHeader, outcomeFits};
+ghost use Rattle.metadata_form.specs.Header.{headerFields, lengthsBy, setFits, lengthsFit, metadataFits, headerWith, mergedHeader, countedHeader, outcomeFits};
 
 // What a metadata says besides its lists, and how many places of each list are in use. The dataset is a name's number; an end
 // or limit of 0 is a missing one; schema 65535 and stype_in 255 mean none.
@@ -30,6 +33,12 @@ pub struct Header {
     pub partial: usize,
     pub not_found: usize,
     pub mappings: usize,
+}
+
+// What a call of the metadata merge answers: a header, or a refusal.
+pub enum MetadataAnswer {
+    Done(Header),
+    Refused(Refusal),
 }
 
 // The lengths of the five lent lists, in words.
@@ -51,6 +60,8 @@ pub struct Counts {
 }
 
 const NO_SCHEMA: u16 = 65535;
+
+const NO_LIMIT: u64 = 0;
 
 // The lengths of five lists.
 pub fn lengths_by(
@@ -124,10 +135,7 @@ pub fn metadata_fits(header: Header, lengths: Lengths, mappings: &[u32]) -> bool
 fn same(a: bool, b: bool) -> bool
     ensures { λ r. ⌜ r ≡ sameBool a b ⌝ }
 {
-    if a {
-        return b;
-    }
-    !b
+    if a { b } else { !b }
 }
 
 // The place of the first of the six fields that differs, from 1; 0 for none.
@@ -155,26 +163,40 @@ pub fn differs(header: Header, added: Header) -> u32
     0
 }
 
-fn lesser(a: u64, b: u64) -> u64
-    ensures { λ r. ⌜ r ≡ min a b ⌝ }
-{
-    if a <= b { a } else { b }
-}
-
-fn greater(a: u64, b: u64) -> u64
-    ensures { λ r. ⌜ r ≡ max a b ⌝ }
-{
-    if a <= b { b } else { a }
-}
-
 // An unequal schema becomes none.
 fn same_schema(a: u16, b: u16) -> u16
     ensures { λ r. ⌜ r ≡ sameSchema a b ⌝ }
 {
-    if a == b {
-        return a;
+    if a == b { a } else { NO_SCHEMA }
+}
+
+// A header with this schema, start, end and limit, and with the outcome's counts.
+fn header_with(
+    header: Header,
+    schema: u16,
+    start: u64,
+    end: u64,
+    limit: u64,
+    counts: Counts,
+) -> Header
+    ensures { λ r. ⌜ r ≡ headerWith header schema start end limit counts ⌝ }
+{
+    Header {
+        version: header.version,
+        dataset: header.dataset,
+        schema: schema,
+        start: start,
+        end: end,
+        limit: limit,
+        stype_in: header.stype_in,
+        stype_out: header.stype_out,
+        ts_out: header.ts_out,
+        symbol_cstr_len: header.symbol_cstr_len,
+        symbols: counts.symbols,
+        partial: counts.partial,
+        not_found: counts.not_found,
+        mappings: counts.mappings,
     }
-    NO_SCHEMA
 }
 
 // The header of a merge: start the lesser, end the greater, no limit, and the outcome's counts.
@@ -184,44 +206,21 @@ pub fn merged_header(header: Header, added: Header, counts: Counts) -> Header
     let schema = same_schema(header.schema, added.schema);
     let start = lesser(header.start, added.start);
     let end = greater(header.end, added.end);
-    Header {
-        version: header.version,
-        dataset: header.dataset,
-        schema: schema,
-        start: start,
-        end: end,
-        limit: 0,
-        stype_in: header.stype_in,
-        stype_out: header.stype_out,
-        ts_out: header.ts_out,
-        symbol_cstr_len: header.symbol_cstr_len,
-        symbols: counts.symbols,
-        partial: counts.partial,
-        not_found: counts.not_found,
-        mappings: counts.mappings,
-    }
+    header_with(header, schema, start, end, NO_LIMIT, counts)
 }
 
 // The same header with the outcome's counts.
 pub fn counted(header: Header, counts: Counts) -> Header
     ensures { λ r. ⌜ r ≡ countedHeader header counts ⌝ }
 {
-    Header {
-        version: header.version,
-        dataset: header.dataset,
-        schema: header.schema,
-        start: header.start,
-        end: header.end,
-        limit: header.limit,
-        stype_in: header.stype_in,
-        stype_out: header.stype_out,
-        ts_out: header.ts_out,
-        symbol_cstr_len: header.symbol_cstr_len,
-        symbols: counts.symbols,
-        partial: counts.partial,
-        not_found: counts.not_found,
-        mappings: counts.mappings,
-    }
+    header_with(
+        header,
+        header.schema,
+        header.start,
+        header.end,
+        header.limit,
+        counts,
+    )
 }
 
 // Whether an outcome fits the room; where it does not, 2.

@@ -14,7 +14,7 @@ use Rattle.theory.specs.Runs.{All}
 use Rattle.metadata_rules.specs.declared.Interval.{Interval}
 use Rattle.metadata_rules.specs.Cases.{eqb-case, cond-eq, cond-ne}
 use Rattle.metadata_rules.specs.Metadata.{Mapping, mapping, enter, enterAll, countIntervals}
-use Rattle.metadata_rules.specs.Words.{nameAt, countAt, stretch, mappingsFrom, before}
+use Rattle.metadata_rules.specs.Words.{nameAt, countAt, stretch, mappingsFrom, before, stretch-length}
 use Rattle.metadata_words.specs.Words.{putMapping, layIntervals}
 use Rattle.metadata_lists.specs.Flat.{listAt, placedFrom, placedTo}
 use Rattle.metadata_rules.specs.WordsLaws.{before-next, before-up}
@@ -168,11 +168,6 @@ within-of m v off n j f h a b c =
     let u = before-up m (j + 1) n (omega arith) in
     record { words = omega arith; offs = omega arith; spans = omega arith }
 
-stretch-size : (v : List ℕ) (o n : ℕ) → length (stretch v o n) ≡ n
-unfolding stretch
-stretch-size v o zero = refl
-stretch-size v o (suc n) = ap suc (stretch-size v (o + 1) n)
-
 count-flat : (m v : List ℕ) (n t o : ℕ) → countIntervals (mappingsFrom m v t o n) + before m t ≡ before m (t + n)
 unfolding mappingsFrom countIntervals
 count-flat m v zero t o = let z : t ≡ t + 0 = omega arith in let r = ap (before m) z in omega arith
@@ -180,7 +175,7 @@ count-flat m v (suc n) t o =
     let z : (t + 1) + n ≡ t + suc n = omega arith in
     let r = count-flat m v n (t + 1) (o + countAt m t) ∙ ap (before m) z in
     let b = before-next m t in
-    let s = stretch-size v o (countAt m t) in
+    let s = stretch-length v o (countAt m t) in
     omega arith
 
 -- a metadata's mappings have as many intervals as their counts say
@@ -287,9 +282,29 @@ unfolding enterAll countIntervals
 enterAll-count [] ls = omega arith
 enterAll-count (x ∷ ms) ls = let a = enterAll-count ms (enter ls x) in let b = enter-count ls x in omega arith
 
-pub lost-count : (ms : List Mapping) → countIntervals (enterAll [] ms) ≤ countIntervals ms
+pub kept-count : (m v : List ℕ) (n : ℕ) → countIntervals (enterAll [] (mappingsFrom m v 0 0 n)) ≤ before m n
 unfolding countIntervals
-lost-count ms = let a = enterAll-count ms [] in omega arith
+kept-count m v n = let a = enterAll-count (mappingsFrom m v 0 0 n) [] in let b = count-all m v n in omega arith
+
+-- nor mappings
+enter-few : (ls : List Mapping) (m : Mapping) → length (enter ls m) ≤ length ls + 1
+unfolding enter
+enter-few [] m = omega arith
+enter-few (l ∷ ls) m =
+    eqb-case (λ (r : List Mapping). length r ≤ suc (length ls) + 1) (l .name) (m .name) _ _ (λ e. omega arith) (λ d. let r = enter-few ls m in omega arith)
+
+enterAll-few : (ms ls : List Mapping) → length (enterAll ls ms) ≤ length ls + length ms
+unfolding enterAll
+enterAll-few [] ls = omega arith
+enterAll-few (m ∷ ms) ls = let a = enterAll-few ms (enter ls m) in let b = enter-few ls m in omega arith
+
+pub flat-length : (m v : List ℕ) (j t o : ℕ) → length (mappingsFrom m v t o j) ≡ j
+unfolding mappingsFrom
+flat-length m v zero t o = refl
+flat-length m v (suc j) t o = ap suc (flat-length m v j (t + 1) (o + countAt m t))
+
+pub kept-few : (m v : List ℕ) (n : ℕ) → length (enterAll [] (mappingsFrom m v 0 0 n)) ≤ n
+kept-few m v n = let a = enterAll-few (mappingsFrom m v 0 0 n) [] in let b = flat-length m v n 0 0 in omega arith
 
 module _ (m v off ps : List ℕ) (n r : ℕ) (f : Offs m off n) (l : r ≤ length ps) (g : take r ps ≡ picksOf m n) where
   pub first-picked : pickedTo m v off ps 0 r ≡ enterAll [] (mappingsFrom m v 0 0 n)
@@ -301,8 +316,7 @@ module _ (m v off ps : List ℕ) (n r : ℕ) (f : Offs m off n) (l : r ≤ lengt
   pub first-layable : (lm lv : ℕ) → Sound m n v lm 0 lv 0 → n ≤ length off → r ≤ n → Layable m v off ps r lm 0 lv 0
   first-layable lm lv s a h =
       let e : countIntervals (pickedTo m v off ps 0 r) ≡ countIntervals (enterAll [] (mappingsFrom m v 0 0 n)) = ap countIntervals first-picked in
-      let c = lost-count (mappingsFrom m v 0 0 n) in
-      let d = count-all m v n in
+      let c = kept-count m v n in
       let w = s .room in
       let u = s .maps in
       record {

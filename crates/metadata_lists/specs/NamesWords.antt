@@ -5,7 +5,7 @@ use Prim.Native.Nat.{ℕ, zero, suc, _+_, _-_, _*_, _≤_, _<_}
 use native.Mathlib.Omega.{arith}
 use mathlib.Core.List.{List, [], _∷_, _++_, append-assoc}
 use lib.ListN.{length, set, take, drop, length-append, take-append-drop}
-use lib.Seq.{set-at, length-take-le}
+use lib.Seq.{set-at, take-at, length-take-le}
 use Rattle.metadata_rules.specs.declared.Interval.{Interval}
 use Rattle.metadata_rules.specs.Metadata.{Mapping, countIntervals}
 use Rattle.metadata_rules.specs.Words.{wordsOf, mappingWords, intervalWords, words-length, interval-length, mapping-length}
@@ -87,3 +87,14 @@ stands ms a b a' b' q k e h i =
       maps = (cc);
       spans = (cc);
     }
+
+-- what was laid stands at the front
+front : (n : ℕ) (a b r : List ℕ) → a ≡ b ++ r → length b ≡ n → take n a ≡ b
+front n a b r e h = ap (take n) e ∙ take-at b r n h
+
+module _ {ms : List Mapping} {a b : List ℕ} {q k : ℕ} (s : Stands ms a q b k) where
+  pub front-maps : take (2 * q) a ≡ mappingWords ms
+  front-maps = front (2 * q) a (mappingWords ms) (s .rest-m) (s .maps) (omega (arith, mapping-length ms, s .how-many))
+
+  pub front-spans : take (3 * k) b ≡ intervalWords ms
+  front-spans = front (3 * k) b (intervalWords ms) (s .rest-v) (s .spans) (omega (arith, interval-length ms, s .how-long))

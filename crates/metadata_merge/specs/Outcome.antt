@@ -5,7 +5,6 @@ use native.Mathlib.Omega.{arith}
 use mathlib.Core.Bool.{Bool, true, false, _&&_, cond}
 use mathlib.Core.List.{List, [], _∷_, _++_}
 use lib.ListN.{length, take}
-use lib.Seq.{take-at}
 use lib.Dec.{leb, ltb}
 use Rattle.theory.specs.Answer.{answer}
 use Rattle.leaves.specs.Refusal.{refused}
@@ -15,9 +14,9 @@ use Rattle.metadata_rules.specs.declared.Interval.{Interval}
 use Rattle.metadata_rules.specs.Cases.{eqb-case}
 use Rattle.metadata_rules.specs.Metadata.{Metadata, Fields, Mapping, Merged, conflicting, merged, add, addAll, once, opened, byName, every, everyInterval, datesKnown, mappingsKnown, restKnown, namesKnown, forwards, countIntervals, Rooms, Given, Outcome, done, together, fieldsOf, ifFits, ifMerged, agreedMerge, fits}
 use Rattle.metadata_rules.specs.Metadata.{refused as stopped}
-use Rattle.metadata_rules.specs.Words.{mappingWords, intervalWords, every-append, mapping-length, interval-length}
+use Rattle.metadata_rules.specs.Words.{every-append}
 use Rattle.metadata_lists.specs.Names.{placed, layAll}
-use Rattle.metadata_lists.specs.NamesWords.{Stands, stands}
+use Rattle.metadata_lists.specs.NamesWords.{Stands, stands, front-maps, front-spans}
 use Rattle.metadata_gather.specs.Judge.{knownDate, below, judgedOf, and-assoc}
 use Rattle.metadata_plan.specs.Plan.{endPlan, shownMerged, planOn, planOf, judgedAll, bothSides}
 use Rattle.metadata_plan.specs.Plan.{stopped as halted}
@@ -26,8 +25,9 @@ use Rattle.metadata_plan.specs.declared.plan.Planned.the-variants as plan
 use Rattle.metadata_form.specs.declared.header.Header.{Header}
 use Rattle.metadata_form.specs.declared.header.Lengths.{Lengths}
 use Rattle.metadata_form.specs.declared.header.Counts.{Counts}
-use Rattle.metadata_form.specs.Header.{Lists, lists, lengthsOf, headerFields, metadataOf, outcomeFits}
+use Rattle.metadata_form.specs.Header.{Lists, lists, lengthsOf, countsBy, headerFields, metadataOf, outcomeFits}
 use Rattle.metadata_gather.specs.Sets.{IsUnited}
+use Rattle.metadata_open.specs.Commit.{StandsIn}
 use Rattle.metadata_merge.specs.Room.{merged-few, merged-short}
 use Rattle.metadata_merge.specs.declared.outcome.Verdict.{Verdict}
 use Rattle.metadata_merge.specs.declared.outcome.Verdict.the-variants.{Refused, Fits}
@@ -36,12 +36,9 @@ use Rattle.metadata_merge.specs.declared.outcome.Verdict.the-variants.{R
 unfoldable pub restOf : ℕ → Header → Header → Bool → Bool → Bool → Bool
 restOf names h g a b c = ltb (h .dataset) names && (ltb (g .dataset) names && (a && (b && c)))
 
-abbrev pub countsOf : ℕ → ℕ → ℕ → ℕ → ℕ → Counts
-countsOf a b c q k = record { symbols = a; partial = b; «not_found» = c; mappings = q; intervals = k }
-
 unfoldable pub decideOf : Planned → ℕ → ℕ → ℕ → Lengths → Verdict
 decideOf (plan.Refused r) a b c l = Refused r
-decideOf (plan.Laid q k) a b c l = cond (outcomeFits (countsOf a b c q k) l) (Fits (countsOf a b c q k)) (Refused NoRoom)
+decideOf (plan.Laid q k) a b c l = cond (outcomeFits (countsBy a b c q k) l) (Fits (countsBy a b c q k)) (Refused NoRoom)
 
 -- the rooms of the lent lists, and what a merge is given
 abbrev pub roomsOf : Lists → Rooms
@@ -174,75 +171,62 @@ module _ (names : ℕ) (h : Header) (l : Lists) (g : Header) (r : Lists) where
 
 -- ---- the verdict
 
--- the outcome x is a metadata with these fields, whose lists stand in scratch, c of each
-pub record Fitted (x : Outcome) (f : Fields) (l : Lengths) (c : Counts) (ta tb tc om out : List ℕ) : Type 0 where
+-- the outcome x is a metadata with these fields that stands in t, c of each list, and fits the lists of these lengths
+pub record Fitted (x : Outcome) (f : Fields) (l : Lengths) (c : Counts) (t : Lists) : Type 0 where
   pub value : Metadata
   pub is : x ≡ done value
   pub fields : value .fields ≡ f
-  pub n-symbols : c .symbols ≡ length (value .symbols)
-  pub symbols : take (c .symbols) ta ≡ value .symbols
-  pub n-partial : c .partial ≡ length (value .partial)
-  pub partial : take (c .partial) tb ≡ value .partial
-  pub n-not-found : c .«not_found» ≡ length (value .not-found)
-  pub not-found : take (c .«not_found») tc ≡ value .not-found
-  pub n-mappings : c .mappings ≡ length (value .mappings)
-  pub mappings : take (2 * c .mappings) om ≡ mappingWords (value .mappings)
-  pub n-intervals : c .intervals ≡ countIntervals (value .mappings)
-  pub intervals : take (3 * c .intervals) out ≡ intervalWords (value .mappings)
+  pub stands-in : StandsIn value c t
   pub room : outcomeFits c l ≡ true
 
 -- what a verdict says of the outcome x
-abbrev pub Decided : Outcome → Fields → Lengths → Verdict → List ℕ → List ℕ → List ℕ → List ℕ → List ℕ → Type 0
-Decided x f l (Refused r) ta tb tc om out = x ≡ stopped (refused r)
-Decided x f l (Fits c) ta tb tc om out = Fitted x f l c ta tb tc om out
+abbrev pub Decided : Outcome → Fields → Lengths → Verdict → Lists → Type 0
+Decided x f l (Refused r) t = x ≡ stopped (refused r)
+Decided x f l (Fits c) t = Fitted x f l c t
 
-unfoldable pub Deciding : Outcome → Fields → Lengths → Verdict → List ℕ → List ℕ → List ℕ → List ℕ → List ℕ → Type 0
-Deciding x f l v ta tb tc om out = Decided x f l v ta tb tc om out
-
-pub front : (n : ℕ) (a b r : List ℕ) → a ≡ b ++ r → length b ≡ n → take n a ≡ b
-front n a b r e h = ap (take n) e ∙ take-at b r n h
+unfoldable pub Deciding : Outcome → Fields → Lengths → Verdict → Lists → Type 0
+Deciding x f l v t = Decided x f l v t
 
 module _ (names : ℕ) (h : Header) (l : Lists) (g : Header) (r : Lists) (ka : Bool) (ca : ℕ) (ta : List ℕ) (kb : Bool) (cb : ℕ) (tb : List ℕ) (kc : Bool) (cd : ℕ) (tc : List ℕ)
     (s : Sets names h l g r ka ca ta kb cb tb kc cd tc) (om out om' out' : List ℕ) (fit-m : 2 * length (all names h l g r) ≤ length om) (fit-v : 3 * countIntervals (all names h l g r) ≤ length out) where
   abbrev ends : List Mapping → Metadata
   ends ms = together (left names h l g r) (right names h l g r) ms
 
-  counts-same : (ms : List Mapping) (q k : ℕ) → q ≡ length ms → k ≡ countIntervals ms → fits (roomsOf l) (ends ms) ≡ outcomeFits (countsOf ca cb cd q k) (lengthsOf l)
+  counts-same : (ms : List Mapping) (q k : ℕ) → q ≡ length ms → k ≡ countIntervals ms → fits (roomsOf l) (ends ms) ≡ outcomeFits (countsBy ca cb cd q k) (lengthsOf l)
   unfolding fits outcomeFits together opened metadataOf
   counts-same ms q k a b = rw (s .symbols .united .how-many, s .partial .united .how-many, s .not-found .united .how-many, a, b) refl
 
-  laid-fits : (ms : List Mapping) (q k : ℕ) → Stands ms om' q out' k → (b : Bool) → outcomeFits (countsOf ca cb cd q k) (lengthsOf l) ≡ b
-      → Decided (cond b (done (ends ms)) (stopped (answer 2 []))) (fieldsOf (headerFields h) (headerFields g)) (lengthsOf l) (cond b (Fits (countsOf ca cb cd q k)) (Refused NoRoom)) ta tb tc om' out'
+  laid-fits : (ms : List Mapping) (q k : ℕ) → Stands ms om' q out' k → (b : Bool) → outcomeFits (countsBy ca cb cd q k) (lengthsOf l) ≡ b
+      → Decided (cond b (done (ends ms)) (stopped (answer 2 []))) (fieldsOf (headerFields h) (headerFields g)) (lengthsOf l) (cond b (Fits (countsBy ca cb cd q k)) (Refused NoRoom)) (lists ta tb tc om' out')
   unfolding together opened metadataOf
   laid-fits ms q k d false e = refl
-  laid-fits ms q k d true e =
-      let x = d .how-many in
-      let y = d .how-long in
-      record {
-        value = ends ms;
-        is = refl;
-        fields = refl;
-        n-symbols = s .symbols .united .how-many;
-        symbols = s .symbols .united .stand;
-        n-partial = s .partial .united .how-many;
-        partial = s .partial .united .stand;
-        n-not-found = s .not-found .united .how-many;
-        not-found = s .not-found .united .stand;
-        n-mappings = x;
-        mappings = front (2 * q) om' (mappingWords ms) (d .rest-m) (d .maps) (let z = mapping-length ms in omega arith);
-        n-intervals = y;
-        intervals = front (3 * k) out' (intervalWords ms) (d .rest-v) (d .spans) (let z = interval-length ms in omega arith);
-        room = e;
-      }
+  laid-fits ms q k d true e = record {
+    value = ends ms;
+    is = refl;
+    fields = refl;
+    stands-in = record {
+      n-symbols = s .symbols .united .how-many;
+      symbols = s .symbols .united .stand;
+      n-partial = s .partial .united .how-many;
+      partial = s .partial .united .stand;
+      n-not-found = s .not-found .united .how-many;
+      not-found = s .not-found .united .stand;
+      n-mappings = d .how-many;
+      mappings = front-maps d;
+      n-intervals = d .how-long;
+      intervals = front-spans d;
+    };
+    room = e;
+  }
 
   halted-case : (p : Planned) (why : Refusal) → endPlan p om' out' ≡ halted why
-      → Decided (stopped (refused why)) (fieldsOf (headerFields h) (headerFields g)) (lengthsOf l) (decideOf p ca cb cd (lengthsOf l)) ta tb tc om' out'
+      → Decided (stopped (refused why)) (fieldsOf (headerFields h) (headerFields g)) (lengthsOf l) (decideOf p ca cb cd (lengthsOf l)) (lists ta tb tc om' out')
   unfolding endPlan decideOf
   halted-case (plan.Refused x) why e = let z : x ≡ why = cc in ap (λ (k : Refusal). stopped (refused k)) (sym z)
   halted-case (plan.Laid q k) why e = let z : _≡_ {A = ℕ} 0 1 = cc in absurd (omega arith)
 
   merged-case : (p : Planned) (m : Merged) → byName (all names h l g r) ≡ m → endPlan p om' out' ≡ shownMerged om out m
-      → Decided (ifMerged (roomsOf l) (left names h l g r) (right names h l g r) m) (fieldsOf (headerFields h) (headerFields g)) (lengthsOf l) (decideOf p ca cb cd (lengthsOf l)) ta tb tc om' out'
+      → Decided (ifMerged (roomsOf l) (left names h l g r) (right names h l g r) m) (fieldsOf (headerFields h) (headerFields g)) (lengthsOf l) (decideOf p ca cb cd (lengthsOf l)) (lists ta tb tc om' out')
   unfolding shownMerged ifMerged ifFits endPlan decideOf
   merged-case p conflicting b e = halted-case p Conflict e
   merged-case (plan.Refused x) (merged ms) b e = let z : _≡_ {A = ℕ} 0 1 = cc in absurd (omega arith)
@@ -251,13 +235,13 @@ module _ (names : ℕ) (h : Header) (l : Lists) (g : Header) (r : Lists) (ka : B
       let x = merged-few (all names h l g r) ms b in
       let y = merged-short (all names h l g r) ms b in
       let d = stands ms om out om' out' q k f (omega arith) (omega arith) in
-      subst (λ (t : Bool). Decided (cond t (done (ends ms)) (stopped (answer 2 []))) (fieldsOf (headerFields h) (headerFields g)) (lengthsOf l) (cond (outcomeFits (countsOf ca cb cd q k) (lengthsOf l)) (Fits (countsOf ca cb cd q k)) (Refused NoRoom)) ta tb tc om' out')
+      subst (λ (t : Bool). Decided (cond t (done (ends ms)) (stopped (answer 2 []))) (fieldsOf (headerFields h) (headerFields g)) (lengthsOf l) (cond (outcomeFits (countsBy ca cb cd q k) (lengthsOf l)) (Fits (countsBy ca cb cd q k)) (Refused NoRoom)) (lists ta tb tc om' out'))
       (sym (counts-same ms q k (d .how-many) (d .how-long)))
-      (laid-fits ms q k d (outcomeFits (countsOf ca cb cd q k) (lengthsOf l)) refl)
+      (laid-fits ms q k d (outcomeFits (countsBy ca cb cd q k) (lengthsOf l)) refl)
 
   cases : (p : Planned) (d n f : Bool) → endPlan p om' out' ≡ planOn (judgedOf d n f) om out (all names h l g r)
       → Decided (cond d (cond n (cond f (ifMerged (roomsOf l) (left names h l g r) (right names h l g r) (byName (all names h l g r))) (stopped (answer 1 []))) (stopped (answer 3 []))) (stopped (answer 11 [])))
-      (fieldsOf (headerFields h) (headerFields g)) (lengthsOf l) (decideOf p ca cb cd (lengthsOf l)) ta tb tc om' out'
+      (fieldsOf (headerFields h) (headerFields g)) (lengthsOf l) (decideOf p ca cb cd (lengthsOf l)) (lists ta tb tc om' out')
   unfolding planOn judgedOf
   cases p true true true e = merged-case p (byName (all names h l g r)) refl e
   cases p true true false e = halted-case p Reversed e
@@ -265,11 +249,11 @@ module _ (names : ℕ) (h : Header) (l : Lists) (g : Header) (r : Lists) (ka : B
   cases p false n f e = halted-case p NoDate e
 
   pub decided : (rest : Bool) → rest ≡ restOf names h g ka kb kc → (p : Planned) → endPlan p om' out' ≡ planOf names rest (all names h l g r) om out → (v : Verdict) → v ≡ decideOf p ca cb cd (lengthsOf l)
-      → Deciding (agreedMerge (given names l) (left names h l g r) (right names h l g r)) (fieldsOf (headerFields h) (headerFields g)) (lengthsOf l) v ta tb tc om' out'
+      → Deciding (agreedMerge (given names l) (left names h l g r) (right names h l g r)) (fieldsOf (headerFields h) (headerFields g)) (lengthsOf l) v (lists ta tb tc om' out')
   unfolding planOf judgedAll Deciding
   decided rest a p e v d =
-      subst (λ (w : Verdict). Decided (agreedMerge (given names l) (left names h l g r) (right names h l g r)) (fieldsOf (headerFields h) (headerFields g)) (lengthsOf l) w ta tb tc om' out') (sym d)
-      (subst (λ (x : Outcome). Decided x (fieldsOf (headerFields h) (headerFields g)) (lengthsOf l) (decideOf p ca cb cd (lengthsOf l)) ta tb tc om' out')
+      subst (λ (w : Verdict). Decided (agreedMerge (given names l) (left names h l g r) (right names h l g r)) (fieldsOf (headerFields h) (headerFields g)) (lengthsOf l) w (lists ta tb tc om' out')) (sym d)
+      (subst (λ (x : Outcome). Decided x (fieldsOf (headerFields h) (headerFields g)) (lengthsOf l) (decideOf p ca cb cd (lengthsOf l)) (lists ta tb tc om' out'))
       (sym (agreed-same names h l g r rest (a ∙ rest-same names h l g r ka ca ta kb cb tb kc cd tc s)))
       (cases p (datesKnown knownDate (all names h l g r)) (rest && mappingsKnown names (all names h l g r)) (forwards (all names h l g r)) e))
 
@@ -277,12 +261,12 @@ pub decide-refused : (p : Planned) (a b c : ℕ) (l : Lengths) (r : Refusal) →
 unfolding decideOf
 decide-refused p a b c l r e = ap (λ (x : Planned). decideOf x a b c l) (sym e)
 
-pub decide-fits : (p : Planned) (a b c : ℕ) (l : Lengths) (q k : ℕ) (t : Bool) → p ≡ plan.Laid q k → t ≡ outcomeFits (countsOf a b c q k) l → t ≡ true → Fits (countsOf a b c q k) ≡ decideOf p a b c l
+pub decide-fits : (p : Planned) (a b c : ℕ) (l : Lengths) (q k : ℕ) (t : Bool) → p ≡ plan.Laid q k → t ≡ outcomeFits (countsBy a b c q k) l → t ≡ true → Fits (countsBy a b c q k) ≡ decideOf p a b c l
 unfolding decideOf
 decide-fits p a b c l q k t e d y =
-    sym (ap (λ (x : Planned). decideOf x a b c l) e ∙ ap (λ (x : Bool). cond x (Fits (countsOf a b c q k)) (Refused NoRoom)) (sym d ∙ y))
+    sym (ap (λ (x : Planned). decideOf x a b c l) e ∙ ap (λ (x : Bool). cond x (Fits (countsBy a b c q k)) (Refused NoRoom)) (sym d ∙ y))
 
-pub decide-short : (p : Planned) (a b c : ℕ) (l : Lengths) (q k : ℕ) (t : Bool) → p ≡ plan.Laid q k → t ≡ outcomeFits (countsOf a b c q k) l → t ≡ false → Refused NoRoom ≡ decideOf p a b c l
+pub decide-short : (p : Planned) (a b c : ℕ) (l : Lengths) (q k : ℕ) (t : Bool) → p ≡ plan.Laid q k → t ≡ outcomeFits (countsBy a b c q k) l → t ≡ false → Refused NoRoom ≡ decideOf p a b c l
 unfolding decideOf
 decide-short p a b c l q k t e d y =
-    sym (ap (λ (x : Planned). decideOf x a b c l) e ∙ ap (λ (x : Bool). cond x (Fits (countsOf a b c q k)) (Refused NoRoom)) (sym d ∙ y))
+    sym (ap (λ (x : Planned). decideOf x a b c l) e ∙ ap (λ (x : Bool). cond x (Fits (countsBy a b c q k)) (Refused NoRoom)) (sym d ∙ y))

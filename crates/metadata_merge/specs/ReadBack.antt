@@ -19,13 +19,14 @@ use Rattle.metadata_rules.specs.Words.{before, countAt, mappingWords, intervalW
 use Rattle.metadata_rules.specs.Names.{add-only, once-once, enterAll-names}
 use Rattle.metadata_rules.specs.Fold.{opened-once}
 use Rattle.metadata_form.specs.declared.header.Header.{Header}
+use Rattle.metadata_form.specs.declared.header.MetadataAnswer.{MetadataAnswer}
+use Rattle.metadata_form.specs.declared.header.MetadataAnswer.the-variants.{Done}
 use Rattle.metadata_form.specs.Header.{Lists, lengthsOf, headerFields, metadataOf, metadataFits, numbersOf}
 use Rattle.metadata_words.specs.Over.{over}
 use Rattle.metadata_merge.specs.Outcome.{given}
-use Rattle.metadata_merge.specs.declared.merger.OpenedMetadata.{OpenedMetadata}
-use Rattle.metadata_merge.specs.declared.merger.OpenedMetadata.the-variants as opening
-use Rattle.metadata_merge.specs.declared.merger.MergedMetadata.the-variants as merging
-use Rattle.metadata_merge.specs.Merger.{valuesOf, laidOver, answerOf, heldBy, openAnswer, openLists, Open, allFit, mergeAnswer, mergeLists, Merge, laid-read}
+use Rattle.metadata_open.specs.Commit.{laidOver, laid-read}
+use Rattle.metadata_open.specs.Opening.{valuesOf, openAnswer, openLists, Open}
+use Rattle.metadata_merge.specs.Merger.{answerOf, heldBy, allFit, mergeAnswer, mergeLists, Merge}
 
 -- ---- the numbers that come with a done answer are the header's
 
@@ -76,7 +77,7 @@ numbers-read k m e h l =
 -- ---- what calls leave
 
 -- what a done `open` leaves reads as the first metadata without its repeats
-pub open-read : (h : Header) (l : Lists) (k : Header) (l′ : Lists) → Open h l (opening.Done k) l′ → metadataOf k l′ ≡ opened (metadataOf h l)
+pub open-read : (h : Header) (l : Lists) (k : Header) (l′ : Lists) → Open h l (Done k) l′ → metadataOf k l′ ≡ opened (metadataOf h l)
 unfolding openAnswer openLists
 open-read h l k l′ o = go (metadataFits h (lengthsOf l) (l .mappings)) (o .answers) (o .holds)
   where
@@ -107,7 +108,7 @@ merge-stops w m k = go (differsAt (opened m .fields) (k .fields))
     go (suc p) = λ e. absurd (omega arith)
 
 -- what a done `merge` leaves reads as the outcome of the merge
-pub merge-read : (names : ℕ) (h : Header) (l : Lists) (g : Header) (r : Lists) (k : Header) (l′ : Lists) → Merge names h l g r (merging.Done k) l′
+pub merge-read : (names : ℕ) (h : Header) (l : Lists) (g : Header) (r : Lists) (k : Header) (l′ : Lists) → Merge names h l g r (Done k) l′
     → merge (given names l) (metadataOf h l) (metadataOf g r) ≡ done (metadataOf k l′)
 unfolding mergeAnswer mergeLists answerOf heldBy
 merge-read names h l g r k l′ o =
@@ -221,7 +222,7 @@ laid-again h k l m a b c d =
     counted ms u w n e = ap (before (over w u (mappingWords ms))) e ∙ before-front ms u w
 
 -- opening what was opened changes no list
-pub open-again : (h : Header) (l : Lists) (k : Header) (l′ : Lists) → Open h l (opening.Done k) l′ → (r : OpenedMetadata) (l″ : Lists) → Open k l′ r l″ → l″ ≡ l′
+pub open-again : (h : Header) (l : Lists) (k : Header) (l′ : Lists) → Open h l (Done k) l′ → (r : MetadataAnswer) (l″ : Lists) → Open k l′ r l″ → l″ ≡ l′
 unfolding openAnswer openLists valuesOf
 open-again h l k l′ o r l″ p = p .holds ∙ go (metadataFits k (lengthsOf l′) (l′ .mappings)) (metadataFits h (lengthsOf l) (l .mappings)) (o .answers) (o .holds) (open-read h l k l′ o)
   where

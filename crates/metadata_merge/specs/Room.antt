@@ -13,7 +13,7 @@ use Rattle.metadata_lists.specs.Names.{walkAll-length}
 use Rattle.metadata_lists.specs.NamesWhole.{sumNames, sum-bound}
 use Rattle.metadata_gather.specs.Arrivals.{addAll-small}
 
-pub names-length : (ms : List Mapping) → length (namesOf ms) ≡ length ms
+names-length : (ms : List Mapping) → length (namesOf ms) ≡ length ms
 unfolding namesOf
 names-length [] = refl
 names-length (m ∷ ms) = ap suc (names-length ms)

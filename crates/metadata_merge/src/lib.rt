@@ -1,3 +1,3 @@
-// Metadata: opening the first, merging one more, finishing (RULES, Merging metadata). The Rust's `MetadataMerger`.
+// Metadata: merging one more into a gathered one (RULES, Merging metadata). The Rust's `MetadataMerger`.
 pub mod merger;
 mod outcome;

@@ -1,62 +1,33 @@
-// Opening a first metadata, merging one more into it, finishing (RULES, Merging metadata). A metadata is a header by value and
-// five lent lists of words: symbols, partial, not_found (a word an entry), mappings (two words each: name, number of
-// intervals) and intervals (three words each: start date, end date, symbol), those of the mappings one after the other.
+// Merging one more metadata into a gathered one (RULES, Merging metadata). A metadata is a header by value and five lent lists
+// of words, as `metadata_open` has it.
 use crate::outcome::Verdict;
-use crate::outcome::commit;
 use crate::outcome::outcome;
 use leaves::refusal::Refusal;
 use leaves_limits::ENTRIES;
 use leaves_limits::INTERVALS;
 use leaves_limits::MAPPINGS;
 use leaves_limits::NAMES;
-use metadata_form::header::Counts;
 use metadata_form::header::Header;
 use metadata_form::header::Lengths;
-use metadata_form::header::counted;
+use metadata_form::header::MetadataAnswer;
 use metadata_form::header::differs;
 use metadata_form::header::lengths_by;
 use metadata_form::header::merged_header;
 use metadata_form::header::metadata_fits;
-use metadata_form::header::total;
-use metadata_gather::sets::alone;
-use metadata_gather::sides::lose_repeats;
+use metadata_open::commit::commit;
 use metadata_words::words::INTERVAL_WORDS;
 use metadata_words::words::MAPPING_WORDS;
 ghost use mathlib.Core.Path.{_≡_};
-ghost use mathlib.Core.Bool.{_&&_};
 ghost use lib.ListN.{length};
-ghost use Rattle.metadata_form.specs.Header.{lists, lengthsOf};
-ghost use Rattle.metadata_merge.specs.Merger.{finishedOf, finishAnswer, bothFit, Merge, Open};
+ghost use Rattle.metadata_form.specs.Header.{lists};
+ghost use Rattle.metadata_merge.specs.Merger.{bothFit, Agreed, Merge};
 
-// What opening answers: the header with the counts that are left, or 15.
-pub enum OpenedMetadata {
-    Done(Header),
-    Refused(Refusal),
-}
-
-// What a merge answers: the header of both together, or 15, 6, 11, 3, 1, 7, 2.
-pub enum MergedMetadata {
-    Done(Header),
-    Refused(Refusal),
-}
-
-// What finishing answers: the header as it was, or 15.
-pub enum FinishedMetadata {
-    Done(Header),
-    Refused(Refusal),
-}
-
-// Scratch for one metadata at the limits: words of its mappings and of its intervals.
-const ONE_MAPPING_WORDS: usize = MAPPINGS * MAPPING_WORDS;
-
-const ONE_INTERVAL_WORDS: usize = INTERVALS * INTERVAL_WORDS;
-
-// And for two, with the entries of a set.
+// Scratch for two metadata at the limits: entries of a set, words of mappings and of intervals.
 const BOTH_ENTRIES: usize = 2 * ENTRIES;
 
-const BOTH_MAPPING_WORDS: usize = 2 * ONE_MAPPING_WORDS;
+const BOTH_MAPPING_WORDS: usize = 2 * MAPPINGS * MAPPING_WORDS;
 
-const BOTH_INTERVAL_WORDS: usize = 2 * ONE_INTERVAL_WORDS;
+const BOTH_INTERVAL_WORDS: usize = 2 * INTERVALS * INTERVAL_WORDS;
 
 // Whether the number of names and both sides' memory are of the form.
 fn both_fit(
@@ -76,74 +47,79 @@ fn both_fit(
     (names <= NAMES) & (fits & added_fits)
 }
 
-// The first metadata loses its repeats: equal entries of a set once, and of two mappings with one name the last, at the place
-// of the first. Places that are freed hold 0.
-pub fn open(
+// The merge of two metadata of the form whose six fields agree.
+fn merge_agreed(
+    names: usize,
     header: Header,
     symbols: &mut [u32],
     partial: &mut [u32],
     not_found: &mut [u32],
     mappings: &mut [u32],
     intervals: &mut [u32],
-) -> OpenedMetadata
-    ensures { λ r. ⌜ Open header (lists (now (symbols .entry)) (now (partial .entry)) (now («not_found» .entry)) (now (mappings .entry))
-        (now (intervals .entry))) r (lists (now (symbols .exit)) (now (partial .exit)) (now («not_found» .exit)) (now (mappings .exit)) (now (intervals .exit)))
-        ⌝ }
+    added: Header,
+    added_symbols: &[u32],
+    added_partial: &[u32],
+    added_not_found: &[u32],
+    added_mappings: &[u32],
+    added_intervals: &[u32],
+) -> MetadataAnswer
+    requires { ⌜ Agreed names header (lists (now symbols) (now partial) (now «not_found») (now mappings) (now intervals)) added
+        (lists (now «added_symbols») (now «added_partial») (now «added_not_found») (now «added_mappings») (now «added_intervals»)) ⌝ }
+    ensures { λ r. ⌜ Merge names header (lists (now (symbols .entry)) (now (partial .entry)) (now («not_found» .entry)) (now (mappings .entry))
+        (now (intervals .entry))) added (lists (now («added_symbols» .entry)) (now («added_partial» .entry)) (now («added_not_found» .entry))
+        (now («added_mappings» .entry)) (now («added_intervals» .entry))) r
+        (lists (now (symbols .exit)) (now (partial .exit)) (now («not_found» .exit)) (now (mappings .exit)) (now (intervals .exit))) ⌝ }
 {
-    let lengths = lengths_by(
-        symbols.len(),
-        partial.len(),
-        not_found.len(),
-        mappings.len(),
-        intervals.len(),
-    );
-    if !metadata_fits(header, lengths, mappings) {
-        return OpenedMetadata::Refused(Refusal::BadMemory);
-    }
-    let mut out_symbols = [0u32; ENTRIES];
-    let mut out_partial = [0u32; ENTRIES];
-    let mut out_not_found = [0u32; ENTRIES];
-    let mut out_mappings = [0u32; ONE_MAPPING_WORDS];
-    let mut out_intervals = [0u32; ONE_INTERVAL_WORDS];
-    let used = total(mappings, header.mappings);
-    let a = alone(symbols, header.symbols, &mut out_symbols);
-    let b = alone(partial, header.partial, &mut out_partial);
-    let c = alone(not_found, header.not_found, &mut out_not_found);
-    let laid = lose_repeats(
-        mappings,
-        header.mappings,
-        intervals,
-        &mut out_mappings,
-        &mut out_intervals,
-    );
-    let counts = Counts {
-        symbols: a,
-        partial: b,
-        not_found: c,
-        mappings: laid.mappings,
-        intervals: laid.intervals,
-    };
-    commit(
+    let mut out_symbols = [0u32; BOTH_ENTRIES];
+    let mut out_partial = [0u32; BOTH_ENTRIES];
+    let mut out_not_found = [0u32; BOTH_ENTRIES];
+    let mut out_mappings = [0u32; BOTH_MAPPING_WORDS];
+    let mut out_intervals = [0u32; BOTH_INTERVAL_WORDS];
+    let verdict = outcome(
+        names,
+        header,
         symbols,
         partial,
         not_found,
         mappings,
         intervals,
-        header,
-        used,
-        counts,
-        &out_symbols,
-        &out_partial,
-        &out_not_found,
-        &out_mappings,
-        &out_intervals,
+        added,
+        added_symbols,
+        added_partial,
+        added_not_found,
+        added_mappings,
+        added_intervals,
+        &mut out_symbols,
+        &mut out_partial,
+        &mut out_not_found,
+        &mut out_mappings,
+        &mut out_intervals,
     );
-    let r = counted(header, counts);
-    OpenedMetadata::Done(r)
+    match verdict {
+        Verdict::Refused(why) => MetadataAnswer::Refused(why),
+        Verdict::Fits(counts) => {
+            commit(
+                header,
+                symbols,
+                partial,
+                not_found,
+                mappings,
+                intervals,
+                counts,
+                &out_symbols,
+                &out_partial,
+                &out_not_found,
+                &out_mappings,
+                &out_intervals,
+            );
+            let r = merged_header(header, added, counts);
+            MetadataAnswer::Done(r)
+        }
+    }
 }
 
 // One more metadata is merged into a gathered one, which loses its repeats first where it was never opened. `names` is how many
-// names were handed out. A refused merge changes nothing.
+// names were handed out. A refused merge changes nothing. Answers the header of both together, or 15, 6, 11, 3, 1, 7, 2.
 pub fn merge(
     names: usize,
     header: Header,
@@ -158,7 +134,7 @@ pub fn merge(
     added_not_found: &[u32],
     added_mappings: &[u32],
     added_intervals: &[u32],
-) -> MergedMetadata
+) -> MetadataAnswer
     ensures { λ r. ⌜ Merge names header (lists (now (symbols .entry)) (now (partial .entry)) (now («not_found» .entry)) (now (mappings .entry))
         (now (intervals .entry))) added (lists (now («added_symbols» .entry)) (now («added_partial» .entry)) (now («added_not_found» .entry))
         (now («added_mappings» .entry)) (now («added_intervals» .entry))) r
@@ -187,21 +163,15 @@ pub fn merge(
         added_lengths,
         added_mappings,
     ) {
-        return MergedMetadata::Refused(Refusal::BadMemory);
+        return MetadataAnswer::Refused(Refusal::BadMemory);
     }
     let field = differs(header, added);
     if field != 0 {
-        return MergedMetadata::Refused(Refusal::Differ(field));
+        return MetadataAnswer::Refused(Refusal::Differ(field));
     }
-    let mut out_symbols = [0u32; BOTH_ENTRIES];
-    let mut out_partial = [0u32; BOTH_ENTRIES];
-    let mut out_not_found = [0u32; BOTH_ENTRIES];
-    let mut out_mappings = [0u32; BOTH_MAPPING_WORDS];
-    let mut out_intervals = [0u32; BOTH_INTERVAL_WORDS];
-    let verdict = outcome(
+    merge_agreed(
         names,
         header,
-        lengths,
         symbols,
         partial,
         not_found,
@@ -213,57 +183,5 @@ pub fn merge(
         added_not_found,
         added_mappings,
         added_intervals,
-        &mut out_symbols,
-        &mut out_partial,
-        &mut out_not_found,
-        &mut out_mappings,
-        &mut out_intervals,
-    );
-    match verdict {
-        Verdict::Refused(why) => MergedMetadata::Refused(why),
-        Verdict::Fits(counts) => {
-            let used = total(mappings, header.mappings);
-            commit(
-                symbols,
-                partial,
-                not_found,
-                mappings,
-                intervals,
-                header,
-                used,
-                counts,
-                &out_symbols,
-                &out_partial,
-                &out_not_found,
-                &out_mappings,
-                &out_intervals,
-            );
-            let r = merged_header(header, added, counts);
-            MergedMetadata::Done(r)
-        }
-    }
-}
-
-// The gathered metadata is finished: it stays as it is.
-pub fn finish(
-    header: Header,
-    symbols: &[u32],
-    partial: &[u32],
-    not_found: &[u32],
-    mappings: &[u32],
-    intervals: &[u32],
-) -> FinishedMetadata
-    ensures { λ r. ⌜ finishedOf r ≡ finishAnswer header (lists (now (symbols .entry)) (now (partial .entry)) (now («not_found» .entry)) (now (mappings .entry)) (now (intervals .entry))) ⌝ }
-{
-    let lengths = lengths_by(
-        symbols.len(),
-        partial.len(),
-        not_found.len(),
-        mappings.len(),
-        intervals.len(),
-    );
-    if !metadata_fits(header, lengths, mappings) {
-        return FinishedMetadata::Refused(Refusal::BadMemory);
-    }
-    FinishedMetadata::Done(header)
+    )
 }

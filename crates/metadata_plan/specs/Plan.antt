@@ -24,7 +24,7 @@ use Rattle.metadata_lists.specs.NamesWhole.{HeadOk, collect-by-name, sums-bound
 use Rattle.metadata_lists.specs.NamesWords.{Stands, stands}
 use Rattle.metadata_lists.specs.declared.names.NamesLaid.{NamesLaid}
 use Rattle.metadata_lists.specs.declared.names.NamesLaid.the-variants as names-laid
-use Rattle.metadata_gather.specs.Sides.{Sound, Offs, count-all, lay-append, lost-count, within-of, placed-flat}
+use Rattle.metadata_gather.specs.Sides.{Sound, Offs, count-all, flat-length, kept-count, kept-few, lay-append, within-of, placed-flat}
 use Rattle.metadata_gather.specs.Judge.{knownDate, dated, below, known, forward, spaced, judgedOf, judgedBy, and-assoc, rest-all, spaced-names}
 use Rattle.metadata_gather.specs.declared.judge.Judged.{Judged}
 use Rattle.metadata_gather.specs.declared.judge.Judged.the-variants as judged
@@ -116,34 +116,12 @@ names-each names gm (suc q) t e (suc j) h =
 
 -- ---- gathering
 
-enter-few : (ls : List Mapping) (m : Mapping) → length (enter ls m) ≤ length ls + 1
-unfolding enter
-enter-few [] m = omega arith
-enter-few (l ∷ ls) m =
-    eqb-case (λ (r : List Mapping). length r ≤ suc (length ls) + 1) (l .name) (m .name) _ _ (λ e. omega arith) (λ d. let r = enter-few ls m in omega arith)
-
-enterAll-few : (ms ls : List Mapping) → length (enterAll ls ms) ≤ length ls + length ms
-unfolding enterAll
-enterAll-few [] ls = omega arith
-enterAll-few (m ∷ ms) ls = let a = enterAll-few ms (enter ls m) in let b = enter-few ls m in omega arith
-
-flat-length : (m v : List ℕ) (j t o : ℕ) → length (mappingsFrom m v t o j) ≡ j
-unfolding mappingsFrom
-flat-length m v zero t o = refl
-flat-length m v (suc j) t o = ap suc (flat-length m v j (t + 1) (o + countAt m t))
-
 count-append : (xs ys : List Mapping) → countIntervals (xs ++ ys) ≡ countIntervals xs + countIntervals ys
 unfolding countIntervals
 count-append [] ys = omega arith
 count-append (x ∷ xs) ys = let r = count-append xs ys in omega arith
 
 module _ (lm : List ℕ) (n : ℕ) (lv rm : List ℕ) (k : ℕ) (rv : List ℕ) (gm gv : List ℕ) (g : Gathered lm n lv rm k rv (length gm) (length gv)) where
-  left-few : length (enterAll [] (mappingsFrom lm lv 0 0 n)) ≤ n
-  left-few = let a = enterAll-few (mappingsFrom lm lv 0 0 n) [] in let b = flat-length lm lv n 0 0 in omega arith
-
-  left-short : countIntervals (enterAll [] (mappingsFrom lm lv 0 0 n)) ≤ before lm n
-  left-short = let a = lost-count (mappingsFrom lm lv 0 0 n) in let b = count-all lm lv n in omega arith
-
   pub left-sound : Sound lm n lv (length gm) 0 (length gv) 0
   left-sound =
       let x = g .maps in
@@ -153,22 +131,22 @@ module _ (lm : List ℕ) (n : ℕ) (lv rm : List ℕ) (k : ℕ) (rv : List ℕ) 
   module _ (a b : List ℕ) (q o : ℕ) (laid : placed a q b o ≡ layAll gm 0 gv 0 (enterAll [] (mappingsFrom lm lv 0 0 n))) where
     left-stands : Stands (enterAll [] (mappingsFrom lm lv 0 0 n)) a q b o
     left-stands =
-        let x = g .maps in let y = g .room in let f = left-few in let h = left-short in
+        let x = g .maps in let y = g .room in let f = kept-few lm lv n in let h = kept-count lm lv n in
         stands (enterAll [] (mappingsFrom lm lv 0 0 n)) gm gv a b q o laid (omega arith) (omega arith)
 
     pub right-sound : (sm sv : ℕ) → sm ≡ length gm → sv ≡ length gv → Sound rm k rv sm q sv o
     right-sound sm sv d e =
-        let x = g .maps in let y = g .room in let f = left-few in let h = left-short in
+        let x = g .maps in let y = g .room in let f = kept-few lm lv n in let h = kept-count lm lv n in
         let i = left-stands .how-many in let j = left-stands .how-long in
         record { words = g .sides .right-words; count = g .sides .right-count; spans = g .sides .right-spans; maps = omega arith; room = omega arith; small = omega (arith, g .small); few = omega (arith, g .few) }
 
     pub q-small : q + k ≤ 8192
-    q-small = let f = left-few in let i = left-stands .how-many in omega (arith, g .sides .left-count, g .sides .right-count)
+    q-small = let f = kept-few lm lv n in let i = left-stands .how-many in omega (arith, g .sides .left-count, g .sides .right-count)
 
     pub both-stand : (a' b' : List ℕ) (e : ℕ) → placed a' (q + k) b' e ≡ layAll a q b o (mappingsFrom rm rv 0 0 k) → Stands (bothSides lm n lv rm k rv) a' (q + k) b' e
     unfolding bothSides
     both-stand a' b' e h =
-        let x = g .maps in let y = g .room in let f = left-few in let i = left-short in
+        let x = g .maps in let y = g .room in let f = kept-few lm lv n in let i = kept-count lm lv n in
         let c = length-append (enterAll [] (mappingsFrom lm lv 0 0 n)) (mappingsFrom rm rv 0 0 k) in
         let d = flat-length rm rv k 0 0 in
         let u = count-append (enterAll [] (mappingsFrom lm lv 0 0 n)) (mappingsFrom rm rv 0 0 k) in
@@ -182,15 +160,13 @@ unfolding bothSides
 both-size lm n lv rm k rv =
     let u = count-append (enterAll [] (mappingsFrom lm lv 0 0 n)) (mappingsFrom rm rv 0 0 k) in
     let w = count-all rm rv k in
-    let a = lost-count (mappingsFrom lm lv 0 0 n) in
-    let b = count-all lm lv n in
+    let a = kept-count lm lv n in
     omega arith
 
 pub both-count : (lm : List ℕ) (n : ℕ) (lv rm : List ℕ) (k : ℕ) (rv : List ℕ) → length (bothSides lm n lv rm k rv) ≤ n + k
 unfolding bothSides
 both-count lm n lv rm k rv =
-    let a = enterAll-few (mappingsFrom lm lv 0 0 n) [] in
-    let b = flat-length lm lv n 0 0 in
+    let a = kept-few lm lv n in
     let c = length-append (enterAll [] (mappingsFrom lm lv 0 0 n)) (mappingsFrom rm rv 0 0 k) in
     let d = flat-length rm rv k 0 0 in
     omega arith

@@ -13,7 +13,7 @@ use Rattle.metadata_rules.specs.declared.Interval.{Interval}
 use Rattle.metadata_rules.specs.Cases.{Once, eqb-case, cond-eq, cond-ne}
 use Rattle.metadata_rules.specs.Walk.{Walked, conflict, laid, walkAll}
 use Rattle.metadata_rules.specs.Metadata.{Metadata, Mapping, mapping, Merged, conflicting, merged, addAll, once, namesOf, enterAll, opened, listsOf, under, inFront, collect, outcome, byName, Rooms, Given, Outcome, refused, done, together, fits, ifFits, ifMerged, agreedMerge, ifSame, mergeOpened, merge, differsAt, datesKnown, namesKnown, forwards}
-use Rattle.metadata_rules.specs.Names.{addAll-old, addAll-new, addAll-only, addAll-once, once-once, once-same, names-append, enterAll-names, merged-names}
+use Rattle.metadata_rules.specs.Names.{addAll-old, addAll-new, addAll-only, addAll-once, once-once, once-same, addAll-append, names-append, enterAll-names, merged-names}
 use Rattle.metadata_rules.specs.Cover.{Covered, CoveredAny, walkAll-covers}
 
 -- ---- a merge that is not refused is both sides together, with the merge by name
@@ -56,42 +56,25 @@ merge-together w m k r e = same-together w m k r (differsAt (opened m .fields) (
 
 -- ---- sets
 
-module _ (a b : List ℕ) where
-  -- the entries of both, each once
-  pub union-once : Once (addAll (once a) b)
-  union-once = addAll-once b (once a) (once-once a)
+-- r has the entries of a and of b, each once
+pub record Union (a b r : List ℕ) : Type 0 where
+  pub single : Once r
+  pub same : (z : ℕ) → Mem z r ↔ (Mem z a ⊎ Mem z b)
 
-  pub union-same : (z : ℕ) → Mem z (addAll (once a) b) ↔ (Mem z a ⊎ Mem z b)
-  union-same z = (λ h. there (addAll-only b (once a) z h), back)
-    where
-      there : Mem z (once a) ⊎ Mem z b → Mem z a ⊎ Mem z b
-      there (inl h) = inl (once-same a z .0 h)
-      there (inr h) = inr h
-
-      back : Mem z a ⊎ Mem z b → Mem z (addAll (once a) b)
-      back (inl h) = addAll-old b (once a) z (once-same a z .1 h)
-      back (inr h) = addAll-new b (once a) z h
-
-mem-append : (xs ys : List ℕ) (z : ℕ) → Mem z (xs ++ ys) ↔ (Mem z xs ⊎ Mem z ys)
-mem-append [] ys z = (λ h. inr h, go)
+-- b added to the entries of a, each once
+union-from : (a b s : List ℕ) → Once s → ((z : ℕ) → Mem z s ↔ Mem z a) → Union a b (addAll s b)
+union-from a b s o q = record { single = addAll-once b s o; same = λ z. (λ h. there z (addAll-only b s z h), back z) }
   where
-    go : ⊥ ⊎ Mem z ys → Mem z ys
-    go (inl h) = absurd h
-    go (inr h) = h
-mem-append (x ∷ xs) ys z = let r = mem-append xs ys z in (there r, back r)
-  where
-    on : Mem z xs ⊎ Mem z ys → ((z ≡ x) ⊎ Mem z xs) ⊎ Mem z ys
-    on (inl h) = inl (inr h)
-    on (inr h) = inr h
+    there : (z : ℕ) → Mem z s ⊎ Mem z b → Mem z a ⊎ Mem z b
+    there z (inl h) = inl (q z .0 h)
+    there z (inr h) = inr h
 
-    there : Mem z (xs ++ ys) ↔ (Mem z xs ⊎ Mem z ys) → (z ≡ x) ⊎ Mem z (xs ++ ys) → ((z ≡ x) ⊎ Mem z xs) ⊎ Mem z ys
-    there r (inl e) = inl (inl e)
-    there r (inr h) = on (r .0 h)
+    back : (z : ℕ) → Mem z a ⊎ Mem z b → Mem z (addAll s b)
+    back z (inl h) = addAll-old b s z (q z .1 h)
+    back z (inr h) = addAll-new b s z h
 
-    back : Mem z (xs ++ ys) ↔ (Mem z xs ⊎ Mem z ys) → ((z ≡ x) ⊎ Mem z xs) ⊎ Mem z ys → (z ≡ x) ⊎ Mem z (xs ++ ys)
-    back r (inl (inl e)) = inl e
-    back r (inl (inr h)) = inr (r .1 (inl h))
-    back r (inr h) = inr (r .1 (inr h))
+union : (a b : List ℕ) → Union a b (addAll (once a) b)
+union a b = union-from a b (once a) (once-once a) (once-same a)
 
 -- ---- what a name covers
 
@@ -138,10 +121,6 @@ collect-walks (y ∷ ns) f ms e n h a = go (f y) refl (collect ns f) refl e h (�
 no-walk : (n : ℕ) (all ms : List Mapping) → byName all ≡ merged ms → walkAll [] (listsOf n all) ≡ conflict → Mem n (once (namesOf all)) → ⊥
 unfolding byName outcome
 no-walk n all ms e a h = collect-walks (once (namesOf all)) (λ u. walkAll [] (listsOf u all)) ms e n h a
-
-once-names : (m : Metadata) (n : ℕ) → Mem n (addAll [] (namesOf (m .mappings))) ↔ Mem n (namesOf (m .mappings))
-unfolding once
-once-names m n = once-same (namesOf (m .mappings)) n
 
 module _ (d s : ℕ) where
   any-append : (xs ys : List (List Interval)) → CoveredAny d s (xs ++ ys) ↔ (CoveredAny d s xs ⊎ CoveredAny d s ys)
@@ -227,62 +206,38 @@ module _ (d s : ℕ) where
 -- ---- the laws of a merge that is not refused
 
 module _ (w : Given) (m k r : Metadata) (e : merge w m k ≡ done r) where
-  -- each set: every entry of both sides, once
-  pub symbols-once : Once (r .symbols)
+  -- each set has the entries of both sides, each once
+  pub symbols-united : Union (m .symbols) (k .symbols) (r .symbols)
   unfolding together opened
-  symbols-once = rw (merge-together w m k r e .is) (union-once (m .symbols) (k .symbols))
+  symbols-united = rw (merge-together w m k r e .is) (union (m .symbols) (k .symbols))
 
-  pub symbols-same : (z : ℕ) → Mem z (r .symbols) ↔ (Mem z (m .symbols) ⊎ Mem z (k .symbols))
+  pub partial-united : Union (m .partial) (k .partial) (r .partial)
   unfolding together opened
-  symbols-same z = rw (merge-together w m k r e .is) (union-same (m .symbols) (k .symbols) z)
+  partial-united = rw (merge-together w m k r e .is) (union (m .partial) (k .partial))
 
-  pub partial-once : Once (r .partial)
+  pub not-found-united : Union (m .not-found) (k .not-found) (r .not-found)
   unfolding together opened
-  partial-once = rw (merge-together w m k r e .is) (union-once (m .partial) (k .partial))
-
-  pub partial-same : (z : ℕ) → Mem z (r .partial) ↔ (Mem z (m .partial) ⊎ Mem z (k .partial))
-  unfolding together opened
-  partial-same z = rw (merge-together w m k r e .is) (union-same (m .partial) (k .partial) z)
-
-  pub not-found-once : Once (r .not-found)
-  unfolding together opened
-  not-found-once = rw (merge-together w m k r e .is) (union-once (m .not-found) (k .not-found))
-
-  pub not-found-same : (z : ℕ) → Mem z (r .not-found) ↔ (Mem z (m .not-found) ⊎ Mem z (k .not-found))
-  unfolding together opened
-  not-found-same z = rw (merge-together w m k r e .is) (union-same (m .not-found) (k .not-found) z)
+  not-found-united = rw (merge-together w m k r e .is) (union (m .not-found) (k .not-found))
 
   outcome-mappings : r .mappings ≡ merge-together w m k r e .mappings
   unfolding together
   outcome-mappings = ap (λ (x : Metadata). x .mappings) (merge-together w m k r e .is)
 
-  outcome-names : namesOf (r .mappings) ≡ once (namesOf (opened m .mappings ++ k .mappings))
-  outcome-names = ap namesOf outcome-mappings ∙ merged-names (opened m .mappings ++ k .mappings) (merge-together w m k r e .mappings) (merge-together w m k r e .merges)
+  outcome-names : namesOf (r .mappings) ≡ addAll (once (once (namesOf (m .mappings)))) (namesOf (k .mappings))
+  unfolding opened once namesOf
+  outcome-names =
+      ap namesOf outcome-mappings
+      ∙ merged-names (opened m .mappings ++ k .mappings) (merge-together w m k r e .mappings) (merge-together w m k r e .merges)
+      ∙ ap once (names-append (opened m .mappings) (k .mappings))
+      ∙ addAll-append (namesOf (opened m .mappings)) (namesOf (k .mappings)) []
+      ∙ ap (λ (l : List ℕ). addAll (once l) (namesOf (k .mappings))) (enterAll-names (m .mappings) [])
 
-  -- every mapping name of both sides, once
-  pub names-once : Once (namesOf (r .mappings))
-  names-once = subst Once (sym outcome-names) (once-once (namesOf (opened m .mappings ++ k .mappings)))
-
-  pub names-same : (n : ℕ) → Mem n (namesOf (r .mappings)) ↔ (Mem n (namesOf (m .mappings)) ⊎ Mem n (namesOf (k .mappings)))
-  unfolding opened namesOf
-  names-same n = (
-    λ h. there (split .0 (once-same (namesOf (opened m .mappings ++ k .mappings)) n .0 (subst (Mem n) outcome-names h))),
-    λ h. subst (Mem n) (sym outcome-names) (once-same (namesOf (opened m .mappings ++ k .mappings)) n .1 (split .1 (back h))),
-  )
-    where
-      split : Mem n (namesOf (opened m .mappings ++ k .mappings)) ↔ (Mem n (namesOf (opened m .mappings)) ⊎ Mem n (namesOf (k .mappings)))
-      split = subst (λ (l : List ℕ). Mem n l ↔ (Mem n (namesOf (opened m .mappings)) ⊎ Mem n (namesOf (k .mappings)))) (sym (names-append (opened m .mappings) (k .mappings))) (mem-append (namesOf (opened m .mappings)) (namesOf (k .mappings)) n)
-
-      left : Mem n (namesOf (opened m .mappings)) ↔ Mem n (namesOf (m .mappings))
-      left = subst (λ (l : List ℕ). Mem n l ↔ Mem n (namesOf (m .mappings))) (sym (enterAll-names (m .mappings) [])) (once-names m n)
-
-      there : Mem n (namesOf (opened m .mappings)) ⊎ Mem n (namesOf (k .mappings)) → Mem n (namesOf (m .mappings)) ⊎ Mem n (namesOf (k .mappings))
-      there (inl h) = inl (left .0 h)
-      there (inr h) = inr h
-
-      back : Mem n (namesOf (m .mappings)) ⊎ Mem n (namesOf (k .mappings)) → Mem n (namesOf (opened m .mappings)) ⊎ Mem n (namesOf (k .mappings))
-      back (inl h) = inl (left .1 h)
-      back (inr h) = inr h
+  -- and so have the mapping names
+  pub names-united : Union (namesOf (m .mappings)) (namesOf (k .mappings)) (namesOf (r .mappings))
+  names-united =
+      let a = namesOf (m .mappings) in
+      rw outcome-names (union-from a (namesOf (k .mappings)) (once (once a)) (once-once (once a))
+      (λ z. (λ h. once-same a z .0 (once-same (once a) z .0 h), λ h. once-same (once a) z .1 (once-same a z .1 h))))
 
   -- the pairs of day and symbol under a name are those of both sides together
   pub merge-covers : (d s n : ℕ) → CoveredAny d s (listsOf n (r .mappings)) ↔ (CoveredAny d s (listsOf n (opened m .mappings)) ⊎ CoveredAny d s (listsOf n (k .mappings)))

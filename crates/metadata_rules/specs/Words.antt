@@ -144,16 +144,16 @@ stretch-append v (suc a) b o =
     let y : (o + 1) + a ≡ o + suc a = omega arith in
     rw z (ap (λ (l : List Interval). intervalAt v o ∷ l) (stretch-append v a b (o + 1) ∙ ap (λ (k : ℕ). stretch v (o + 1) a ++ stretch v k b) y))
 
-stretch-count : (v : List ℕ) (o n : ℕ) → length (stretch v o n) ≡ n
+pub stretch-length : (v : List ℕ) (o n : ℕ) → length (stretch v o n) ≡ n
 unfolding stretch
-stretch-count v o zero = refl
-stretch-count v o (suc n) = ap suc (stretch-count v (o + 1) n)
+stretch-length v o zero = refl
+stretch-length v o (suc n) = ap suc (stretch-length v (o + 1) n)
 
 intervals-flat : (p : Interval → Bool) (m v : List ℕ) (n t o : ℕ) → everyInterval p (mappingsFrom m v t o n) ≡ every p (stretch v o (countIntervals (mappingsFrom m v t o n)))
 unfolding everyInterval mappingsFrom countIntervals every stretch
 intervals-flat p m v zero t o = refl
 intervals-flat p m v (suc n) t o =
-    let l = stretch-count v o (countAt m t) in
+    let l = stretch-length v o (countAt m t) in
     rw l (ap (λ (b : Bool). every p (stretch v o (countAt m t)) && b) (intervals-flat p m v n (t + 1) (o + countAt m t))
     ∙ sym (ap (every p) (stretch-append v (countAt m t) (countIntervals (mappingsFrom m v (t + 1) (o + countAt m t) n)) o)
     ∙ every-append p (stretch v o (countAt m t)) (stretch v (o + countAt m t) (countIntervals (mappingsFrom m v (t + 1) (o + countAt m t) n)))))

@@ -6,7 +6,7 @@ use mathlib.Core.List.{List, [], _∷_, _++_, append-assoc}
 use lib.ListN.{length, set, length-set, length-append}
 use lib.Seq.{set-at}
 use Rattle.metadata_rules.specs.declared.Interval.{Interval}
-use Rattle.metadata_rules.specs.Words.{intervalAt, stretch, wordsOf}
+use Rattle.metadata_rules.specs.Words.{intervalAt, stretch, wordsOf, stretch-length}
 
 -- the words v with x as the i-th interval
 unfoldable pub putAt : List ℕ → ℕ → Interval → List ℕ
@@ -39,11 +39,6 @@ rest-cons v i e h = let z : e - i ≡ suc (e - (i + 1)) = omega arith in rw z re
 pub rest-nil : (v : List ℕ) (i e : ℕ) → e ≤ i → rest v i e ≡ []
 unfolding rest stretch
 rest-nil v i e h = let z : e - i ≡ 0 = omega arith in rw z refl
-
-stretch-length : (v : List ℕ) (i n : ℕ) → length (stretch v i n) ≡ n
-unfolding stretch
-stretch-length v i zero = refl
-stretch-length v i (suc n) = ap suc (stretch-length v (i + 1) n)
 
 pub rest-length : (v : List ℕ) (i e : ℕ) → length (rest v i e) ≡ e - i
 unfolding rest

@@ -9,14 +9,9 @@ use Rattle.theory.specs.Answer.{answer}
 use Rattle.leaves.specs.RefusalLaws.{refused-one}
 use Rattle.metadata_form.specs.declared.header.Header.{Header}
 use Rattle.theory.specs.Answer.{bit}
-use Rattle.metadata_form.specs.Header.{numbersOf}
-use Rattle.metadata_merge.specs.Merger.{openedOf, mergedOf, finishedOf}
-use Rattle.metadata_merge.specs.declared.merger.OpenedMetadata.{OpenedMetadata}
-use Rattle.metadata_merge.specs.declared.merger.OpenedMetadata.the-variants as opening
-use Rattle.metadata_merge.specs.declared.merger.MergedMetadata.{MergedMetadata}
-use Rattle.metadata_merge.specs.declared.merger.MergedMetadata.the-variants as merging
-use Rattle.metadata_merge.specs.declared.merger.FinishedMetadata.{FinishedMetadata}
-use Rattle.metadata_merge.specs.declared.merger.FinishedMetadata.the-variants as finishing
+use Rattle.metadata_form.specs.Header.{numbersOf, metadataAnswerOf}
+use Rattle.metadata_form.specs.declared.header.MetadataAnswer.{MetadataAnswer}
+use Rattle.metadata_form.specs.declared.header.MetadataAnswer.the-variants.{Done, Refused}
 use Rattle.one_answer.specs.Leaves.{done-or-refused}
 
 -- the header with these numbers
@@ -51,20 +46,8 @@ header-back h = ap (headerBy (numbersOf h)) (bit-back (h .«ts_out»))
 header-one : (h k : Header) → answer 0 (numbersOf h) ≡ answer 0 (numbersOf k) → h ≡ k
 header-one h k e = let z : numbersOf h ≡ numbersOf k = cc in sym (header-back h) ∙ ap headerOf z ∙ header-back k
 
-pub opened-one : (x y : OpenedMetadata) → openedOf x ≡ openedOf y → x ≡ y
-opened-one (opening.Done h) (opening.Done k) e = ap opening.Done (header-one h k e)
-opened-one (opening.Done h) (opening.Refused q) e = absurd (done-or-refused q e)
-opened-one (opening.Refused r) (opening.Done k) e = absurd (done-or-refused r (sym e))
-opened-one (opening.Refused r) (opening.Refused q) e = ap opening.Refused (refused-one r q e)
-
-pub merged-one : (x y : MergedMetadata) → mergedOf x ≡ mergedOf y → x ≡ y
-merged-one (merging.Done h) (merging.Done k) e = ap merging.Done (header-one h k e)
-merged-one (merging.Done h) (merging.Refused q) e = absurd (done-or-refused q e)
-merged-one (merging.Refused r) (merging.Done k) e = absurd (done-or-refused r (sym e))
-merged-one (merging.Refused r) (merging.Refused q) e = ap merging.Refused (refused-one r q e)
-
-pub finished-one : (x y : FinishedMetadata) → finishedOf x ≡ finishedOf y → x ≡ y
-finished-one (finishing.Done h) (finishing.Done k) e = ap finishing.Done (header-one h k e)
-finished-one (finishing.Done h) (finishing.Refused q) e = absurd (done-or-refused q e)
-finished-one (finishing.Refused r) (finishing.Done k) e = absurd (done-or-refused r (sym e))
-finished-one (finishing.Refused r) (finishing.Refused q) e = ap finishing.Refused (refused-one r q e)
+pub metadata-one : (x y : MetadataAnswer) → metadataAnswerOf x ≡ metadataAnswerOf y → x ≡ y
+metadata-one (Done h) (Done k) e = ap Done (header-one h k e)
+metadata-one (Done h) (Refused q) e = absurd (done-or-refused q e)
+metadata-one (Refused r) (Done k) e = absurd (done-or-refused r (sym e))
+metadata-one (Refused r) (Refused q) e = ap Refused (refused-one r q e)

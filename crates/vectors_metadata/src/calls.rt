@@ -1,27 +1,17 @@
 // Cases of the merge. The side that is merged in must be as it was, whatever the answer.
-use metadata_form::header::Header;
-use metadata_merge::merger::MergedMetadata;
 use vectors_side::Side;
 use vectors_side::expected::Said;
-use vectors_side::expected::done;
 use vectors_side::expected::entries;
 use vectors_side::expected::interval_words;
 use vectors_side::expected::is_expected;
 use vectors_side::expected::mapping_words;
-use vectors_side::expected::refused;
+use vectors_side::expected::said_of;
 use vectors_side::is_side;
 use vectors_side::side_at;
 use vectors_text::Token;
 ghost use mathlib.Core.Path.{_≡_};
 ghost use lib.ListN.{length};
 ghost use Rattle.vectors_side.specs.Sides.{Within};
-
-fn merged_says(merged: MergedMetadata, before: Header) -> Said {
-    match merged {
-        MergedMetadata::Done(h) => done(h),
-        MergedMetadata::Refused(r) => refused(r, before),
-    }
-}
 
 // Merges the lent part of the side b into that of the side a.
 fn merges(
@@ -69,7 +59,7 @@ fn merges(
         &added_mappings[..bm],
         &added_intervals[..bv],
     );
-    merged_says(merged, h)
+    said_of(merged, h)
 }
 
 // A line `NAMES SIDE SIDE = NUMBER`, behind 0 the first side as it then is, behind 6 the field.

@@ -2,6 +2,9 @@
 // The data itself says what a line means; a case that is answered otherwise than expected is printed.
 mod calls;
 
+use crate::calls::FINISH;
+use crate::calls::OPEN;
+use crate::calls::is_right;
 use vectors_text::Tally;
 ghost use mathlib.Core.Path.{_≡_};
 ghost use lib.ListN.{length};
@@ -13,28 +16,12 @@ fn room() -> [u8; 262144]
     [0; 262144]
 }
 
-// The calls of cases.
-const OPEN: u8 = 0;
-
-const FINISH: u8 = 1;
-
-// Whether the case that a line holds, from a place behind its kind on, is answered as expected.
-fn is_right(text: &[u8], at: usize, call: u8) -> bool {
-    if call == OPEN {
-        return calls::open(text, at);
-    }
-    if call == FINISH {
-        return calls::finish(text, at);
-    }
-    false
-}
-
 // Runs the lines of one kind and prints the group's line.
-fn run(text: &[u8], name: &[u8], call: u8) {
+fn run(text: &[u8], name: &[u8], opening: bool) {
     let mut tally = Tally { cases: 0, wrong: 0 };
     let mut at = vectors_text::group_from(text, 0, name);
     while at < text.len() {
-        let right = is_right(text, vectors_text::word_end(text, at), call);
+        let right = is_right(text, vectors_text::word_end(text, at), opening);
         tally = vectors_text::heard(tally, text, at, right);
         at = vectors_text::group_next(text, at, name);
     }

@@ -4,6 +4,7 @@
 use crate::is_side;
 use leaves::refusal::Refusal;
 use metadata_form::header::Header;
+use metadata_form::header::MetadataAnswer;
 ghost use mathlib.Core.Path.{_≡_};
 ghost use lib.ListN.{length};
 
@@ -43,21 +44,19 @@ fn field_of(refusal: Refusal) -> u64 {
     }
 }
 
-// What a done call says.
-pub fn done(header: Header) -> Said {
-    Said {
-        number: 0,
-        field: 0,
-        header,
-    }
-}
-
-// What a refused call says, with the header that it was handed.
-pub fn refused(refusal: Refusal, header: Header) -> Said {
-    Said {
-        number: leaves::refusal::number(refusal) as u64,
-        field: field_of(refusal),
-        header,
+// What a call says that was handed this header.
+pub fn said_of(answer: MetadataAnswer, handed: Header) -> Said {
+    match answer {
+        MetadataAnswer::Done(header) => Said {
+            number: 0,
+            field: 0,
+            header,
+        },
+        MetadataAnswer::Refused(refusal) => Said {
+            number: leaves::refusal::number(refusal) as u64,
+            field: field_of(refusal),
+            header: handed,
+        },
     }
 }
 

@@ -7,10 +7,10 @@ use Rattle.vectors_openings.proofs.run.Statement.{statement}
 use Rattle.vectors_openings.proofs.run.Tie as tie
 
 abbrev Inv-loop : tie.InvT-loop
-Inv-loop text name call tally₀ at₀ tally at = Unit {0}
+Inv-loop text name opening tally₀ at₀ tally at = Unit {0}
 
 abbrev μ-loop : tie.MeasureT-loop
-μ-loop text name call tally₀ at₀ tally at = length text - at
+μ-loop text name opening tally₀ at₀ tally at = length text - at
 
 group-from-requires : tie.Need-group-from-requires Inv-loop μ-loop
 group-from-requires c κs = search needs

@@ -4,12 +4,11 @@ use borrow.Author.Tests.{not-true, not-false}
 use denote.Ref.{now}
 use Rattle.metadata_form.specs.Header.{lists}
 use Rattle.door_metadata.specs.MergerLaws.{finish-unfit, finish-done, finish-refused}
-use borrow.Author.Needs.{needs}
 use Rattle.door_metadata.proofs.merger.desk_metadata_finish.Statement.{statement}
 use Rattle.door_metadata.proofs.merger.desk_metadata_finish.Tie as tie
 
 is-header-requires : tie.Need-is-header-requires
-is-header-requires c κs = search needs
+is-header-requires c κs = tt
 
 returns : tie.Need-returns
 returns c =
@@ -20,16 +19,16 @@ header-of-requires : tie.Need-header-of-requires
 header-of-requires c κs = sym (c .before .is-header .ensures) ∙ not-false _ (c .if1 .left)
 
 finish-requires : tie.Need-finish-requires
-finish-requires c κs = search needs
+finish-requires c κs = tt
 
 enum-told : tie.Need-enum-told
-enum-told c = search needs
+enum-told c = c .match .keys1
 
 enum-known-finished : tie.Need-enum-known-finished
-enum-known-finished c = search needs
+enum-known-finished c = c .match .keys2
 
 number-requires : tie.Need-number-requires
-number-requires c κs = search needs
+number-requires c κs = tt
 
 returns-2 : tie.Need-returns-2
 returns-2 c =

@@ -1,5 +1,5 @@
 -- Each arm of the match is what its case says. Assumes nothing.
-use mathlib.Core.Path.{sym, _∙_}
+use mathlib.Core.Path.{refl, sym, _∙_}
 use borrow.Author.Tests.{not-true, not-false}
 use denote.Ref.{now}
 use Rattle.metadata_form.specs.Header.{lists}
@@ -7,15 +7,14 @@ use Rattle.door_answers.specs.Header.{headerFits}
 use Rattle.theory.specs.Bools.{and-left, and-right}
 use Rattle.door_answers.specs.HeaderLaws.{header-length}
 use Rattle.door_metadata.specs.MergerLaws.{merge-unfit, merge-done, merge-refused}
-use borrow.Author.Needs.{needs}
 use Rattle.door_metadata.proofs.merger.desk_metadata_merge.Statement.{statement}
 use Rattle.door_metadata.proofs.merger.desk_metadata_merge.Tie as tie
 
 are-headers-requires : tie.Need-are-headers-requires
-are-headers-requires c κs = search needs
+are-headers-requires c κs = tt
 
 same-length : tie.Need-same-length
-same-length c = search needs
+same-length c = refl
 
 returns : tie.Need-returns
 returns c =
@@ -34,10 +33,10 @@ header-of-requires-2 c κs =
     and-right (headerFits (now (c17 .args .header))) _ (sym (c .before .before .before .are-headers .ensures) ∙ not-false _ (c .before .before .if1 .left))
 
 merge-requires : tie.Need-merge-requires
-merge-requires c κs = search needs
+merge-requires c κs = tt
 
 enum-known-merged : tie.Need-enum-known-merged
-enum-known-merged c = search needs
+enum-known-merged c = c .match .keys1
 
 put-header-requires : tie.Need-put-header-requires
 put-header-requires c κs =
@@ -46,13 +45,13 @@ put-header-requires c κs =
     header-length _ (and-left _ _ (sym (c23 .before .are-headers .ensures) ∙ not-false _ (c23 .if1 .left)))
 
 enum-known-merged-2 : tie.Need-enum-known-merged-2
-enum-known-merged-2 c = search needs
+enum-known-merged-2 c = c .match .keys2
 
 field-in-requires : tie.Need-field-in-requires
-field-in-requires c κs = search needs
+field-in-requires c κs = tt
 
 number-requires : tie.Need-number-requires
-number-requires c κs = search needs
+number-requires c κs = tt
 
 same-length-2 : tie.Need-same-length-2
 same-length-2 c = c .before .before .put-header .kept .0
@@ -86,7 +85,7 @@ returns-2 c =
     (c .before .before .put-header .ensures)
 
 same-length-8 : tie.Need-same-length-8
-same-length-8 c = search needs
+same-length-8 c = refl
 
 same-length-9 : tie.Need-same-length-9
 same-length-9 c = c .before .before .before .before .before .before .before .before .before .before .before .before .before .before .before .before .merge .kept .1 .1 .0

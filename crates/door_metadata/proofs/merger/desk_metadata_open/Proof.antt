@@ -1,19 +1,18 @@
 -- Each arm of the match is what its case says. Assumes nothing.
-use mathlib.Core.Path.{sym, _∙_}
+use mathlib.Core.Path.{refl, sym, _∙_}
 use borrow.Author.Tests.{not-true, not-false}
 use denote.Ref.{now}
 use Rattle.metadata_form.specs.Header.{lists}
 use Rattle.door_answers.specs.HeaderLaws.{header-length}
 use Rattle.door_metadata.specs.MergerLaws.{open-unfit, open-done, open-refused}
-use borrow.Author.Needs.{needs}
 use Rattle.door_metadata.proofs.merger.desk_metadata_open.Statement.{statement}
 use Rattle.door_metadata.proofs.merger.desk_metadata_open.Tie as tie
 
 is-header-requires : tie.Need-is-header-requires
-is-header-requires c κs = search needs
+is-header-requires c κs = tt
 
 same-length : tie.Need-same-length
-same-length c = search needs
+same-length c = refl
 
 returns : tie.Need-returns
 returns c =
@@ -24,10 +23,10 @@ header-of-requires : tie.Need-header-of-requires
 header-of-requires c κs = sym (c .before .before .is-header .ensures) ∙ not-false _ (c .before .if1 .left)
 
 open-requires : tie.Need-open-requires
-open-requires c κs = search needs
+open-requires c κs = tt
 
 enum-known-opened : tie.Need-enum-known-opened
-enum-known-opened c = search needs
+enum-known-opened c = c .match .keys1
 
 put-header-requires : tie.Need-put-header-requires
 put-header-requires c κs =
@@ -36,10 +35,10 @@ put-header-requires c κs =
     header-length _ (sym (c22 .before .is-header .ensures) ∙ not-false _ (c22 .if1 .left))
 
 enum-known-opened-2 : tie.Need-enum-known-opened-2
-enum-known-opened-2 c = search needs
+enum-known-opened-2 c = c .match .keys2
 
 number-requires : tie.Need-number-requires
-number-requires c κs = search needs
+number-requires c κs = tt
 
 same-length-2 : tie.Need-same-length-2
 same-length-2 c = c .before .before .put-header .kept .0
@@ -71,7 +70,7 @@ returns-2 c =
     (c .before .before .before .before .before .opened .given .1) _ (c .before .before .put-header .ensures)
 
 same-length-8 : tie.Need-same-length-8
-same-length-8 c = search needs
+same-length-8 c = refl
 
 same-length-9 : tie.Need-same-length-9
 same-length-9 c = c .before .before .before .before .before .before .before .before .before .before .before .before .before .before .«open» .kept .1 .0

@@ -4,12 +4,11 @@ use Rattle.leaves.specs.Refusal.{refused}
 use Rattle.leaves.specs.declared.refusal.Refusal.{Refusal}
 use Rattle.door_metadata.specs.Merger.{fieldIn}
 use Rattle.door_metadata.proofs.Kept.{field-kept}
-use borrow.Author.Needs.{needs}
 use Rattle.door_metadata.proofs.merger.field_in.Statement.{statement}
 use Rattle.door_metadata.proofs.merger.field_in.Tie as tie
 
 enum-known-refusal : tie.Need-enum-known-refusal
-enum-known-refusal c = search needs
+enum-known-refusal c = c .match .keys1
 
 returns : tie.Need-returns
 unfolding fieldIn

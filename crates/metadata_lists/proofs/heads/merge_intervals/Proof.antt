@@ -34,7 +34,7 @@ turn-requires : tie.Need-turn-requires Inv-loop μ-loop
 turn-requires c κs = search needs
 
 enum-told : tie.Need-enum-told Inv-loop μ-loop
-enum-told c = search needs
+enum-told c = c .match .keys1
 
 same-length : tie.Need-same-length Inv-loop μ-loop
 same-length c = c .before .before .before .before .before .before .before .loop .inv .2
@@ -46,7 +46,7 @@ returns c = turn-conflict _ _ _ _ _ _ _ _ (omega arith) (omega (arith, ltb-true)
     c .before .before .before .before .before .before .before .loop .inv .4
 
 enum-known-s : tie.Need-enum-known-s Inv-loop μ-loop
-enum-known-s c = search needs
+enum-known-s c = c .match .keys2
 
 put-interval-requires : tie.Need-put-interval-requires Inv-loop μ-loop
 put-interval-requires c κs = omega arith

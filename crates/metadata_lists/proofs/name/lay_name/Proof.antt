@@ -3,7 +3,6 @@
 use mathlib.Core.Path.{_≡_, refl, sym, ap, _∙_}
 use Prim.Native.Nat.{ℕ, _≤_, _<_, _+_, _-_, _*_}
 use native.Mathlib.Omega.{arith}
-use borrow.Author.Needs.{needs}
 use lib.ListN.{length, getD}
 use Rattle.metadata_lists.specs.declared.heads.WalkLaid.{WalkLaid}
 use Rattle.metadata_words.specs.Words.{laid-length}
@@ -66,7 +65,7 @@ merge-intervals-requires c κs =
     (omega arith, omega arith, omega arith, omega arith, omega arith)
 
 enum-told : tie.Need-enum-told Inv-loop μ-loop
-enum-told c = search needs
+enum-told c = c .match .keys1
 
 same-length : tie.Need-same-length Inv-loop μ-loop
 same-length c =
@@ -88,7 +87,7 @@ returns c =
     (ap (λ (q : WalkLaid). endedOf q (c4 .merge-intervals .last .1 .1 .1 .1 .1 .1 .0)) (sym (c .enum-told .given .1)) ∙ c4 .merge-intervals .ensures)
 
 enum-known-walked : tie.Need-enum-known-walked Inv-loop μ-loop
-enum-known-walked c = search needs
+enum-known-walked c = c .match .keys2
 
 sub-laid : tie.Need-sub-laid Inv-loop μ-loop
 sub-laid c =

@@ -3,7 +3,6 @@
 use mathlib.Core.Path.{_≡_, refl, sym, ap, _∙_}
 use Prim.Native.Nat.{ℕ, _≤_, _<_, _+_, _-_, _*_}
 use native.Mathlib.Omega.{arith}
-use borrow.Author.Needs.{needs}
 use lib.ListN.{length, getD}
 use Rattle.metadata_lists.specs.declared.names.NamesLaid.{NamesLaid}
 use Rattle.metadata_lists.specs.Names.{endNames}
@@ -41,7 +40,7 @@ lay-place-requires c κs =
     )
 
 enum-told : tie.Need-enum-told Inv-loop μ-loop
-enum-told c = search needs
+enum-told c = c .match .keys1
 
 same-length : tie.Need-same-length Inv-loop μ-loop
 same-length c =
@@ -70,7 +69,7 @@ returns c =
     (sym (c .enum-told .given .1)) ∙ c8 .lay-place .ensures)
 
 enum-known-r : tie.Need-enum-known-r Inv-loop μ-loop
-enum-known-r c = search needs
+enum-known-r c = c .match .keys2
 
 add-i : tie.Need-add-i Inv-loop μ-loop
 add-i c = omega arith

@@ -33,10 +33,10 @@ lay-name-requires c κs =
     (sym (c .before .before .before .before .wide .ensures ∙ c .before .before .before .before .before .name-at .ensures)) ∙ c .before .before .if1 .left)
 
 enum-told : tie.Need-enum-told
-enum-told c = search needs
+enum-told c = c .match .keys1
 
 enum-known-walked : tie.Need-enum-known-walked
-enum-known-walked c = search needs
+enum-known-walked c = c .match .keys2
 
 sub-size : tie.Need-sub-size
 sub-size c =

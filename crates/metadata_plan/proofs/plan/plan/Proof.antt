@@ -34,10 +34,10 @@ judge-requires : tie.Need-judge-requires
 judge-requires c κs = stands-spans _ _ _ _ _ (c .before .before .before .before .before .gather-sides .ensures)
 
 enum-known-judged : tie.Need-enum-known-judged
-enum-known-judged c = search needs
+enum-known-judged c = c .match .keys1
 
 enum-told : tie.Need-enum-told
-enum-told c = search needs
+enum-told c = c .match .keys2
 
 slice-aggregate-merge-names : tie.Need-slice-aggregate-merge-names
 slice-aggregate-merge-names c = search needs
@@ -58,10 +58,10 @@ merge-names-requires c κs =
     (t .enum-told .given .1) _ (length-replicate {A = ℕ} 393216 0)
 
 enum-told-2 : tie.Need-enum-told-2
-enum-told-2 c = search needs
+enum-told-2 c = c .match2 .keys1
 
 enum-known-merged : tie.Need-enum-known-merged
-enum-known-merged c = search needs
+enum-known-merged c = c .match2 .keys2
 
 returns : tie.Need-returns
 unfolding endPlan

@@ -54,8 +54,8 @@ slice-aggregate-merge-10 c = sym (length-take-le _ _ (omega arith))
 merge-requires : tie.Need-merge-requires
 merge-requires c κs = search needs
 
-merged-says-requires : tie.Need-merged-says-requires
-merged-says-requires c κs = search needs
+said-of-requires : tie.Need-said-of-requires
+said-of-requires c κs = search needs
 
 same-length : tie.Need-same-length
 same-length c = search needs
@@ -95,7 +95,7 @@ merges-spec =
     slice-aggregate-merge-9
     slice-aggregate-merge-10
     merge-requires
-    merged-says-requires
+    said-of-requires
     same-length
     same-length-2
     same-length-3
