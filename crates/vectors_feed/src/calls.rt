@@ -7,6 +7,7 @@ use vectors_portions::lines::lay_line;
 use vectors_portions::lines::next_line;
 use vectors_portions::lines::open_line;
 use vectors_portions::lines::print_at;
+use vectors_portions::lines::run_line;
 
 // Runs a line that asks for nothing of the heap.
 fn feed_line(
@@ -48,7 +49,7 @@ fn feed_line(
 }
 
 // Runs the call that a line holds, and answers how many streams the heap holds after it.
-pub fn run_line(
+pub fn call_line(
     text: &[u8],
     at: usize,
     held: usize,
@@ -67,6 +68,20 @@ pub fn run_line(
     }
     if kind == b'n' {
         return next_line(held, marks, times, places, heads, heap, spans, window);
+    }
+    if kind == b'r' {
+        return run_line(
+            text,
+            rest,
+            held,
+            marks,
+            times,
+            places,
+            heads,
+            heap,
+            spans,
+            window,
+        );
     }
     feed_line(text, kind, rest, held, marks, places, heads, spans, window);
     held
