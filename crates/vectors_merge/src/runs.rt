@@ -30,15 +30,15 @@ pub fn print_made(calls: usize, written: usize) {
     io::write_all(1, b" ");
 }
 
-// A word of the list, where it has it.
-fn print_listed(list: &[u64], words: usize, i: usize) {
-    if i < words && i < list.len() {
+// One of so many words of a list, where it is among them.
+fn print_listed(list: &[u64; 12288], words: usize, i: usize) {
+    if i < words && i < 12288 {
         print_number(list[i]);
     }
 }
 
 // The first nine of so many words of a list.
-pub fn print_list(list: &[u64], words: usize) {
+pub fn print_list(list: &[u64; 12288], words: usize) {
     io::write_all(1, b"list");
     print_listed(list, words, 0);
     print_listed(list, words, 1);

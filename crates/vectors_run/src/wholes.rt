@@ -28,7 +28,7 @@ fn print_last(last: Last) {
 }
 
 // What a run answered, and so many words of the list that it was lent.
-fn print_ran(made: Made, list: &[u64], words: usize) {
+fn print_ran(made: Made, list: &[u64; 12288], words: usize) {
     print_made(made.calls, made.written);
     let last = made.last;
     print_last(last);

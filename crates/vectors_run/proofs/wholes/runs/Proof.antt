@@ -1,9 +1,8 @@
 -- Loop: each turn passes a pair; the lengths stay. Assumes nothing.
-use mathlib.Core.Path.{_≡_, refl, sym, _∙_}
+use mathlib.Core.Path.{_≡_, refl}
 use native.Mathlib.Omega.{arith}
 use Prim.Native.Nat.{_-_, _≤_, _<_}
 use lib.ListN.{length}
-use lib.Seq.{length-front}
 use borrow.Author.Needs.{needs}
 use Rattle.vectors_run.proofs.wholes.runs.Statement.{statement}
 use Rattle.vectors_run.proofs.wholes.runs.Tie as tie
@@ -57,7 +56,10 @@ start-of-requires : tie.Need-start-of-requires Inv-loop μ-loop
 start-of-requires c κs = search needs
 
 loop-holds : tie.Need-loop-holds Inv-loop μ-loop
-loop-holds c = (search needs, search needs, search needs, search needs, search needs, omega arith, omega (arith, c .before .before .before .before .before .before .before .before .before .before .before .before .before .before .before .before .before .before .before .before .before .good .1 .1 .0))
+loop-holds c =
+    let d = c .before .before .before .before .before .before .before .before .before .before .before in
+    let pairs = d .before .before .before .before .before .before .before .before .before .before .good .1 .1 .0 in
+    (search needs, search needs, search needs, search needs, search needs, omega arith, omega (arith, pairs))
 
 add-loop : tie.Need-add-loop Inv-loop μ-loop
 add-loop c = omega arith
@@ -109,13 +111,6 @@ slice-aggregate-run-6 c = search needs
 
 run-requires : tie.Need-run-requires Inv-loop μ-loop
 run-requires c κs = search needs
-
-slice-aggregate-print-ran : tie.Need-slice-aggregate-print-ran Inv-loop μ-loop
-slice-aggregate-print-ran c =
-    let d = c .before .before .before .before .before .before .before in
-    let list = c .before .before .before .before .before .before .before .before .before .before .before .before .before .before .before .before .before .before .list-space in
-    let words = c .before .before .before .before .before .before .before .before .before .before .before .before .before .before .before .words-of .result in
-    list .ensures ∙ sym (length-front (list .result) (d .run .last .1 .1 .1 .1 .1 .1 .1 .1 .1 .0) words (d .run .kept .1 .1 .1 .1 .1 .1 .1 .1 .1 .0))
 
 print-ran-requires : tie.Need-print-ran-requires Inv-loop μ-loop
 print-ran-requires c κs = search needs
@@ -169,7 +164,6 @@ runs-spec =
     array-borrow-prefix-list
     slice-aggregate-run-6
     run-requires
-    slice-aggregate-print-ran
     print-ran-requires
     add-i
     loop-less
