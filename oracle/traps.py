@@ -740,8 +740,8 @@ def portion_runs():
     def portion(size, taken, records=1):
         return f"a 0 {size} {(record(5) * records).hex()} = taken {taken}"
 
-    def ran(*run):
-        return f"r {run[0]} {run[1]} = {run_line(*run)}"
+    def ran(allowance, room, said):
+        return f"r {allowance} {room} = {said}"
 
     opened, one, full = "o 1 0 = opened 1", portion(16, 16), portion(1024, 1024, 64)
     asking = ran(5, 9, needed(2, 0, five)), ran(5, 9, needed(1, 0)), ran(5, 0, going(0))
@@ -763,6 +763,11 @@ def printed_portions(size):
     return calls + ["n = " + fed(0, 0, 0, 5), "n = 13 0 16 1", "n = " + fed(1, 0, 1024, 6), "n = need 1", "e 1 = done", "n = end"]
 
 
+def fed_line(call, said):
+    """An answer as vectors_feed prints it."""
+    return run_line(*map(int, call.split()[1:]), said) if call.startswith("r ") else said
+
+
 def fed_answer(merge, call):
     """What the model answers to a call of a feed case, and the merge after it."""
     word, *numbers = call.split()
@@ -782,8 +787,7 @@ def fed_answer(merge, call):
             merge.end(int(numbers[0]))
             return "done", merge
         if word == "r":
-            run = int(numbers[0]), int(numbers[1])
-            return run_line(*run, answers.one_run(merge, *run)), merge
+            return answers.one_run(merge, *map(int, numbers)), merge
         if word == "h":
             return f"held {len(merge.heads)}", merge
         if word == "w":
@@ -885,7 +889,7 @@ if __name__ == "__main__":
     elif sys.argv[1:] == ["feed", "cases"]:
         print("\n".join(line for name, calls in feed_traps() for line in (f"= {name}", *(call for call, _ in calls))))
     elif sys.argv[1:] == ["feed", "answers"]:
-        print("\n".join(line for name, calls in feed_traps() for line in (name, *(said for _, said in calls))))
+        print("\n".join(line for name, calls in feed_traps() for line in (name, *(fed_line(*call) for call in calls))))
     elif sys.argv[1:] == ["run", "cases"]:
         print("\n".join(line for name, case, _ in run_lines() for line in (f"= {name}", case)))
     elif sys.argv[1:] == ["run", "answers"]:
