@@ -1,10 +1,8 @@
 // The calls that lines hold, on memory that is lent.
 use crate::answers;
 use feed::opening::open;
-use feed::turns::next;
 use feed_run::run::run;
 use feed_window::portions::add;
-use feed_window::portions::end;
 use feed_window::spans::FILL;
 use feed_window::spans::WINDOW;
 use vectors_merge::bytes_of;
@@ -94,23 +92,6 @@ pub fn open_line(
     answers::print_opening(opening, held)
 }
 
-// Asks for the next answer; answers how many streams the heap holds after it.
-pub fn next_line(
-    held: usize,
-    marks: &mut [u8],
-    times: &mut [u64],
-    places: &mut [u64],
-    heads: &mut [u64],
-    heap: &mut [u8],
-    spans: &mut [u64],
-    window: &[u8],
-) -> usize {
-    let turned = next(window, held, marks, times, places, heads, heap, spans);
-    let answer = turned.answer;
-    answers::print_fed(window, answer);
-    turned.held
-}
-
 // Makes the run that a line holds, with a list of 9s; answers how many streams the heap holds after it.
 pub fn run_line(
     text: &[u8],
@@ -143,13 +124,6 @@ pub fn run_line(
     let after = made.held;
     answers::print_ran(made, &list, words);
     after
-}
-
-// Says that the stream of a line has ended.
-pub fn end_line(text: &[u8], at: usize, marks: &[u8], spans: &mut [u64]) {
-    let stream = vectors_text::number_at(text, at);
-    let ended = end(stream.value, marks, spans);
-    answers::print_ended(ended);
 }
 
 // Lays the place of stream 0.
