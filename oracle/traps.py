@@ -2,8 +2,8 @@
 """The printed examples M1 to M12 of the rules and the traps of docs/TRAPS.md, as cases with their answers.
 
 traps.py checks the model on them, and exits with 1 where an answer is another. traps.py cases, traps.py answers print
-them for another program; traps.py feed cases, traps.py feed answers those of streams in portions, the data of vectors_feed, and traps.py
-run cases, traps.py run answers those of many calls at once, the data of vectors_run.
+them for another program; traps.py feed cases, traps.py feed answers those of streams in portions, runs among them, the data of
+vectors_feed, and traps.py run cases, traps.py run answers those of runs over whole buffers, the data of vectors_run.
 """
 
 import random
@@ -494,17 +494,6 @@ def whole_runs():
     yield 15, printed, (5000, 9, BAD_RUN), (1, 4, BAD_RUN), (3, 9, damaged_run(2, 16, five)), (3, 9, ended(2, six))
 
 
-def portion_runs():
-    """The same over portions, of one stream with these bytes: a pair is how many of them are handed in and taken, None the end's word."""
-    five = (0, 0, 5)
-    many = [(0, 16 * i, 5) for i in range(64)]
-    yield 11, record(5), (16, 16), (5, 9, needed(2, 0, five)), (5, 9, needed(1, 0)), (5, 0, going(0)), None, (5, 9, ended(1))
-    yield 12, record(5), (16, 16), (5, 3, going(1, five)), (5, 3, needed(1, 0))
-    yield 13, record(5) * 125, (1024, 1024), (64, 195, going(64, *many)), (2000, 1008)
-    yield 13, record(5) * 125, (1024, 1024), (65, 195, needed(65, 0, *many)), (2000, 1024)
-    yield 15, record(5), (5000, 9, BAD_RUN), (1, 4, BAD_RUN), (16, 16), (1, 9, going(1, five))
-
-
 def run_traps():
     for trap, streams, *runs in whole_runs():
         cuts = [sum(map(len, streams[:n])) for n in range(len(streams) + 1)]
@@ -513,7 +502,7 @@ def run_traps():
 
 
 def run_line(allowance, room, said):
-    """A run's answer as vectors_run prints it: calls and records, how it stopped, and the first nine words of its list."""
+    """A run's answer as vectors_run and vectors_feed print it: calls and records, how it stopped, and the first nine words of its list."""
     number, calls, written, last, stream, place, reason, *rest = map(int, said.split())
     listed = (rest[1:-1] + [9] * room)[: min(room, 9)]
     if number == 15:
@@ -523,30 +512,13 @@ def run_line(allowance, room, said):
 
 
 def run_lines():
-    """The data of vectors_run: the name of a trap, its line, and what it prints; those over portions are asked of the model here. Trap 10
-    is too long for it."""
+    """The data of vectors_run: the name of a trap, its line, and what it prints. Trap 10 is too long for it."""
     for trap, streams, *runs in whole_runs():
         if trap == 10:
             continue
         cuts = [sum(map(len, streams[:n])) for n in range(len(streams) + 1)]
         pairs = [number for run in runs for number in run[:2]]
         yield f"R{trap}", words("w", cuts, pairs, b"".join(streams)), [run_line(*run) for run in runs]
-    for trap, content, *steps in portion_runs():
-        merge, pairs, said = model.FeedMerge(1, []), [], []
-        for step in steps:
-            if step is None:
-                merge.end(0)
-                pairs += [20000, 0]
-                said.append("done")
-            elif len(step) == 2:
-                pairs += [10000, step[0]]
-                said.append(f"taken {step[1]}")
-                assert merge.add(0, content[: step[0]]) == step[1], (trap, step)
-            else:
-                pairs += step[:2]
-                said.append(run_line(*step))
-                assert answers.one_run(merge, *step[:2]) == step[2], (trap, step)
-        yield f"R{trap}", words("p", 1, pairs, content), said
 
 
 def compare_traps():
@@ -680,7 +652,8 @@ def explain_program_traps():
 
 # Streams in portions (docs/RULES.md, Requests, No. 5). A case is a name and its calls with what they answer, in the words of
 # vectors_feed, whose data they are: o STREAMS HINTS.. opens, a STREAM SIZE HEX is a portion of so many bytes (HEX, then 9s), e STREAM
-# says that a stream has ended, n asks for the next answer, l PLACE lays the place of stream 0; from x on, in the last case, marks have 255 places.
+# says that a stream has ended, n asks for the next answer, r ALLOWANCE WORDS makes a run with a list of so many words, l PLACE lays the
+# place of stream 0; from x on, in the last case, marks have 255 places.
 
 
 def feeding(name, *calls):
@@ -756,7 +729,27 @@ def feed_traps():
         "n = need 0", "e 0 = done", "n = 13 0 16 1", "n = end")
     yield feeding("F22", "o 1 0 = opened 1", "n = need 0", f"a 0 7 {short(5)[:14]} = taken 7", "n = need 0",
         f"a 0 9 {short(5)[14:]} = taken 9", "n = " + fed(0, 0, 0, 5), "n = need 0", "e 0 = done", "n = end")
+    yield from portion_runs()
     yield feeding("F16", "x = few", "o 1 0 = 15", "a 0 0 - = 15", "e 0 = 15", "n = 15")
+
+
+def portion_runs():
+    """Many calls at once (RULES, Requests, No. 14) over portions of one stream."""
+    five, many = (0, 0, 5), [(0, 16 * i, 5) for i in range(64)]
+
+    def portion(size, taken, records=1):
+        return f"a 0 {size} {(record(5) * records).hex()} = taken {taken}"
+
+    def ran(allowance, room, said):
+        return f"r {allowance} {room} = {said}"
+
+    opened, one, full = "o 1 0 = opened 1", portion(16, 16), portion(1024, 1024, 64)
+    asking = ran(5, 9, needed(2, 0, five)), ran(5, 9, needed(1, 0)), ran(5, 0, going(0))
+    yield feeding("R11", opened, one, *asking, "e 0 = done", ran(5, 9, ended(1)))
+    yield feeding("R12", opened, one, ran(5, 3, going(1, five)), ran(5, 3, needed(1, 0)))
+    yield feeding("R13", opened, full, ran(64, 195, going(64, *many)), portion(2000, 1008, 125))
+    yield feeding("R13", opened, full, ran(65, 195, needed(65, 0, *many)), portion(2000, 1024, 125))
+    yield feeding("R15", opened, ran(5000, 9, BAD_RUN), ran(1, 4, BAD_RUN), one, ran(1, 9, going(1, five)))
 
 
 def printed_portions(size):
@@ -768,6 +761,11 @@ def printed_portions(size):
             calls += [f"n = need {0 if stream == 0 and at < 16 else 1}", f"a {stream} {len(part)} {part.hex()} = taken {len(part)}"]
         calls += [f"e {stream} = done"] if stream == 0 else []
     return calls + ["n = " + fed(0, 0, 0, 5), "n = 13 0 16 1", "n = " + fed(1, 0, 1024, 6), "n = need 1", "e 1 = done", "n = end"]
+
+
+def fed_line(call, said):
+    """An answer as vectors_feed prints it."""
+    return run_line(*map(int, call.split()[1:]), said) if call.startswith("r ") else said
 
 
 def fed_answer(merge, call):
@@ -788,6 +786,8 @@ def fed_answer(merge, call):
         if word == "e":
             merge.end(int(numbers[0]))
             return "done", merge
+        if word == "r":
+            return answers.one_run(merge, *map(int, numbers)), merge
         if word == "h":
             return f"held {len(merge.heads)}", merge
         if word == "w":
@@ -889,7 +889,7 @@ if __name__ == "__main__":
     elif sys.argv[1:] == ["feed", "cases"]:
         print("\n".join(line for name, calls in feed_traps() for line in (f"= {name}", *(call for call, _ in calls))))
     elif sys.argv[1:] == ["feed", "answers"]:
-        print("\n".join(line for name, calls in feed_traps() for line in (name, *(said for _, said in calls))))
+        print("\n".join(line for name, calls in feed_traps() for line in (name, *(fed_line(*call) for call in calls))))
     elif sys.argv[1:] == ["run", "cases"]:
         print("\n".join(line for name, case, _ in run_lines() for line in (f"= {name}", case)))
     elif sys.argv[1:] == ["run", "answers"]:

@@ -1,9 +1,9 @@
 #!/usr/bin/env python3
-"""Writes the data of vectors_records and vectors_plain: oracle/build && python3 tools/make_vectors_records.py
+"""Writes the data of vectors_records: oracle/build && python3 tools/make_vectors_records.py
 
-In crates/NAME/stdin stand the cases, in crates/NAME/stdout what the program must write. The answers come from the
-plain model of the rules (oracle/model.py); those of the traps and borders also stand below, by hand, and those that are headed
-`dbn` were given by dbn's own code (oracle/driver.rs).
+In crates/vectors_records/stdin stand the cases, in stdout what the program must write. The answers come from the plain model of
+the rules (oracle/model.py); those of the traps and borders also stand below, by hand, and those that are headed `dbn` were given by
+dbn's own code (oracle/driver.rs).
 """
 import os
 import random
@@ -36,7 +36,7 @@ def replayed(name, made, by_hand=None):
     written.append(text)
 
 
-def told(buffer, cuts, hints, engine=RecordMerge):
+def told(buffer, cuts, hints, engine):
     """The answers of a merge to its first end and of one call more, a line each; or a refused opening."""
     try:
         merge = engine(buffer, cuts, hints)
@@ -54,17 +54,23 @@ def told(buffer, cuts, hints, engine=RecordMerge):
         text += "record " + " ".join(str(number) for number in handed) + "\n"
 
 
-def merged(name, streams, hints, by_hand, cuts=None, plain=False):
-    """Streams and hints, merged to the first end and asked once more, by either engine; or a refused opening."""
+def case_line(kind, buffer, cuts, hints):
+    """The line of a case: hints, cuts and the buffer."""
+    numbers = [len(hints), *hints, len(cuts), *cuts]
+    return f"{kind} {' '.join(str(number) for number in numbers)} {buffer.hex().upper()}".rstrip()
+
+
+def merged(name, streams, hints, by_hand=None, cuts=None):
+    """Streams and hints, merged to the first end and asked once more, by both engines; or a refused opening."""
     buffer = b"".join(streams)
     if cuts is None:
         cuts = [sum(len(stream) for stream in streams[:i]) for i in range(len(streams) + 1)]
-    text = told(buffer, cuts, hints, PlainMerge if plain else RecordMerge)
-    assert by_hand == text, (name, text)
+    text = told(buffer, cuts, hints, RecordMerge)
+    assert by_hand is None or by_hand == text, (name, text)
+    assert text == told(buffer, cuts, hints, PlainMerge), name
     title(name)
-    numbers = [len(hints), *hints, len(cuts), *cuts]
-    cases.append(f"m {' '.join(str(number) for number in numbers)} {buffer.hex().upper()}".rstrip())
-    written.append(text)
+    cases.append(case_line("m", buffer, cuts, hints))
+    written.append(f"{text}plain\n{text}")
 
 
 def traps():
@@ -107,34 +113,23 @@ def printed(answers):
     return "".join(" ".join([said[word], *rest]) + "\n" for word, *rest in map(str.split, answers))
 
 
-def pairs():
-    """The runs of request No. 11's traps, as oracle/traps.py writes them."""
-    for number, (name, streams, hints, answers) in enumerate(complaint_pairs()):
+def requested():
+    """The runs of the traps of requests No. 11 and No. 12, as oracle/traps.py writes them."""
+    for number, (name, streams, hints, answers) in [*enumerate(complaint_pairs()), *enumerate(plain_runs())]:
         merged(f"{name}, run {number}", streams, list(hints), printed(answers))
 
 
-def runs_of_plain(plain):
-    """The runs of request No. 12's traps."""
-    for number, (name, streams, hints, answers) in enumerate(plain_runs()):
-        merged(f"{name}, run {number}", streams, list(hints), printed(answers), plain=plain)
-
-
 def plains():
-    """The runs of No. 12's traps and of No. 11's, wrong openings, drawn streams and wrong memory, by the plain engine."""
-    runs_of_plain(True)
-    for number, (name, streams, hints, answers) in enumerate(complaint_pairs()):
-        merged(f"{name}, run {number}", streams, list(hints), printed(answers), plain=True)
+    """Wrong openings and wrong memory (No. 12), and drawn streams."""
     for cuts, hints in [([], []), ([0], []), ([0, 15], []), ([0, 16, 8, 16], []), ([0, 16], [1, 2]), ([0] * 257 + [16], [])]:
-        merged(f"No. 12, {len(cuts)} cuts and {len(hints)} hints", [record(5, 7)], hints, "12\n", cuts, plain=True)
+        merged(f"No. 12, {len(cuts)} cuts and {len(hints)} hints", [record(5, 7)], hints, "12\n", cuts)
     title("No. 12, 9: 255 marks, 257 streams")
-    cases.append("w")
+    cases.append(case_line("w", record(5, 7), [0, 16], [0]))
     written.append("15\nopened 1 1\n15\n15\nrecord 0 0 16 1 7 5\n")
     rng = random.Random(12)
     for i in range(40):
         streams = [stream(rng, 5) for _ in range(rng.randrange(1, 9))]
-        cuts = [sum(len(stream) for stream in streams[:n]) for n in range(len(streams) + 1)]
-        hints = [] if i % 2 else [rng.randrange(9) for _ in streams]
-        merged(f"drawn {i}", streams, hints, told(b"".join(streams), cuts, hints), plain=True)
+        merged(f"drawn merge {i}", streams, [] if i % 2 else [rng.randrange(9) for _ in streams])
 
 
 def borders():
@@ -204,25 +199,16 @@ def recorded():
         merged(f"dbn {i}", [b"".join(record(time, p) for time in stream) for p, stream in enumerate(times)], hints, answered_by_dbn(times, hints))
 
 
-def write(crate):
-    """Writes what was gathered to a crate's files, and begins anew."""
-    for name, parts in [("stdin", [line + "\n" for line in cases]), ("stdout", written)]:
-        with open(os.path.join(ROOT, "crates", crate, name), "w") as file:
-            file.write("".join(parts))
-    cases.clear()
-    written.clear()
-
-
 def main():
     traps()
-    pairs()
-    runs_of_plain(False)
+    requested()
     borders()
     drawn()
     recorded()
-    write("vectors_records")
     plains()
-    write("vectors_plain")
+    for name, parts in [("stdin", [line + "\n" for line in cases]), ("stdout", written)]:
+        with open(os.path.join(ROOT, "crates/vectors_records", name), "w") as file:
+            file.write("".join(parts))
 
 
 if __name__ == "__main__":

@@ -1,12 +1,15 @@
 // The call that a line holds, on memory that is lent.
+use feed::turns::next;
+use feed_window::portions::end;
 use vectors_merge::print_line;
+use vectors_portions::answers::print_ended;
+use vectors_portions::answers::print_fed;
 use vectors_portions::answers::print_word;
 use vectors_portions::lines::add_line;
-use vectors_portions::lines::end_line;
 use vectors_portions::lines::lay_line;
-use vectors_portions::lines::next_line;
 use vectors_portions::lines::open_line;
 use vectors_portions::lines::print_at;
+use vectors_portions::lines::run_line;
 
 // Runs a line that asks for nothing of the heap.
 fn feed_line(
@@ -25,7 +28,9 @@ fn feed_line(
         return;
     }
     if kind == b'e' {
-        end_line(text, at, marks, spans);
+        let stream = vectors_text::number_at(text, at);
+        let ended = end(stream.value, marks, spans);
+        print_ended(ended);
         return;
     }
     if kind == b'l' {
@@ -48,7 +53,7 @@ fn feed_line(
 }
 
 // Runs the call that a line holds, and answers how many streams the heap holds after it.
-pub fn run_line(
+pub fn call_line(
     text: &[u8],
     at: usize,
     held: usize,
@@ -66,7 +71,24 @@ pub fn run_line(
         return open_line(text, rest, held, marks, times, places, heads, heap, spans);
     }
     if kind == b'n' {
-        return next_line(held, marks, times, places, heads, heap, spans, window);
+        let turned = next(window, held, marks, times, places, heads, heap, spans);
+        let answer = turned.answer;
+        print_fed(window, answer);
+        return turned.held;
+    }
+    if kind == b'r' {
+        return run_line(
+            text,
+            rest,
+            held,
+            marks,
+            times,
+            places,
+            heads,
+            heap,
+            spans,
+            window,
+        );
     }
     feed_line(text, kind, rest, held, marks, places, heads, spans, window);
     held

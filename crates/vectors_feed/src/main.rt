@@ -1,42 +1,16 @@
-// Runs the calls that stand on standard input, one to a line, over `feed`, and prints what they answer.
+// Runs the calls that stand on standard input, one to a line, over `feed` and `feed_run`, and prints what they answer.
 // `= NAME` names what follows, and is printed. `o STREAMS COUNT hint..` opens streams; `a STREAM SIZE HEX` hands in a portion of so many
-// bytes, those of HEX and then 9s; `e STREAM` says that a stream has ended; `n` asks for the next answer; `h` prints how many streams
-// the heap holds, `w STREAM` where what is kept of a stream begins in the window; `l PLACE` lays the place of stream 0; what follows `x`
-// runs on marks of 255 places.
+// bytes, those of HEX and then 9s; `e STREAM` says that a stream has ended; `n` asks for the next answer; `r ALLOWANCE WORDS` makes a run
+// with a list of so many words, each of which holds 9, and prints its calls, the records that it wrote, how it stopped, and the first
+// nine words of its list; `h` prints how many streams the heap holds, `w STREAM` where what is kept of a stream begins in the window;
+// `l PLACE` lays the place of stream 0; what follows `x` runs on marks of 255 places.
 mod calls;
 
-use crate::calls::run_line;
+use crate::calls::call_line;
 use records::merge::empty_bytes;
 use records::merge::empty_numbers;
+use vectors_merge::few_bytes;
 use vectors_portions::lines::window_space;
-ghost use mathlib.Core.Path.{_≡_};
-ghost use lib.ListN.{length};
-
-// Room for the whole data.
-fn room() -> [u8; 16384]
-    ensures { λ r. ⌜ 16384 ≡ length r ⌝ }
-{
-    [0; 16384]
-}
-
-// Too few places for marks.
-fn few_bytes() -> [u8; 255]
-    ensures { λ r. ⌜ 255 ≡ length r ⌝ }
-{
-    [0; 255]
-}
-
-// Where the lines begin that run on too few marks.
-fn few_from(text: &[u8]) -> usize {
-    let mut at = 0;
-    while at < text.len() {
-        if vectors_text::byte_at(text, at) == b'x' {
-            return at;
-        }
-        at = vectors_text::next_line(text, at);
-    }
-    at
-}
 
 // Runs the lines of the text on these marks and on memory of its own.
 fn run(text: &[u8], marks: &mut [u8]) {
@@ -49,7 +23,7 @@ fn run(text: &[u8], marks: &mut [u8]) {
     let mut at = 0;
     let mut held = 0;
     while at < text.len() {
-        held = run_line(
+        held = call_line(
             text,
             at,
             held,
@@ -69,7 +43,7 @@ fn run(text: &[u8], marks: &mut [u8]) {
 fn run_text(text: &[u8]) {
     let mut marks = empty_bytes();
     let mut few = few_bytes();
-    let at = few_from(text);
+    let at = vectors_text::group_from(text, 0, b"x");
     if at <= text.len() {
         run(&text[..at], &mut marks);
         run(&text[at..], &mut few);
@@ -77,7 +51,7 @@ fn run_text(text: &[u8]) {
 }
 
 fn main() {
-    let mut data = room();
+    let mut data = vectors_merge::room();
     let n = io::read_full(0, &mut data);
     run_text(&data[..n]);
 }

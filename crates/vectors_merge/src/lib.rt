@@ -1,15 +1,32 @@
 // What the programs over merges of streams share: streams and hints read from a case, and answers printed.
+pub mod runs;
+
 use leaves::refusal::Refusal;
 use records::merge::Opening;
 use records::merge::Turn;
 ghost use mathlib.Core.Path.{_≡_};
-ghost use Prim.Native.Nat.{_≤_, _<_};
+ghost use Prim.Native.Nat.{_<_};
 ghost use lib.ListN.{length};
+ghost use Rattle.io.specs.Counts.{Counts};
 
 // Numbers read from the text: how many, and the place after them.
 pub struct Numbers {
     pub count: usize,
     pub next: usize,
+}
+
+// Room for the whole data of a program.
+pub fn room() -> [u8; 131072]
+    ensures { λ r. ⌜ 131072 ≡ length r ⌝ }
+{
+    [0; 131072]
+}
+
+// Too few places for marks.
+pub fn few_bytes() -> [u8; 255]
+    ensures { λ r. ⌜ 255 ≡ length r ⌝ }
+{
+    [0; 255]
 }
 
 // Room for a buffer.
@@ -28,7 +45,7 @@ pub fn numbers_space() -> [u64; 300]
 
 // Reads a count and so many numbers, as far as there is room.
 pub fn read_numbers(text: &[u8], at: usize, out: &mut [u64]) -> Numbers
-    ensures { λ r. ⌜ r .count ≤ length (now (out .exit)) ⌝ }
+    ensures { λ r. ⌜ Counts (r .count) (now (out .exit)) ⌝ }
 {
     let many = vectors_text::number_at(text, at);
     let mut place = many.next;
@@ -48,6 +65,44 @@ pub fn read_numbers(text: &[u8], at: usize, out: &mut [u64]) -> Numbers
     Numbers {
         count: i,
         next: place,
+    }
+}
+
+// So many of these bytes, or none where there are fewer.
+pub fn bytes_of(many: u64, bytes: &[u8]) -> usize
+    ensures { λ r. ⌜ Counts r (now (bytes .entry)) ⌝ }
+{
+    if many <= bytes.len() as u64 {
+        many as usize
+    } else {
+        0
+    }
+}
+
+// A case as it was read: how many numbers of its two lists and how many bytes.
+pub struct Case {
+    pub first: usize,
+    pub second: usize,
+    pub bytes: usize,
+}
+
+// Reads the case at a place: two lists of numbers and a buffer, as far as there is room.
+pub fn read_case(
+    text: &[u8],
+    at: usize,
+    one: &mut [u64],
+    two: &mut [u64],
+    buffer: &mut [u8],
+) -> Case
+    ensures { λ r. ⌜ Counts (r .first) (now (one .exit)) × Counts (r .second) (now (two .exit)) × Counts (r .bytes) (now (buffer .exit)) ⌝ }
+{
+    let first = read_numbers(text, at, one);
+    let second = read_numbers(text, first.next, two);
+    let bytes = vectors_text::bytes_at(text, second.next, buffer);
+    Case {
+        first: first.count,
+        second: second.count,
+        bytes: bytes.count,
     }
 }
 

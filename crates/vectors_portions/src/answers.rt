@@ -1,10 +1,14 @@
 // Answers as lines.
 use feed::opening::FeedOpening;
 use feed::turns::Fed;
+use feed_run::run::Last;
+use feed_run::run::Made;
 use feed_window::portions::Added;
 use feed_window::portions::Ended;
 use vectors_merge::print_number;
 use vectors_merge::print_refusal;
+use vectors_merge::runs::print_list;
+use vectors_merge::runs::print_made;
 
 // A word and a number, on a line.
 pub fn print_word(word: &[u8], n: u64) {
@@ -89,6 +93,28 @@ pub fn print_fed(window: &[u8], answer: Fed) {
         Fed::NeedMore(stream) => print_word(b"need", stream),
         Fed::Refused(refusal) => print_refusal(refusal),
     }
+}
+
+// How a run stopped.
+fn print_last(last: Last) {
+    match last {
+        Last::Going => {
+            io::write_all(1, b"going\n");
+        }
+        Last::End => {
+            io::write_all(1, b"end\n");
+        }
+        Last::NeedMore(stream) => print_word(b"need", stream),
+        Last::Refused(refusal) => print_refusal(refusal),
+    }
+}
+
+// What a run answered, and so many words of the list that it was lent.
+pub fn print_ran(made: Made, list: &[u64; 12288], words: usize) {
+    print_made(made.calls, made.written);
+    let last = made.last;
+    print_last(last);
+    print_list(list, words);
 }
 
 pub fn print_added(answer: Added) {

@@ -1,13 +1,15 @@
 // The calls that lines hold, on memory that is lent.
 use crate::answers;
 use feed::opening::open;
-use feed::turns::next;
+use feed_run::run::run;
 use feed_window::portions::add;
-use feed_window::portions::end;
 use feed_window::spans::FILL;
 use feed_window::spans::WINDOW;
+use vectors_merge::bytes_of;
 use vectors_merge::numbers_space;
 use vectors_merge::read_numbers;
+use vectors_merge::runs::list_space;
+use vectors_merge::runs::words_of;
 ghost use mathlib.Core.Path.{_≡_};
 ghost use lib.ListN.{length};
 
@@ -34,24 +36,6 @@ pub fn window_space() -> [u8; 262144]
     [0; 262144]
 }
 
-// Hands in the first bytes of a portion.
-pub fn add_first(
-    stream: u64,
-    portion: &[u8],
-    size: u64,
-    marks: &[u8],
-    places: &[u64],
-    heads: &[u64],
-    spans: &mut [u64],
-    window: &mut [u8],
-) {
-    if size <= portion.len() as u64 {
-        let n = size as usize;
-        let added = add(stream, &portion[..n], marks, places, heads, spans, window);
-        answers::print_added(added);
-    }
-}
-
 // Hands in the portion that a line holds.
 pub fn add_line(
     text: &[u8],
@@ -66,16 +50,17 @@ pub fn add_line(
     let stream = vectors_text::number_at(text, at);
     let size = vectors_text::number_at(text, stream.next);
     vectors_text::bytes_at(text, size.next, &mut portion);
-    add_first(
+    let n = bytes_of(size.value, &portion);
+    let added = add(
         stream.value,
-        &portion,
-        size.value,
+        &portion[..n],
         marks,
         places,
         heads,
         spans,
         window,
     );
+    answers::print_added(added);
 }
 
 // Opens the streams that a line holds; answers how many streams the heap holds after it.
@@ -107,8 +92,10 @@ pub fn open_line(
     answers::print_opening(opening, held)
 }
 
-// Asks for the next answer; answers how many streams the heap holds after it.
-pub fn next_line(
+// Makes the run that a line holds, with a list of 9s; answers how many streams the heap holds after it.
+pub fn run_line(
+    text: &[u8],
+    at: usize,
     held: usize,
     marks: &mut [u8],
     times: &mut [u64],
@@ -118,17 +105,25 @@ pub fn next_line(
     spans: &mut [u64],
     window: &[u8],
 ) -> usize {
-    let turned = next(window, held, marks, times, places, heads, heap, spans);
-    let answer = turned.answer;
-    answers::print_fed(window, answer);
-    turned.held
-}
-
-// Says that the stream of a line has ended.
-pub fn end_line(text: &[u8], at: usize, marks: &[u8], spans: &mut [u64]) {
-    let stream = vectors_text::number_at(text, at);
-    let ended = end(stream.value, marks, spans);
-    answers::print_ended(ended);
+    let mut list = list_space();
+    let allowance = vectors_text::number_at(text, at);
+    let asked = vectors_text::number_at(text, allowance.next);
+    let words = words_of(asked.value, &list);
+    let made = run(
+        window,
+        held,
+        marks,
+        times,
+        places,
+        heads,
+        heap,
+        spans,
+        allowance.value as usize,
+        &mut list[..words],
+    );
+    let after = made.held;
+    answers::print_ran(made, &list, words);
+    after
 }
 
 // Lays the place of stream 0.

@@ -10,23 +10,14 @@ fn space() -> [u8; 60001]
     [0; 60001]
 }
 
-// Prints the replay of the first n bytes.
-fn show(bytes: &[u8], n: u64, text: &mut [u8]) {
-    if (bytes.len() as u64) < n {
-        io::write_all(1, b"no such length\n");
-        return;
-    }
-    let size = n as usize;
-    match replay_text::replay::replay(&bytes[..size], text) {
+// Prints the replay of a bundle.
+fn show(bundle: &[u8], text: &mut [u8]) {
+    match replay_text::replay::replay(bundle, text) {
         Replayed::Text(k) => {
-            if k <= text.len() {
-                io::write_all(1, &text[..k]);
-            }
+            let written = vectors_merge::bytes_of(k as u64, text);
+            io::write_all(1, &text[..written]);
         }
-        Replayed::Refused(refusal) => {
-            io::print_decimal(1, leaves::refusal::number(refusal) as u64);
-            io::write_all(1, b"\n");
-        }
+        Replayed::Refused(refusal) => vectors_merge::print_refusal(refusal),
     }
 }
 
@@ -35,6 +26,7 @@ pub fn run(text: &[u8], at: usize) {
     let length = vectors_text::number_at(text, at);
     let mut bytes = space();
     vectors_text::bytes_at(text, length.next, &mut bytes);
+    let size = vectors_merge::bytes_of(length.value, &bytes);
     let mut out = replay_text::replay::text_space();
-    show(&bytes, length.value, &mut out);
+    show(&bytes[..size], &mut out);
 }

@@ -1,18 +1,10 @@
-// Runs the cases that stand on standard input, one to a line, over `replay_text` and `records`, and prints what they answer.
-// `= NAME` names what follows, and is printed. `b LENGTH HEX` is a bundle of so many bytes, those of HEX and then zeros: its replay.
-// `m COUNT hint.. COUNT cut.. HEX` are streams in one buffer with their hints: the answers of the merge to its end, and one more.
+// Runs the cases that stand on standard input, one to a line, over `replay_text`, `records` and `records_plain`, and prints what they
+// answer. `= NAME` names what follows, and is printed. `b LENGTH HEX` is a bundle of so many bytes, those of HEX and then zeros: its
+// replay. `m COUNT hint.. COUNT cut.. HEX` are streams in one buffer with their hints: the answers of the merge to its end, and one more,
+// by the heap, then, after a line `plain`, by the plain engine. `w` and such a case is the plain engine on memory that is not right.
 mod bundles;
 mod merges;
-
-ghost use mathlib.Core.Path.{_≡_};
-ghost use lib.ListN.{length};
-
-// Room for the whole data.
-fn room() -> [u8; 131072]
-    ensures { λ r. ⌜ 131072 ≡ length r ⌝ }
-{
-    [0; 131072]
-}
+mod plains;
 
 // Runs the case that a line holds.
 fn run_line(text: &[u8], at: usize) {
@@ -25,7 +17,10 @@ fn run_line(text: &[u8], at: usize) {
         bundles::run(text, rest);
     }
     if kind == b'm' {
-        merges::run(text, rest);
+        merges::run(text, rest, false);
+    }
+    if kind == b'w' {
+        merges::run(text, rest, true);
     }
 }
 
@@ -39,7 +34,7 @@ fn run(text: &[u8]) {
 }
 
 fn main() {
-    let mut data = room();
+    let mut data = vectors_merge::room();
     let n = io::read_full(0, &mut data);
     run(&data[..n]);
 }

@@ -1,4 +1,5 @@
-// A case that is a merge of streams with hints.
+// A case that is a merge of streams with hints: by the heap, then by the plain engine.
+use crate::plains;
 use records::merge::empty_bytes;
 use records::merge::empty_numbers;
 use records::merge::next;
@@ -7,12 +8,10 @@ use vectors_merge::buffer_space;
 use vectors_merge::calls_left;
 use vectors_merge::numbers_space;
 use vectors_merge::print_turn;
-use vectors_merge::read_numbers;
+use vectors_merge::read_case;
 use vectors_merge::start_of;
-ghost use Prim.Native.Nat.{_≤_};
-ghost use lib.ListN.{length};
 
-// Opens the streams, with arrays of its own, and prints the answers to the end, and one more; or the refusal.
+// Opens the streams, with arrays of its own, and prints the heap's answers to the end, and one more; or the refusal.
 fn merge(buffer: &[u8], cuts: &[u64], hints: &[u64]) {
     let mut marks = empty_bytes();
     let mut times = empty_numbers();
@@ -49,20 +48,20 @@ fn merge(buffer: &[u8], cuts: &[u64], hints: &[u64]) {
     }
 }
 
-// The parts of a case that are in use.
-fn merge_parts(buffer: &[u8], size: usize, cuts: &[u64], cut: usize, hints: &[u64], hinted: usize)
-    requires { ⌜ (size ≤ length (now buffer)) × (cut ≤ length (now cuts)) × (hinted ≤ length (now hints)) ⌝ }
-{
-    merge(&buffer[..size], &cuts[..cut], &hints[..hinted]);
-}
-
-// Runs the case at a place: hints, cuts and the buffer.
-pub fn run(text: &[u8], at: usize) {
+// Runs the case at a place, hints, cuts and the buffer, by both engines, or by the plain one on memory that is not right.
+pub fn run(text: &[u8], at: usize, wrong: bool) {
     let mut hints = numbers_space();
     let mut cuts = numbers_space();
     let mut buffer = buffer_space();
-    let hinted = read_numbers(text, at, &mut hints);
-    let cut = read_numbers(text, hinted.next, &mut cuts);
-    let bytes = vectors_text::bytes_at(text, cut.next, &mut buffer);
-    merge_parts(&buffer, bytes.count, &cuts, cut.count, &hints, hinted.count);
+    let case = read_case(text, at, &mut hints, &mut cuts, &mut buffer);
+    let hinted = case.first;
+    let cut = case.second;
+    let size = case.bytes;
+    if wrong {
+        plains::wrong(&buffer[..size], &cuts[..cut], &hints[..hinted]);
+        return;
+    }
+    merge(&buffer[..size], &cuts[..cut], &hints[..hinted]);
+    io::write_all(1, b"plain\n");
+    plains::merge(&buffer[..size], &cuts[..cut], &hints[..hinted]);
 }

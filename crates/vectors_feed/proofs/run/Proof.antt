@@ -42,26 +42,26 @@ window-space-requires c κs = search needs
 loop-holds : tie.Need-loop-holds Inv-loop μ-loop
 loop-holds c = (refl, search needs, search needs, search needs, search needs, search needs, search needs)
 
-slice-aggregate-run-line : tie.Need-slice-aggregate-run-line Inv-loop μ-loop
-slice-aggregate-run-line c = search needs
+slice-aggregate-call-line : tie.Need-slice-aggregate-call-line Inv-loop μ-loop
+slice-aggregate-call-line c = search needs
 
-slice-aggregate-run-line-2 : tie.Need-slice-aggregate-run-line-2 Inv-loop μ-loop
-slice-aggregate-run-line-2 c = search needs
+slice-aggregate-call-line-2 : tie.Need-slice-aggregate-call-line-2 Inv-loop μ-loop
+slice-aggregate-call-line-2 c = search needs
 
-slice-aggregate-run-line-3 : tie.Need-slice-aggregate-run-line-3 Inv-loop μ-loop
-slice-aggregate-run-line-3 c = search needs
+slice-aggregate-call-line-3 : tie.Need-slice-aggregate-call-line-3 Inv-loop μ-loop
+slice-aggregate-call-line-3 c = search needs
 
-slice-aggregate-run-line-4 : tie.Need-slice-aggregate-run-line-4 Inv-loop μ-loop
-slice-aggregate-run-line-4 c = search needs
+slice-aggregate-call-line-4 : tie.Need-slice-aggregate-call-line-4 Inv-loop μ-loop
+slice-aggregate-call-line-4 c = search needs
 
-slice-aggregate-run-line-5 : tie.Need-slice-aggregate-run-line-5 Inv-loop μ-loop
-slice-aggregate-run-line-5 c = search needs
+slice-aggregate-call-line-5 : tie.Need-slice-aggregate-call-line-5 Inv-loop μ-loop
+slice-aggregate-call-line-5 c = search needs
 
-slice-aggregate-run-line-6 : tie.Need-slice-aggregate-run-line-6 Inv-loop μ-loop
-slice-aggregate-run-line-6 c = search needs
+slice-aggregate-call-line-6 : tie.Need-slice-aggregate-call-line-6 Inv-loop μ-loop
+slice-aggregate-call-line-6 c = search needs
 
-run-line-requires : tie.Need-run-line-requires Inv-loop μ-loop
-run-line-requires c κs = search needs
+call-line-requires : tie.Need-call-line-requires Inv-loop μ-loop
+call-line-requires c κs = search needs
 
 next-line-requires : tie.Need-next-line-requires Inv-loop μ-loop
 next-line-requires c κs = search needs
@@ -91,13 +91,13 @@ run-spec =
     empty-numbers-requires-4
     window-space-requires
     loop-holds
-    slice-aggregate-run-line
-    slice-aggregate-run-line-2
-    slice-aggregate-run-line-3
-    slice-aggregate-run-line-4
-    slice-aggregate-run-line-5
-    slice-aggregate-run-line-6
-    run-line-requires
+    slice-aggregate-call-line
+    slice-aggregate-call-line-2
+    slice-aggregate-call-line-3
+    slice-aggregate-call-line-4
+    slice-aggregate-call-line-5
+    slice-aggregate-call-line-6
+    call-line-requires
     next-line-requires
     loop-less
     loop-again

@@ -12,8 +12,11 @@ empty-bytes-requires c κs = search needs
 few-bytes-requires : tie.Need-few-bytes-requires
 few-bytes-requires c κs = search needs
 
-few-from-requires : tie.Need-few-from-requires
-few-from-requires c κs = search needs
+slice-aggregate-group-from : tie.Need-slice-aggregate-group-from
+slice-aggregate-group-from c = search needs
+
+group-from-requires : tie.Need-group-from-requires
+group-from-requires c κs = search needs
 
 slice-aggregate-run : tie.Need-slice-aggregate-run
 slice-aggregate-run c = sym (length-take-le _ _ (omega arith))
@@ -51,7 +54,8 @@ run-text-spec =
     (tie.spec
     empty-bytes-requires
     few-bytes-requires
-    few-from-requires
+    slice-aggregate-group-from
+    group-from-requires
     slice-aggregate-run
     slice-aggregate-run-2
     run-requires

@@ -1,8 +1,9 @@
 -- Loop: so many numbers are read, and the length stays. Assumes nothing.
 use native.Mathlib.Omega.{arith}
-use mathlib.Core.Path.{_≡_}
+use mathlib.Core.Path.{_≡_, sym}
 use Prim.Native.Nat.{_≤_, _-_}
 use lib.ListN.{length, length-set}
+use lib.Seq.{length-take-le}
 use borrow.Author.Needs.{needs}
 use Rattle.vectors_merge.proofs.read_numbers.Statement.{statement}
 use Rattle.vectors_merge.proofs.read_numbers.Tie as tie
@@ -23,7 +24,7 @@ same-length : tie.Need-same-length Inv-loop μ-loop
 same-length c = search needs
 
 returns : tie.Need-returns Inv-loop μ-loop
-returns c = search needs
+returns c = (c .before .before .before .loop .inv .0, sym (length-take-le _ _ (c .before .before .before .loop .inv .0)))
 
 number-at-requires-2 : tie.Need-number-at-requires-2 Inv-loop μ-loop
 number-at-requires-2 c κs = search needs
@@ -47,7 +48,7 @@ same-length-2 : tie.Need-same-length-2 Inv-loop μ-loop
 same-length-2 c = search needs
 
 returns-2 : tie.Need-returns-2 Inv-loop μ-loop
-returns-2 c = search needs
+returns-2 c = (c .before .loop .inv .0, sym (length-take-le _ _ (c .before .loop .inv .0)))
 
 pub read-numbers-spec : {M : Type 1} → statement M
 read-numbers-spec =

@@ -3,8 +3,8 @@ use mathlib.Core.Path.{_≡_}
 use native.Mathlib.Omega.{arith}
 use lib.ListN.{length}
 use borrow.Author.Needs.{needs}
-use Rattle.vectors_plain.proofs.plains.merge.Statement.{statement}
-use Rattle.vectors_plain.proofs.plains.merge.Tie as tie
+use Rattle.vectors_records.proofs.plains.merge.Statement.{statement}
+use Rattle.vectors_records.proofs.plains.merge.Tie as tie
 
 abbrev Inv-loop : tie.InvT-loop
 Inv-loop buffer cuts hints marks₀ times₀ places₀ heads₀ streams calls₀ marks times places heads calls =
