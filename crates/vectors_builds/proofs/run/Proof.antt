@@ -1,4 +1,5 @@
 -- `vectors_builds::run` is safe and ends: the measure is what is left of the text, and each line takes some of it. Assumes nothing.
+use mathlib.Core.Path.{_≡_}
 use Prim.Native.Nat.{_-_}
 use lib.ListN.{length}
 use native.Mathlib.Omega.{arith}
@@ -7,10 +8,10 @@ use Rattle.vectors_builds.proofs.run.Statement.{statement}
 use Rattle.vectors_builds.proofs.run.Tie as tie
 
 abbrev Inv-loop : tie.InvT-loop
-Inv-loop text name over-time tally₀ at₀ tally at = Unit {0}
+Inv-loop text name over-time table₀ intervals₀ tally₀ at₀ table intervals tally at = (length table ≡ length table₀) × (length intervals ≡ length intervals₀)
 
 abbrev μ-loop : tie.MeasureT-loop
-μ-loop text name over-time tally₀ at₀ tally at = length text - at
+μ-loop text name over-time table₀ intervals₀ tally₀ at₀ table intervals tally at = length text - at
 
 group-from-requires : tie.Need-group-from-requires Inv-loop μ-loop
 group-from-requires c κs = search needs
@@ -39,6 +40,12 @@ loop-again c = search needs
 print-group-requires : tie.Need-print-group-requires Inv-loop μ-loop
 print-group-requires c κs = search needs
 
+same-length : tie.Need-same-length Inv-loop μ-loop
+same-length c = search needs
+
+same-length-2 : tie.Need-same-length-2 Inv-loop μ-loop
+same-length-2 c = search needs
+
 returns : tie.Need-returns Inv-loop μ-loop
 returns c = search needs
 
@@ -57,4 +64,6 @@ run-spec =
     loop-less
     loop-again
     print-group-requires
+    same-length
+    same-length-2
     returns)
