@@ -6,13 +6,6 @@ use vectors_text::Tally;
 ghost use mathlib.Core.Path.{_≡_};
 ghost use lib.ListN.{length};
 
-// Room for the whole data.
-fn room() -> [u8; 262144]
-    ensures { λ r. ⌜ 262144 ≡ length r ⌝ }
-{
-    [0; 262144]
-}
-
 // Room for a table over time of 65,537 places.
 fn table_room() -> [u8; 1572888]
     ensures { λ r. ⌜ 1572888 ≡ length r ⌝ }
@@ -28,12 +21,14 @@ fn intervals_room() -> [u32; 196611]
 }
 
 // Runs the lines of one kind and prints the group's line.
-fn run(text: &[u8], name: &[u8], over_time: bool, table: &mut [u8], intervals: &mut [u32]) {
+fn run(text: &[u8], name: &[u8], over_time: bool) {
+    let mut table = table_room();
+    let mut intervals = intervals_room();
     let mut tally = Tally { cases: 0, wrong: 0 };
     let mut at = vectors_text::group_from(text, 0, name);
     while at < text.len() {
         let place = vectors_text::word_end(text, at);
-        let right = calls::is_right(text, place, over_time, table, intervals);
+        let right = calls::is_right(text, place, over_time, &mut table, &mut intervals);
         tally = vectors_text::heard(tally, text, at, right);
         at = vectors_text::group_next(text, at, name);
     }
@@ -41,19 +36,11 @@ fn run(text: &[u8], name: &[u8], over_time: bool, table: &mut [u8], intervals: &
 }
 
 fn main() {
-    let mut data = room();
-    let mut table = table_room();
-    let mut intervals = intervals_room();
+    let mut data = vectors_text::data_room();
     let n = io::read_full(0, &mut data);
     let text = &data[..n];
-    run(text, b"over_time", true, &mut table, &mut intervals);
-    run(text, b"point_in_time", false, &mut table, &mut intervals);
-    run(text, b"dbn_over_time", true, &mut table, &mut intervals);
-    run(
-        text,
-        b"dbn_point_in_time",
-        false,
-        &mut table,
-        &mut intervals,
-    );
+    run(text, b"over_time", true);
+    run(text, b"point_in_time", false);
+    run(text, b"dbn_over_time", true);
+    run(text, b"dbn_point_in_time", false);
 }

@@ -8,10 +8,16 @@ use Rattle.vectors_builds.proofs.run.Statement.{statement}
 use Rattle.vectors_builds.proofs.run.Tie as tie
 
 abbrev Inv-loop : tie.InvT-loop
-Inv-loop text name over-time table₀ intervals₀ tally₀ at₀ table intervals tally at = (length table ≡ length table₀) × (length intervals ≡ length intervals₀)
+Inv-loop text name over-time table₀ intervals₀ tally₀ at₀ table intervals tally at = (1572888 ≡ length table) × (196611 ≡ length intervals)
 
 abbrev μ-loop : tie.MeasureT-loop
 μ-loop text name over-time table₀ intervals₀ tally₀ at₀ table intervals tally at = length text - at
+
+table-room-requires : tie.Need-table-room-requires Inv-loop μ-loop
+table-room-requires c κs = search needs
+
+intervals-room-requires : tie.Need-intervals-room-requires Inv-loop μ-loop
+intervals-room-requires c κs = search needs
 
 group-from-requires : tie.Need-group-from-requires Inv-loop μ-loop
 group-from-requires c κs = search needs
@@ -21,6 +27,12 @@ loop-holds c = search needs
 
 word-end-requires : tie.Need-word-end-requires Inv-loop μ-loop
 word-end-requires c κs = search needs
+
+slice-aggregate-is-right : tie.Need-slice-aggregate-is-right Inv-loop μ-loop
+slice-aggregate-is-right c = search needs
+
+slice-aggregate-is-right-2 : tie.Need-slice-aggregate-is-right-2 Inv-loop μ-loop
+slice-aggregate-is-right-2 c = search needs
 
 is-right-requires : tie.Need-is-right-requires Inv-loop μ-loop
 is-right-requires c κs = search needs
@@ -40,12 +52,6 @@ loop-again c = search needs
 print-group-requires : tie.Need-print-group-requires Inv-loop μ-loop
 print-group-requires c κs = search needs
 
-same-length : tie.Need-same-length Inv-loop μ-loop
-same-length c = search needs
-
-same-length-2 : tie.Need-same-length-2 Inv-loop μ-loop
-same-length-2 c = search needs
-
 returns : tie.Need-returns Inv-loop μ-loop
 returns c = search needs
 
@@ -55,15 +61,17 @@ run-spec =
     (tie.spec
     Inv-loop
     μ-loop
+    table-room-requires
+    intervals-room-requires
     group-from-requires
     loop-holds
     word-end-requires
+    slice-aggregate-is-right
+    slice-aggregate-is-right-2
     is-right-requires
     heard-requires
     group-next-requires
     loop-less
     loop-again
     print-group-requires
-    same-length
-    same-length-2
     returns)
