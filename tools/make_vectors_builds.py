@@ -2,8 +2,8 @@
 """Writes the cases of vectors_builds: oracle/build && python3 tools/make_vectors_builds.py > crates/vectors_builds/stdin
 
 Four sources, in this order: the traps of docs/TRAPS.md with the answers written beside them (oracle/traps.py); builds
-with one way to earn a refusal and, drawn from all pairs, with two, at one place or at two, the answer written here by
-the rules' order and held against the plain model; lent memory drawn by oracle/lent.py and answered by the model
+with one way to earn a refusal and, drawn from all pairs, with two, at one place or at two, and builds at the limits, the
+answer written here by the rules' order and held against the plain model; lent memory drawn by oracle/lent.py and answered by the model
 (oracle/model.py); and builds answered by dbn's own code (oracle/driver.rs), of one metadata and of several that dbn merged.
 dbn's answers are held against the model, too. In merged metadata each name has instruments of its own: where two names
 reach one, dbn's answer changes from run to run, since its merged mappings stand in a hash's order.
@@ -306,6 +306,19 @@ def rules(rng):
         expect(build, 0, [FIRST[date], SECOND[date]])
 
 
+def limits():
+    """Of nothing: tables of as many places as there may be and one more, and memory of one interval more than there may be."""
+    for date in (None, D2):
+        build = good(False, date)
+        build.metadata = laid(Metadata(3, 0, 4, 5, 0, 7, 1, 0, 0, 71, [], [], [], []), [1, 1, 1, 1, 1])
+        for number, places in ((0, 65_536), (15, 65_537)):
+            build.length = places * build.width()
+            expect(build, number)
+        build.length = ROOM * build.width()
+        build.metadata.lists[4] = [0] * (WIDTHS[4] * 65_537)
+        expect(build, 15)
+
+
 # Lent memory that the model answers.
 
 
@@ -397,6 +410,8 @@ for trap, (case, said) in traps.traps():
 rng = random.Random(1)
 print("# Refusals and their order")
 rules(rng)
+print("# At the limits, and one over them")
+limits()
 print("# Lent memory, answered by the model")
 drawn(rng, 0, 300, 4)
 drawn(rng, 0.3, 600, 3)

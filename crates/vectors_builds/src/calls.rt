@@ -15,15 +15,9 @@ ghost use Rattle.vectors_side.specs.Sides.{Within};
 ghost use Rattle.vectors_builds.specs.Memory.{Listed};
 
 // Which build: over time, or for a date.
-pub enum Call {
+enum Call {
     OverTime,
     PointInTime(u32),
-}
-
-// What a build says: its number, and how many places are in use, 0 where it is refused.
-pub struct Said {
-    pub number: u64,
-    pub used: u64,
 }
 
 // A name list: what is in use, the lengths of its memory, and the place behind it in the text.
@@ -35,14 +29,11 @@ pub struct Names {
     pub next: usize,
 }
 
-// The most bytes of a table here.
-const TABLE: usize = 1024;
-
-// A table of one byte throughout.
-fn filled(byte: u8) -> [u8; 1024]
+// What a table in use is compared with: no case has more bytes of it.
+fn expected_bytes() -> [u8; 1024]
     ensures { λ r. ⌜ 1024 ≡ length r ⌝ }
 {
-    [byte; 1024]
+    [0; 1024]
 }
 
 // Memory for name list and metadata: one byte, name, entry and mapping more than the rules allow.
@@ -58,15 +49,8 @@ fn words() -> [u32; 8194]
     [0; 8194]
 }
 
-fn told(built: Built) -> Said {
-    Said {
-        number: number_of(built) as u64,
-        used: used_of(built) as u64,
-    }
-}
-
-// What a build on lent memory says.
-pub fn says(
+// What a build on lent memory answers.
+fn build(
     call: Call,
     table: &mut [u8],
     header: Header,
@@ -79,10 +63,10 @@ pub fn says(
     ends: &[u32],
     names: usize,
     name_bytes: usize,
-) -> Said {
+) -> Built {
     match call {
         Call::OverTime => {
-            let built = build_time::over_time::over_time(
+            build_time::over_time::over_time(
                 table,
                 header,
                 symbols,
@@ -94,11 +78,10 @@ pub fn says(
                 ends,
                 names,
                 name_bytes,
-            );
-            told(built)
+            )
         }
         Call::PointInTime(date) => {
-            let built = build_point::build::point_in_time(
+            build_point::build::point_in_time(
                 table,
                 header,
                 symbols,
@@ -111,8 +94,7 @@ pub fn says(
                 names,
                 name_bytes,
                 date,
-            );
-            told(built)
+            )
         }
     }
 }
@@ -135,67 +117,44 @@ fn names_at(text: &[u8], at: usize, bytes: &mut [u8], ends: &mut [u32]) -> Names
     }
 }
 
-// What a build says of the table and of the lent part of each list.
-fn builds(
-    call: Call,
-    table: &mut [u8],
-    list: Names,
-    bytes: &[u8],
-    ends: &[u32],
-    side: Side,
-    symbols: &[u32],
-    partial: &[u32],
-    not_found: &[u32],
-    mappings: &[u32],
-    intervals: &[u32],
-) -> Said
-    requires { ⌜ Listed list (length (now bytes)) (length (now ends)) ⌝ }
-    requires { ⌜ Within side (length (now symbols)) (length (now partial)) (length (now «not_found»)) (length (now mappings)) (length (now intervals)) ⌝ }
-{
-    let header = side.header;
-    let i = side.symbols;
-    let j = side.partial;
-    let k = side.not_found;
-    let m = side.mappings;
-    let v = side.intervals;
-    let b = list.bytes;
-    let e = list.ends;
-    says(
-        call,
-        table,
-        header,
-        &symbols[..i],
-        &partial[..j],
-        &not_found[..k],
-        &mappings[..m],
-        &intervals[..v],
-        &bytes[..b],
-        &ends[..e],
-        list.names,
-        list.name_bytes,
-    )
+// Lays 9 in every place of a table.
+fn lay_nines(table: &mut [u8]) {
+    let mut i = 0;
+    while i < table.len() {
+        table[i] = 9;
+        i += 1;
+    }
 }
 
-// Whether a build says what stands at a place, and leaves the bytes that stand behind it, and 0 in every other place.
-fn is_expected(text: &[u8], at: usize, said: Said, table: &[u8]) -> bool {
+// Whether a table holds these bytes, and 0 in every place behind them.
+fn holds(table: &[u8], expected: &[u8]) -> bool {
+    let mut i = 0;
+    while i < table.len() {
+        let byte = if i < expected.len() { expected[i] } else { 0 };
+        if table[i] != byte {
+            return false;
+        }
+        i += 1;
+    }
+    true
+}
+
+// Whether a build answers what stands at a place, and leaves the bytes that stand behind it, and 0 in every other place.
+fn is_expected(text: &[u8], at: usize, built: Built, table: &[u8]) -> bool {
     let number = vectors_text::number_at(text, at);
     let used = vectors_text::number_at(text, number.next);
-    if number.value != said.number {
+    if number.value != number_of(built) as u64 {
         return false;
     }
-    if used.value != said.used {
+    if used.value != used_of(built) as u64 {
         return false;
     }
-    let l = table.len();
-    if TABLE < l {
-        return false;
-    }
-    let mut expected = filled(0);
+    let mut expected = expected_bytes();
     vectors_text::bytes_at(text, used.next, &mut expected);
-    check::same(table, &expected[..l])
+    holds(table, &expected)
 }
 
-// Whether the build on a table and on the lists that were read is answered as expected.
+// Whether the build on a table, and on what is lent of the lists that were read, is answered as expected.
 fn is_so(
     text: &[u8],
     call: Call,
@@ -213,37 +172,45 @@ fn is_so(
     requires { ⌜ Listed list (length (now bytes)) (length (now ends)) ⌝ }
     requires { ⌜ Within side (length (now symbols)) (length (now partial)) (length (now «not_found»)) (length (now mappings)) (length (now intervals)) ⌝ }
 {
-    let said = builds(
+    lay_nines(table);
+    let header = side.header;
+    let i = side.symbols;
+    let j = side.partial;
+    let k = side.not_found;
+    let m = side.mappings;
+    let v = side.intervals;
+    let b = list.bytes;
+    let e = list.ends;
+    let built = build(
         call,
         table,
-        list,
-        bytes,
-        ends,
-        side,
-        symbols,
-        partial,
-        not_found,
-        mappings,
-        intervals,
+        header,
+        &symbols[..i],
+        &partial[..j],
+        &not_found[..k],
+        &mappings[..m],
+        &intervals[..v],
+        &bytes[..b],
+        &ends[..e],
+        list.names,
+        list.name_bytes,
     );
     let behind = vectors_text::past_equals(text, side.next);
-    is_expected(text, behind, said, table)
+    is_expected(text, behind, built, table)
 }
 
-// Whether the build at a place of the text is answered as expected.
-fn is_built(text: &[u8], at: usize, call: Call) -> bool {
+// Whether the build at a place of the text is answered as expected; table and intervals have room for the longest that a case lends.
+fn is_built(text: &[u8], at: usize, call: Call, table: &mut [u8], intervals: &mut [u32]) -> bool {
     let mut b = list_bytes();
     let mut e = words();
     let mut s = words();
     let mut p = words();
     let mut n = words();
     let mut m = words();
-    let mut v = words();
     let lent = vectors_text::number_at(text, at);
     let names = names_at(text, lent.next, &mut b, &mut e);
-    let a = side_at(text, names.next, &mut s, &mut p, &mut n, &mut m, &mut v);
-    let mut table = filled(9);
-    let l = at_most(lent.value, TABLE);
+    let a = side_at(text, names.next, &mut s, &mut p, &mut n, &mut m, intervals);
+    let l = at_most(lent.value, table.len());
     is_so(
         text,
         call,
@@ -256,15 +223,22 @@ fn is_built(text: &[u8], at: usize, call: Call) -> bool {
         &p,
         &n,
         &m,
-        &v,
+        intervals,
     )
 }
 
 // A line `TABLE NAMES METADATA = NUMBER`, behind 0 the places in use and their bytes; point in time, the date comes first.
-pub fn is_right(text: &[u8], at: usize, over_time: bool) -> bool {
+pub fn is_right(
+    text: &[u8],
+    at: usize,
+    over_time: bool,
+    table: &mut [u8],
+    intervals: &mut [u32],
+) -> bool {
     if over_time {
-        return is_built(text, at, Call::OverTime);
+        return is_built(text, at, Call::OverTime, table, intervals);
     }
     let date = vectors_text::number_at(text, at);
-    is_built(text, date.next, Call::PointInTime(narrow(date.value)))
+    let call = Call::PointInTime(narrow(date.value));
+    is_built(text, date.next, call, table, intervals)
 }

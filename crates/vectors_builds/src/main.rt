@@ -1,26 +1,34 @@
 // Runs the cases that stand on standard input over both builds, and prints a line for each kind of them. The data itself says
-// what a line means; a case that is answered otherwise than expected is printed. Tables and intervals over their limits are tried
-// by calls.
+// what a line means; a case that is answered otherwise than expected is printed.
 mod calls;
-mod limits;
 
 use vectors_text::Tally;
 ghost use mathlib.Core.Path.{_≡_};
 ghost use lib.ListN.{length};
 
-// Room for the whole data.
-fn room() -> [u8; 262144]
-    ensures { λ r. ⌜ 262144 ≡ length r ⌝ }
+// Room for a table over time of 65,537 places.
+fn table_room() -> [u8; 1572888]
+    ensures { λ r. ⌜ 1572888 ≡ length r ⌝ }
 {
-    [0; 262144]
+    [0; 1572888]
+}
+
+// Room for 65,537 intervals.
+fn intervals_room() -> [u32; 196611]
+    ensures { λ r. ⌜ 196611 ≡ length r ⌝ }
+{
+    [0; 196611]
 }
 
 // Runs the lines of one kind and prints the group's line.
 fn run(text: &[u8], name: &[u8], over_time: bool) {
+    let mut table = table_room();
+    let mut intervals = intervals_room();
     let mut tally = Tally { cases: 0, wrong: 0 };
     let mut at = vectors_text::group_from(text, 0, name);
     while at < text.len() {
-        let right = calls::is_right(text, vectors_text::word_end(text, at), over_time);
+        let place = vectors_text::word_end(text, at);
+        let right = calls::is_right(text, place, over_time, &mut table, &mut intervals);
         tally = vectors_text::heard(tally, text, at, right);
         at = vectors_text::group_next(text, at, name);
     }
@@ -28,12 +36,11 @@ fn run(text: &[u8], name: &[u8], over_time: bool) {
 }
 
 fn main() {
-    let mut data = room();
+    let mut data = vectors_text::data_room();
     let n = io::read_full(0, &mut data);
     let text = &data[..n];
     run(text, b"over_time", true);
     run(text, b"point_in_time", false);
     run(text, b"dbn_over_time", true);
     run(text, b"dbn_point_in_time", false);
-    limits::run();
 }

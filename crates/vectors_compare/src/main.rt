@@ -5,13 +5,6 @@ use vectors_text::Tally;
 ghost use mathlib.Core.Path.{_≡_};
 ghost use lib.ListN.{length};
 
-// Room for the whole data.
-fn data_room() -> [u8; 32768]
-    ensures { λ r. ⌜ 32768 ≡ length r ⌝ }
-{
-    [0; 32768]
-}
-
 // Room for the lent bytes of one case.
 fn room() -> [u8; 1024]
     ensures { λ r. ⌜ 1024 ≡ length r ⌝ }
@@ -101,7 +94,7 @@ fn run(text: &[u8], name: &[u8]) {
 }
 
 fn main() {
-    let mut data = data_room();
+    let mut data = vectors_text::data_room();
     let n = io::read_full(0, &mut data);
     let text = &data[..n];
     run(text, b"compare");

@@ -6,13 +6,6 @@ use vectors_text::Tally;
 ghost use mathlib.Core.Path.{_≡_};
 ghost use lib.ListN.{length};
 
-// Room for the whole data.
-fn data_room() -> [u8; 16384]
-    ensures { λ r. ⌜ 16384 ≡ length r ⌝ }
-{
-    [0; 16384]
-}
-
 // Room for the lent bytes of one case.
 fn room() -> [u8; 256]
     ensures { λ r. ⌜ 256 ≡ length r ⌝ }
@@ -129,7 +122,7 @@ fn run(text: &[u8], name: &[u8]) {
 }
 
 fn main() {
-    let mut data = data_room();
+    let mut data = vectors_text::data_room();
     let n = io::read_full(0, &mut data);
     let text = &data[..n];
     run(text, b"explain");

@@ -6,15 +6,6 @@ mod frames;
 mod texts;
 
 use vectors_text::Tally;
-ghost use mathlib.Core.Path.{_≡_};
-ghost use lib.ListN.{length};
-
-// Room for the whole data.
-fn room() -> [u8; 262144]
-    ensures { λ r. ⌜ 262144 ≡ length r ⌝ }
-{
-    [0; 262144]
-}
 
 // Whether the case that a line holds is answered as expected. A line of no kind is not.
 fn is_right(text: &[u8], at: usize, kind: u8) -> bool {
@@ -54,7 +45,7 @@ fn run(name: &[u8], text: &[u8], kind: u8) {
 }
 
 fn main() {
-    let mut data = room();
+    let mut data = vectors_text::data_room();
     let n = io::read_full(0, &mut data);
     let text = &data[..n];
     run(b"months", text, b'm');

@@ -1,5 +1,6 @@
 // What the programs that run vectors share: a text of cases, one to a line, taken apart, and the lines that are printed.
 // Nothing here has a requires: a place past the text's end reads as the end of a line.
+ghost use mathlib.Core.Path.{_≡_};
 ghost use Prim.Native.Nat.{_+_, _≤_, _<_};
 ghost use lib.ListN.{length};
 ghost use Rattle.io.specs.Counts.{Counts};
@@ -8,6 +9,13 @@ ghost use Rattle.io.specs.Counts.{Counts};
 pub struct Token {
     pub value: u64,
     pub next: usize,
+}
+
+// Room for the whole data of a program.
+pub fn data_room() -> [u8; 262144]
+    ensures { λ r. ⌜ 262144 ≡ length r ⌝ }
+{
+    [0; 262144]
 }
 
 // The largest number; a row of digits that would pass it is cut there.

@@ -1,4 +1,5 @@
 -- `vectors_builds::run` is safe and ends: the measure is what is left of the text, and each line takes some of it. Assumes nothing.
+use mathlib.Core.Path.{_≡_}
 use Prim.Native.Nat.{_-_}
 use lib.ListN.{length}
 use native.Mathlib.Omega.{arith}
@@ -7,10 +8,16 @@ use Rattle.vectors_builds.proofs.run.Statement.{statement}
 use Rattle.vectors_builds.proofs.run.Tie as tie
 
 abbrev Inv-loop : tie.InvT-loop
-Inv-loop text name over-time tally₀ at₀ tally at = Unit {0}
+Inv-loop text name over-time table₀ intervals₀ tally₀ at₀ table intervals tally at = (1572888 ≡ length table) × (196611 ≡ length intervals)
 
 abbrev μ-loop : tie.MeasureT-loop
-μ-loop text name over-time tally₀ at₀ tally at = length text - at
+μ-loop text name over-time table₀ intervals₀ tally₀ at₀ table intervals tally at = length text - at
+
+table-room-requires : tie.Need-table-room-requires Inv-loop μ-loop
+table-room-requires c κs = search needs
+
+intervals-room-requires : tie.Need-intervals-room-requires Inv-loop μ-loop
+intervals-room-requires c κs = search needs
 
 group-from-requires : tie.Need-group-from-requires Inv-loop μ-loop
 group-from-requires c κs = search needs
@@ -20,6 +27,12 @@ loop-holds c = search needs
 
 word-end-requires : tie.Need-word-end-requires Inv-loop μ-loop
 word-end-requires c κs = search needs
+
+slice-aggregate-is-right : tie.Need-slice-aggregate-is-right Inv-loop μ-loop
+slice-aggregate-is-right c = search needs
+
+slice-aggregate-is-right-2 : tie.Need-slice-aggregate-is-right-2 Inv-loop μ-loop
+slice-aggregate-is-right-2 c = search needs
 
 is-right-requires : tie.Need-is-right-requires Inv-loop μ-loop
 is-right-requires c κs = search needs
@@ -48,9 +61,13 @@ run-spec =
     (tie.spec
     Inv-loop
     μ-loop
+    table-room-requires
+    intervals-room-requires
     group-from-requires
     loop-holds
     word-end-requires
+    slice-aggregate-is-right
+    slice-aggregate-is-right-2
     is-right-requires
     heard-requires
     group-next-requires

@@ -18,7 +18,7 @@ build-fits-requires : tie.Need-build-fits-requires
 build-fits-requires c κs = search needs
 
 same-length : tie.Need-same-length
-same-length c = search needs
+same-length c = c .before .before .before .before .clear .kept .0
 
 returns : tie.Need-returns
 returns c =
@@ -36,7 +36,7 @@ is-list-requires c κs =
     (a .bytes .now) (a .ends .now) (a .names) (a .name-bytes) (a .date) (c .before .before .before .before .before .before .points-fit .ensures) (c .before .build-fits .ensures) (c .if1 .left)
 
 same-length-2 : tie.Need-same-length-2
-same-length-2 c = search needs
+same-length-2 c = c .before .before .before .before .before .before .clear .kept .0
 
 returns-2 : tie.Need-returns-2
 returns-2 c =
@@ -82,7 +82,7 @@ clear-requires-2 : tie.Need-clear-requires-2
 clear-requires-2 c κs = search needs
 
 same-length-3 : tie.Need-same-length-3
-same-length-3 c = search needs
+same-length-3 c = c .before .before .before .before .before .before .before .before .before .before .clear .kept .0
 
 returns-3 : tie.Need-returns-3
 returns-3 c =

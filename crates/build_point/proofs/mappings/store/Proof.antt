@@ -23,7 +23,7 @@ returns-2 : tie.Need-returns-2
 returns-2 c = search (needs, store-skip)
 
 same-length : tie.Need-same-length
-same-length c = search needs
+same-length c = c .before .before .set-entry .kept .0
 
 returns-3 : tie.Need-returns-3
 returns-3 c = search (needs, store-set)

@@ -23,7 +23,7 @@ is-done-requires : tie.Need-is-done-requires
 is-done-requires c κs = search needs
 
 same-length : tie.Need-same-length
-same-length c = search needs
+same-length c = c .before .before .before .before .lay-mappings .kept .0
 
 returns : tie.Need-returns
 returns c =

@@ -41,7 +41,7 @@ returns-2 c =
     (c .before .before .step .ensures) (c .enum-told .given .1)
 
 same-length : tie.Need-same-length
-same-length c = search needs
+same-length c = c .before .before .before .before .before .enter .kept .0
 
 returns-3 : tie.Need-returns-3
 returns-3 c =
@@ -53,7 +53,7 @@ returns-3 c =
     (c5 .enter .ensures) (c .before .inserted .given .1)
 
 same-length-2 : tie.Need-same-length-2
-same-length-2 c = search needs
+same-length-2 c = c .before .before .before .before .before .enter .kept .0
 
 returns-4 : tie.Need-returns-4
 returns-4 c =

@@ -28,7 +28,7 @@ lay-intervals-requires-2 : tie.Need-lay-intervals-requires-2
 lay-intervals-requires-2 c κs = search needs
 
 same-length : tie.Need-same-length
-same-length c = search needs
+same-length c = c .before .before .lay-intervals .kept .0
 
 returns : tie.Need-returns
 returns c =
@@ -45,7 +45,7 @@ returns-2 c =
     (c .before .before .before .instrument-of .ensures) (c .before .read .given .1)
 
 same-length-2 : tie.Need-same-length-2
-same-length-2 c = search needs
+same-length-2 c = c .before .before .lay-intervals2 .kept .0
 
 returns-3 : tie.Need-returns-3
 returns-3 c =

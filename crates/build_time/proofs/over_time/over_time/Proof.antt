@@ -20,7 +20,7 @@ build-fits-requires : tie.Need-build-fits-requires
 build-fits-requires c κs = ap (λ (q : Lengths). q .mappings) (c .lengths-by .ensures)
 
 same-length : tie.Need-same-length
-same-length c = search needs
+same-length c = c .before .before .before .before .before .clear .kept .0
 
 returns : tie.Need-returns
 returns c =
@@ -39,7 +39,7 @@ is-list-requires c κs =
     (c .before .before .before .before .before .before .before .table-fits .ensures) (c .before .build-fits .ensures) (c .if1 .left)
 
 same-length-2 : tie.Need-same-length-2
-same-length-2 c = search needs
+same-length-2 c = c .before .before .before .before .before .before .before .clear .kept .0
 
 returns-2 : tie.Need-returns-2
 returns-2 c =

@@ -18,7 +18,7 @@ number-requires : tie.Need-number-requires
 number-requires c κs = search needs
 
 same-length : tie.Need-same-length
-same-length c = search needs
+same-length c = c .before .before .before .before .before .insert .kept .0
 
 returns : tie.Need-returns
 returns c =
@@ -31,7 +31,7 @@ returns c =
     }
 
 same-length-2 : tie.Need-same-length-2
-same-length-2 c = search needs
+same-length-2 c = c .before .before .before .before .before .before .insert .kept .0
 
 returns-2 : tie.Need-returns-2
 returns-2 c =

@@ -22,13 +22,13 @@ number-requires : tie.Need-number-requires
 number-requires c κs = search needs
 
 same-length : tie.Need-same-length
-same-length c = search needs
+same-length c = c .before .before .before .before .before .before .before .before .before .on-record .kept .0
 
 same-length-2 : tie.Need-same-length-2
-same-length-2 c = search needs
+same-length-2 c = c .before .before .before .before .before .before .before .before .before .on-record .kept .1 .1 .0
 
 same-length-3 : tie.Need-same-length-3
-same-length-3 c = search needs
+same-length-3 c = c .before .before .before .before .before .before .before .before .before .on-record .kept .1 .1 .1 .0
 
 returns : tie.Need-returns
 returns c =
@@ -37,13 +37,13 @@ returns c =
     tells-done (a .used .now) (a .names .now) (a .name-bytes .now) (a .reason .now) (c .before .before .before .before .before .before .before .before .before .on-record .ensures) e
 
 same-length-4 : tie.Need-same-length-4
-same-length-4 c = search needs
+same-length-4 c = c .before .before .before .before .before .before .before .before .before .before .before .before .on-record .kept .0
 
 same-length-5 : tie.Need-same-length-5
-same-length-5 c = search needs
+same-length-5 c = c .before .before .before .before .before .before .before .before .before .before .before .before .on-record .kept .1 .1 .0
 
 same-length-6 : tie.Need-same-length-6
-same-length-6 c = search needs
+same-length-6 c = c .before .before .before .before .before .before .before .before .before .before .before .before .on-record .kept .1 .1 .1 .0
 
 returns-2 : tie.Need-returns-2
 returns-2 c =

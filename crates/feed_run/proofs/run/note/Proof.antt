@@ -22,7 +22,7 @@ enum-known-answer-3 : tie.Need-enum-known-answer-3
 enum-known-answer-3 c = search needs
 
 same-length : tie.Need-same-length
-same-length c = search needs
+same-length c = c .before .before .put-row .kept .0
 
 returns : tie.Need-returns
 returns c = λ kept x e.

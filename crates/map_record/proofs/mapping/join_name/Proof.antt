@@ -42,10 +42,10 @@ add-t18 c =
     omega (arith, l .places (c .before .before .before .before .before .before .before .if1 .taken))
 
 same-length : tie.Need-same-length
-same-length c = search needs
+same-length c = c .before .before .before .before .add-name .kept .0
 
 same-length-2 : tie.Need-same-length-2
-same-length-2 c = search needs
+same-length-2 c = c .before .before .before .before .add-name .kept .1 .0
 
 returns : tie.Need-returns
 returns c =

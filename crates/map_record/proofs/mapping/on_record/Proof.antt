@@ -28,7 +28,7 @@ join-name-requires : tie.Need-join-name-requires
 join-name-requires c κs = c .before .before .before .before .before .before .before .before .before .judge .ensures .1 .placed
 
 same-length : tie.Need-same-length
-same-length c = search needs
+same-length c = c .before .before .before .before .before .insert-planned .kept .0
 
 same-length-2 : tie.Need-same-length-2
 same-length-2 c = search needs
@@ -44,13 +44,13 @@ returns c =
     (c .before .inserted .given .0 .0) (sym (ap insertedOf (c .before .inserted .given .1)))
 
 same-length-4 : tie.Need-same-length-4
-same-length-4 c = search needs
+same-length-4 c = c .before .before .before .before .before .before .before .before .before .before .before .before .insert-planned .kept .0
 
 same-length-5 : tie.Need-same-length-5
-same-length-5 c = search needs
+same-length-5 c = c .before .before .before .before .join-name .kept .0
 
 same-length-6 : tie.Need-same-length-6
-same-length-6 c = search needs
+same-length-6 c = c .before .before .before .before .join-name .kept .1 .0
 
 returns-2 : tie.Need-returns-2
 returns-2 c =

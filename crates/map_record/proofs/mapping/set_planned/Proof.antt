@@ -23,7 +23,7 @@ returns-2 : tie.Need-returns-2
 returns-2 c = sets-refused _ _ (c .before .plan .given .1)
 
 same-length : tie.Need-same-length
-same-length c = search needs
+same-length c = c .before .before .set-entry .kept .0
 
 returns-3 : tie.Need-returns-3
 returns-3 c = sets-entry _ _ (c .before .before .before .before .before .plan2 .given .1) (c .before .before .set-entry .ensures)

@@ -15,7 +15,7 @@ add-all-requires : tie.Need-add-all-requires
 add-all-requires c κs = (omega arith, c .before .before .before .before .pre .2, c .before .before .before .before .pre .0, marked-none 4096)
 
 same-length : tie.Need-same-length
-same-length c = search needs
+same-length c = c .before .before .before .add-all .kept .0
 
 returns : tie.Need-returns
 returns c = all-alone _ (now (c .before .before .before .before .before .before .before .before .args .out)) _ _ _ (c .before .before .before .add-all .ensures)

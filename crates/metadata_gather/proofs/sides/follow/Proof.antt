@@ -34,10 +34,10 @@ lay-places-requires c κs =
     (c .before .before .before .before .before .count-up .ensures) _ _ _ _ (c14 .pre) (omega (arith, c14 .pre .count)) (omega (arith, c14 .pre .count))
 
 same-length : tie.Need-same-length
-same-length c = search needs
+same-length c = c .before .before .before .before .lay-places .kept .1 .1 .1 .1 .1 .0
 
 same-length-2 : tie.Need-same-length-2
-same-length-2 c = search needs
+same-length-2 c = c .before .before .before .before .lay-places .kept .1 .1 .1 .1 .1 .1 .1 .0
 
 returns : tie.Need-returns
 returns c =

@@ -36,10 +36,10 @@ add-result : tie.Need-add-result
 add-result c = search needs
 
 same-length : tie.Need-same-length
-same-length c = search needs
+same-length c = c .before .before .before .before .before .before .put-mapping .kept .0
 
 same-length-2 : tie.Need-same-length-2
-same-length-2 c = search needs
+same-length-2 c = c .before .before .copy-intervals .kept .1 .1 .1 .0
 
 returns : tie.Need-returns
 returns c =

@@ -77,16 +77,16 @@ heapify-requires c κs =
     omega (arith, count .1, room, kept .0, kept .1 .0, kept .1 .1 .0, kept .1 .1 .1 .0, kept .1 .1 .1 .1 .0)
 
 same-length : tie.Need-same-length
-same-length c = search needs
+same-length c = c .before .before .before .before .before .before .before .before .before .before .before .before .before .before .before .lay-streams .kept .1 .1 .0
 
 same-length-2 : tie.Need-same-length-2
-same-length-2 c = search needs
+same-length-2 c = c .before .before .before .before .before .before .before .before .before .before .before .before .before .before .before .lay-streams .kept .1 .1 .1 .0
 
 same-length-3 : tie.Need-same-length-3
-same-length-3 c = search needs
+same-length-3 c = c .before .before .before .before .before .before .before .before .before .before .before .before .before .before .before .lay-streams .kept .1 .1 .1 .1 .0
 
 same-length-4 : tie.Need-same-length-4
-same-length-4 c = search needs
+same-length-4 c = c .before .before .before .before .before .before .before .before .before .before .before .before .before .before .before .lay-streams .kept .1 .1 .1 .1 .1 .0
 
 same-length-5 : tie.Need-same-length-5
 same-length-5 c = search needs

@@ -19,7 +19,7 @@ enum-known-answer-2 : tie.Need-enum-known-answer-2
 enum-known-answer-2 c = search needs
 
 same-length : tie.Need-same-length
-same-length c = search needs
+same-length c = c .before .before .put-row .kept .0
 
 returns : tie.Need-returns
 returns c = λ x e.

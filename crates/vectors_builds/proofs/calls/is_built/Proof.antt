@@ -24,9 +24,6 @@ words-requires-4 c κs = search needs
 words-requires-5 : tie.Need-words-requires-5
 words-requires-5 c κs = search needs
 
-words-requires-6 : tie.Need-words-requires-6
-words-requires-6 c κs = search needs
-
 number-at-requires : tie.Need-number-at-requires
 number-at-requires c κs = search needs
 
@@ -51,23 +48,17 @@ slice-aggregate-side-at-3 c = search needs
 slice-aggregate-side-at-4 : tie.Need-slice-aggregate-side-at-4
 slice-aggregate-side-at-4 c = search needs
 
-slice-aggregate-side-at-5 : tie.Need-slice-aggregate-side-at-5
-slice-aggregate-side-at-5 c = search needs
-
 side-at-requires : tie.Need-side-at-requires
 side-at-requires c κs = search needs
-
-filled-requires : tie.Need-filled-requires
-filled-requires c κs = search needs
 
 at-most-requires : tie.Need-at-most-requires
 at-most-requires c κs = search needs
 
-array-borrow-prefix-table : tie.Need-array-borrow-prefix-table
-array-borrow-prefix-table c = search needs
+slice-relend-prefix-is-so : tie.Need-slice-relend-prefix-is-so
+slice-relend-prefix-is-so c = search needs
 
 slice-aggregate-is-so : tie.Need-slice-aggregate-is-so
-slice-aggregate-is-so c = sym (length-take-le _ _ (omega (arith, c .before .at-most .ensures, c .before .before .filled .ensures)))
+slice-aggregate-is-so c = sym (length-take-le _ _ (omega (arith, c .before .at-most .ensures)))
 
 slice-aggregate-is-so-2 : tie.Need-slice-aggregate-is-so-2
 slice-aggregate-is-so-2 c = search needs
@@ -87,11 +78,14 @@ slice-aggregate-is-so-6 c = search needs
 slice-aggregate-is-so-7 : tie.Need-slice-aggregate-is-so-7
 slice-aggregate-is-so-7 c = search needs
 
-slice-aggregate-is-so-8 : tie.Need-slice-aggregate-is-so-8
-slice-aggregate-is-so-8 c = search needs
-
 is-so-requires : tie.Need-is-so-requires
 is-so-requires c κs = search needs
+
+same-length : tie.Need-same-length
+same-length c = search needs
+
+same-length-2 : tie.Need-same-length-2
+same-length-2 c = search needs
 
 returns : tie.Need-returns
 returns c = search needs
@@ -106,7 +100,6 @@ is-built-spec =
     words-requires-3
     words-requires-4
     words-requires-5
-    words-requires-6
     number-at-requires
     slice-aggregate-names-at
     slice-aggregate-names-at-2
@@ -115,11 +108,9 @@ is-built-spec =
     slice-aggregate-side-at-2
     slice-aggregate-side-at-3
     slice-aggregate-side-at-4
-    slice-aggregate-side-at-5
     side-at-requires
-    filled-requires
     at-most-requires
-    array-borrow-prefix-table
+    slice-relend-prefix-is-so
     slice-aggregate-is-so
     slice-aggregate-is-so-2
     slice-aggregate-is-so-3
@@ -127,6 +118,7 @@ is-built-spec =
     slice-aggregate-is-so-5
     slice-aggregate-is-so-6
     slice-aggregate-is-so-7
-    slice-aggregate-is-so-8
     is-so-requires
+    same-length
+    same-length-2
     returns)

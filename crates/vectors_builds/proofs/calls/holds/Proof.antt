@@ -2,17 +2,20 @@
 use Prim.Native.Nat.{_-_}
 use lib.ListN.{length}
 use borrow.Author.Needs.{needs}
-use Rattle.vectors_builds.proofs.limits.holds.Statement.{statement}
-use Rattle.vectors_builds.proofs.limits.holds.Tie as tie
+use Rattle.vectors_builds.proofs.calls.holds.Statement.{statement}
+use Rattle.vectors_builds.proofs.calls.holds.Tie as tie
 
 abbrev Inv-loop : tie.InvT-loop
-Inv-loop table lent i₀ i = Unit {0}
+Inv-loop table expected i₀ i = Unit {0}
 
 abbrev μ-loop : tie.MeasureT-loop
-μ-loop table lent i₀ i = length table - i
+μ-loop table expected i₀ i = length table - i
 
 loop-holds : tie.Need-loop-holds Inv-loop μ-loop
 loop-holds c = search needs
+
+shared-slice-read-byte : tie.Need-shared-slice-read-byte Inv-loop μ-loop
+shared-slice-read-byte c = search needs
 
 shared-slice-read-if2 : tie.Need-shared-slice-read-if2 Inv-loop μ-loop
 shared-slice-read-if2 c = search needs
@@ -39,6 +42,7 @@ holds-spec =
     Inv-loop
     μ-loop
     loop-holds
+    shared-slice-read-byte
     shared-slice-read-if2
     returns
     add-i
