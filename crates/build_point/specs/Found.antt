@@ -10,7 +10,7 @@ use lib.Dec.{T, ltb, leb, eqb}
 use borrow.Author.Tests.{le-leb}
 use mir.Facts.{ltb-yes}
 use Rattle.theory.specs.Answer.{Answer, answer}
-use Rattle.theory.specs.RunsTools.{T-fst, T-snd}
+use Rattle.theory.specs.RunsTools.{T-fst, T-snd, T-right}
 use Rattle.leaves_names.specs.Names.{namesOf, wellFormed as wellFormedNames}
 use Rattle.leaves_names.specs.NamesLaws.{memory}
 use Rattle.leaves_names.specs.NamesList.{names-length}
@@ -47,10 +47,6 @@ T-both false b s t = absurd s
 well : (names : ℕ) (es : List Entry) → T (rising es) → T (allKnown names es) → wellFormed names es ≡ true
 unfolding wellFormed
 well names es a b = T-both (rising es) (allKnown names es) a b
-
-T-right : (b c : Bool) → T c → T (b || c)
-T-right true c k = tt
-T-right false c k = k
 
 -- a table that may hold none in use may hold as many as its room
 more-fit : (size used : ℕ) → pointsFit size 0 ≡ true → used ≤ size / 8 → pointsFit size used ≡ true

@@ -10,7 +10,7 @@ use mathlib.Core.List.{List, [], _∷_}
 use lib.ListN.{length, replicate}
 use lib.Dec.{T, ltb, leb, eqb}
 use Rattle.theory.specs.Answer.{Answer, answer}
-use Rattle.theory.specs.RunsTools.{cond-case}
+use Rattle.theory.specs.RunsTools.{cond-case, T-right}
 use Rattle.leaves_text.specs.NumberText.{numberText, someDigits, digits, isDigit}
 use Rattle.leaves_days.specs.Calendar.{isDate}
 use Rattle.leaves_days.specs.Days.{dayOf, inRange}
@@ -194,10 +194,6 @@ done-of (built xs) h e = refl
 abbrev pub Tells : Option ℕ → ℕ → ℕ → Type 0
 Tells none found symbol = (found ≡ 0) × (symbol ≡ 0)
 Tells (some v) found symbol = (found ≡ 1) × (symbol ≡ v)
-
-T-right : (b c : Bool) → T c → T (b || c)
-T-right true c k = tt
-T-right false c k = k
 
 -- ---- over time
 

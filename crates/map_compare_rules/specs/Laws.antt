@@ -14,7 +14,7 @@ use lib.ListN.{length}
 use lib.Dec.{T, leb, ltb, eqb, lt→ltb, le→leb, eqb-refl, not-T, T-not}
 use lib.Arith.{le→nltb, lt→nleb}
 use mir.Facts.{eqb-yes}
-use Rattle.theory.specs.RunsTools.{cond-case, cond-yes, cond-no, cond-lt, cond-ge, T-and, T-nor-l, T-nor-r, Order, less, equal, more, order, none-some}
+use Rattle.theory.specs.RunsTools.{cond-case, cond-yes, cond-no, cond-lt, cond-ge, T-and, T-right, T-nor-l, T-nor-r, Order, less, equal, more, order, none-some}
 use Rattle.theory.specs.Runs.{Interval, Same, IsRun, Mem}
 use Rattle.theory.specs.RunsLongest.{Rising, same-run}
 use Rattle.map_rules.specs.Table.{Row, intervalOf, group, answerFor, Ordered}
@@ -35,10 +35,6 @@ module _ {A : Type 0} (same : A → A → Bool) where
   or-left true b t = tt
   or-left false b t = absurd t
 
-  or-right : (a b : Bool) → T b → T (a || b)
-  or-right true b t = tt
-  or-right false b t = t
-
   nor : (a b : Bool) → T (not a) → T (not b) → T (not (a || b))
   nor true b s t = absurd s
   nor false b s t = t
@@ -50,7 +46,7 @@ module _ {A : Type 0} (same : A → A → Bool) where
       go : Order (x .instrument) (y .instrument) → T (ltb (x .instrument) (y .instrument) || (eqb (x .instrument) (y .instrument) && leb (x .end) (y .start)))
       go (less h) = or-left (ltb (x .instrument) (y .instrument)) (eqb (x .instrument) (y .instrument) && leb (x .end) (y .start)) (lt→ltb _ _ h)
       go (equal h) =
-          or-right (ltb (x .instrument) (y .instrument)) (eqb (x .instrument) (y .instrument) && leb (x .end) (y .start))
+          T-right (ltb (x .instrument) (y .instrument)) (eqb (x .instrument) (y .instrument) && leb (x .end) (y .start))
           (T-and (eqb (x .instrument) (y .instrument)) (leb (x .end) (y .start)) (rw h (eqb-refl (y .instrument))) (le→leb _ _ (p .ends h)))
       go (more h) = absurd (omega (arith, p .upto))
 

@@ -13,7 +13,7 @@ use lib.Dec.{T, ltb, eqb, eqb-refl}
 use mir.Facts.{eqb-no, ltb-no}
 use Rattle.theory.specs.Answer.{Answer, answer}
 use Rattle.theory.specs.Runs.{Mem, IsRun}
-use Rattle.theory.specs.RunsTools.{cond-case, cond-yes}
+use Rattle.theory.specs.RunsTools.{cond-case, cond-yes, T-right}
 use Rattle.theory.specs.RunsLongest.{Rising}
 use Rattle.map_rules.specs.Table.{Row, intervalOf, group, answerFor, Ordered, ordered, Outcome, refusedBy, stored, nowStored, ifRoom, roomFits, namesFit, wellFormed, insertRows, entered, inserted}
 use Rattle.map_rules.specs.Tests.{ordered-iff}
@@ -132,10 +132,6 @@ pub record Demanded (ns : List (Row ℕ)) (t : List ℕ) (used : ℕ) : Type 0 w
   -- only one list fits
   pub only : (ys : List (Row ℕ)) → Sorted ys → ((i : ℕ) → Rising (group i ys))
       → ((y : Row ℕ) → Mem y ys ↔ IsRun (answerFor ns (y .instrument)) (intervalOf y)) → ys ≡ rows t used
-
-T-right : (b c : Bool) → T c → T (b || c)
-T-right true c k = tt
-T-right false c k = k
 
 -- THE THEOREM: it holds after any calls
 pub demanded : {ns : List (Row ℕ)} {t : List ℕ} {used : ℕ} → Trace ns t used → Demanded ns t used

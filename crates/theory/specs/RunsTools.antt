@@ -5,7 +5,7 @@ use mathlib.Core.Logic.{_≢_}
 use Prim.Native.Nat.{ℕ, _≤_, _<_}
 use native.Mathlib.Decide.{decLe}
 use native.Mathlib.Omega.{arith}
-use mathlib.Core.Bool.{Bool, true, false, not, _&&_, cond}
+use mathlib.Core.Bool.{Bool, true, false, not, _&&_, _||_, cond}
 use mathlib.Core.Option.{Option, none, some}
 use mathlib.Core.List.{List, [], _∷_}
 use lib.Dec.{T, leb, ltb, T-not, le→leb, lt→ltb}
@@ -38,6 +38,10 @@ module _ {X : Type 0} where
 pub T-and : (a b : Bool) → T a → T b → T (a && b)
 T-and true b s t = t
 T-and false b s t = s
+
+pub T-right : (a b : Bool) → T b → T (a || b)
+T-right true b t = tt
+T-right false b t = t
 
 pub T-fst : (a b : Bool) → T (a && b) → T a
 T-fst true b t = tt

@@ -6,6 +6,8 @@ use build_rules::call::used_of;
 use metadata_form::header::Header;
 use vectors_side::Side;
 use vectors_side::at_most;
+use vectors_side::expected::entries;
+use vectors_side::expected::mapping_words;
 use vectors_side::list_at;
 use vectors_side::side_at;
 use vectors_text::narrow;
@@ -36,17 +38,11 @@ fn expected_bytes() -> [u8; 1024]
     [0; 1024]
 }
 
-// Memory for name list and metadata: one byte, name, entry and mapping more than the rules allow.
+// Memory for the bytes of a name list: one more than the rules allow.
 fn list_bytes() -> [u8; 65537]
     ensures { λ r. ⌜ 65537 ≡ length r ⌝ }
 {
     [0; 65537]
-}
-
-fn words() -> [u32; 8194]
-    ensures { λ r. ⌜ 8194 ≡ length r ⌝ }
-{
-    [0; 8194]
 }
 
 // What a build on lent memory answers.
@@ -202,11 +198,11 @@ fn is_so(
 // Whether the build at a place of the text is answered as expected; table and intervals have room for the longest that a case lends.
 fn is_built(text: &[u8], at: usize, call: Call, table: &mut [u8], intervals: &mut [u32]) -> bool {
     let mut b = list_bytes();
-    let mut e = words();
-    let mut s = words();
-    let mut p = words();
-    let mut n = words();
-    let mut m = words();
+    let mut e = entries();
+    let mut s = entries();
+    let mut p = entries();
+    let mut n = entries();
+    let mut m = mapping_words();
     let lent = vectors_text::number_at(text, at);
     let names = names_at(text, lent.next, &mut b, &mut e);
     let a = side_at(text, names.next, &mut s, &mut p, &mut n, &mut m, intervals);

@@ -13,17 +13,10 @@ fn table_room() -> [u8; 1572888]
     [0; 1572888]
 }
 
-// Room for 65,537 intervals.
-fn intervals_room() -> [u32; 196611]
-    ensures { λ r. ⌜ 196611 ≡ length r ⌝ }
-{
-    [0; 196611]
-}
-
 // Runs the lines of one kind and prints the group's line.
 fn run(text: &[u8], name: &[u8], over_time: bool) {
     let mut table = table_room();
-    let mut intervals = intervals_room();
+    let mut intervals = vectors_side::expected::interval_words();
     let mut tally = Tally { cases: 0, wrong: 0 };
     let mut at = vectors_text::group_from(text, 0, name);
     while at < text.len() {

@@ -51,7 +51,7 @@ fn run_text(text: &[u8]) {
 }
 
 fn main() {
-    let mut data = vectors_merge::room();
+    let mut data = vectors_text::data_room();
     let n = io::read_full(0, &mut data);
     run_text(&data[..n]);
 }

@@ -5,15 +5,6 @@ mod points;
 mod tables;
 
 use vectors_text::Tally;
-ghost use mathlib.Core.Path.{_≡_};
-ghost use lib.ListN.{length};
-
-// Room for the whole data.
-fn room() -> [u8; 262144]
-    ensures { λ r. ⌜ 262144 ≡ length r ⌝ }
-{
-    [0; 262144]
-}
 
 // The kinds of cases.
 const CHECK: u8 = 0;
@@ -57,7 +48,7 @@ fn run(text: &[u8], name: &[u8], kind: u8) {
 }
 
 fn main() {
-    let mut data = room();
+    let mut data = vectors_text::data_room();
     let n = io::read_full(0, &mut data);
     let text = &data[..n];
     run(text, b"check", CHECK);

@@ -15,13 +15,6 @@ pub struct Numbers {
     pub next: usize,
 }
 
-// Room for the whole data of a program.
-pub fn room() -> [u8; 131072]
-    ensures { λ r. ⌜ 131072 ≡ length r ⌝ }
-{
-    [0; 131072]
-}
-
 // Too few places for marks.
 pub fn few_bytes() -> [u8; 255]
     ensures { λ r. ⌜ 255 ≡ length r ⌝ }

@@ -6,15 +6,6 @@ use crate::calls::FINISH;
 use crate::calls::OPEN;
 use crate::calls::is_right;
 use vectors_text::Tally;
-ghost use mathlib.Core.Path.{_≡_};
-ghost use lib.ListN.{length};
-
-// Room for the whole data.
-fn room() -> [u8; 262144]
-    ensures { λ r. ⌜ 262144 ≡ length r ⌝ }
-{
-    [0; 262144]
-}
 
 // Runs the lines of one kind and prints the group's line.
 fn run(text: &[u8], name: &[u8], opening: bool) {
@@ -29,7 +20,7 @@ fn run(text: &[u8], name: &[u8], opening: bool) {
 }
 
 fn main() {
-    let mut data = room();
+    let mut data = vectors_text::data_room();
     let n = io::read_full(0, &mut data);
     let text = &data[..n];
     run(text, b"open", OPEN);

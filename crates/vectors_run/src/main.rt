@@ -26,7 +26,7 @@ fn run(text: &[u8]) {
 }
 
 fn main() {
-    let mut data = vectors_merge::room();
+    let mut data = vectors_text::data_room();
     let n = io::read_full(0, &mut data);
     run(&data[..n]);
 }

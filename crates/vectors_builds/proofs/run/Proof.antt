@@ -16,8 +16,8 @@ abbrev μ-loop : tie.MeasureT-loop
 table-room-requires : tie.Need-table-room-requires Inv-loop μ-loop
 table-room-requires c κs = search needs
 
-intervals-room-requires : tie.Need-intervals-room-requires Inv-loop μ-loop
-intervals-room-requires c κs = search needs
+interval-words-requires : tie.Need-interval-words-requires Inv-loop μ-loop
+interval-words-requires c κs = search needs
 
 group-from-requires : tie.Need-group-from-requires Inv-loop μ-loop
 group-from-requires c κs = search needs
@@ -62,7 +62,7 @@ run-spec =
     Inv-loop
     μ-loop
     table-room-requires
-    intervals-room-requires
+    interval-words-requires
     group-from-requires
     loop-holds
     word-end-requires

@@ -9,20 +9,20 @@ use Rattle.vectors_builds.proofs.calls.is_built.Tie as tie
 list-bytes-requires : tie.Need-list-bytes-requires
 list-bytes-requires c κs = search needs
 
-words-requires : tie.Need-words-requires
-words-requires c κs = search needs
+entries-requires : tie.Need-entries-requires
+entries-requires c κs = search needs
 
-words-requires-2 : tie.Need-words-requires-2
-words-requires-2 c κs = search needs
+entries-requires-2 : tie.Need-entries-requires-2
+entries-requires-2 c κs = search needs
 
-words-requires-3 : tie.Need-words-requires-3
-words-requires-3 c κs = search needs
+entries-requires-3 : tie.Need-entries-requires-3
+entries-requires-3 c κs = search needs
 
-words-requires-4 : tie.Need-words-requires-4
-words-requires-4 c κs = search needs
+entries-requires-4 : tie.Need-entries-requires-4
+entries-requires-4 c κs = search needs
 
-words-requires-5 : tie.Need-words-requires-5
-words-requires-5 c κs = search needs
+mapping-words-requires : tie.Need-mapping-words-requires
+mapping-words-requires c κs = search needs
 
 number-at-requires : tie.Need-number-at-requires
 number-at-requires c κs = search needs
@@ -95,11 +95,11 @@ is-built-spec =
     tie.close
     (tie.spec
     list-bytes-requires
-    words-requires
-    words-requires-2
-    words-requires-3
-    words-requires-4
-    words-requires-5
+    entries-requires
+    entries-requires-2
+    entries-requires-3
+    entries-requires-4
+    mapping-words-requires
     number-at-requires
     slice-aggregate-names-at
     slice-aggregate-names-at-2

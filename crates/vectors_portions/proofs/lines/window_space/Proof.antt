@@ -1,4 +1,4 @@
--- So many places. Assumes nothing.
+-- So many zeros are so many. Assumes nothing.
 use mathlib.Core.Path.{sym}
 use Prim.Native.Nat.{ℕ}
 use lib.ListN.{length-replicate}
