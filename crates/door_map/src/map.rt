@@ -31,7 +31,7 @@ pub extern "C" fn desk_check(table: &[u8], used: usize, names: usize) -> u32
     }
 }
 
-// DeskInsert a symbol for an instrument from start to before end: 0, 15, 14, 1, 3 or 2; `used` becomes the new number in use.
+// Inserts a symbol for an instrument from start to before end: 0, 15, 14, 1, 3 or 2; `used` becomes the new number in use.
 #[no_mangle]
 pub extern "C" fn desk_insert(
     table: &mut [u8],
