@@ -11,7 +11,7 @@ use metadata_rules::Interval;
 use metadata_words::words::interval_at;
 
 // How an interval lies to a day: a date of it is none, it covers the day, or it does not.
-#[derive(Drop)]
+#[derive(Clone, Copy)]
 pub enum Cover {
     Undated,
     Covers,
@@ -19,7 +19,7 @@ pub enum Cover {
 }
 
 // Which interval counts: a date before it is none, nothing does, or this one; with the interval's number in its mapping.
-#[derive(Drop)]
+#[derive(Clone, Copy)]
 pub enum Covering {
     Undated(usize),
     Nothing,

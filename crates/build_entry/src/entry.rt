@@ -14,7 +14,7 @@ use map_point::entries::Entry;
 use metadata_rules::Interval;
 
 // What a mapping asks of the table: a refusal, nothing, or an entry.
-#[derive(Drop)]
+#[derive(Clone, Copy)]
 pub enum Wanted {
     Refuse(Refusal),
     Skip,

@@ -12,7 +12,7 @@ use leaves_limits::DAY_NANOSECONDS;
 use metadata_form::header::Header;
 
 // The direction and the day that the mappings are read by, or a refusal.
-#[derive(Drop)]
+#[derive(Clone, Copy)]
 pub enum Begun {
     Refused(Refusal),
     On(Direction, u32),

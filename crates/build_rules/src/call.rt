@@ -7,7 +7,7 @@ use leaves_names::names::list_fits;
 use metadata_form::header::{Header, Lengths, metadata_fits};
 
 // What a build answers: done, with how many intervals or entries the table has, or refused.
-#[derive(Drop)]
+#[derive(Clone, Copy)]
 pub enum Built {
     Done(usize),
     Refused(Refusal),

@@ -9,21 +9,21 @@ use leaves_days::days::{Day, Moment};
 use leaves_text::number_text::Reading;
 
 // Where the instrument's number stands: in the interval's symbol, or in the mapping's name.
-#[derive(Drop)]
+#[derive(Clone, Copy)]
 pub enum Direction {
     Forward,
     Inverse,
 }
 
 // A metadata's direction, or 9.
-#[derive(Drop)]
+#[derive(Clone, Copy)]
 pub enum Heading {
     Is(Direction),
     Refused(Refusal),
 }
 
 // What stands under a name's number: nothing (3), the empty name, or another.
-#[derive(Drop)]
+#[derive(Clone, Copy)]
 pub enum Symbol {
     Unknown,
     Empty,
@@ -31,7 +31,7 @@ pub enum Symbol {
 }
 
 // An instrument's number, or 8.
-#[derive(Drop)]
+#[derive(Clone, Copy)]
 pub enum Instrument {
     Number(u32),
     Refused(Refusal),

@@ -24,14 +24,14 @@ use metadata_form::header::{Header, lengths_by};
 use metadata_words::words::{count_at, interval_at, name_at};
 
 // How a mapping's intervals are read: its name is their symbol, or says their instrument's number.
-#[derive(Drop)]
+#[derive(Clone, Copy)]
 pub enum Way {
     Forward(u32),
     Inverse(u32),
 }
 
 // What an interval asks for: a refusal, nothing, or an insert.
-#[derive(Drop)]
+#[derive(Clone, Copy)]
 pub enum Asked {
     Refuse(Refusal),
     Nothing,

@@ -14,7 +14,7 @@ use map_table::interval::Interval;
 const LINE: usize = 105;
 
 // Where a text ends, and how far both tables are walked.
-#[derive(Drop)]
+#[derive(Clone, Copy)]
 pub struct Portion {
     pub at: usize,
     pub left: Position,

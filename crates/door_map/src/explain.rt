@@ -19,7 +19,7 @@ const AFTER: u32 = 4;
 const BETWEEN: u32 = 5;
 
 // What an explanation hands over.
-#[derive(Drop)]
+#[derive(Clone, Copy)]
 pub struct Numbers {
     pub reason: u32,
     pub index: u64,

@@ -20,7 +20,7 @@ const MOMENT_AT: usize = 4;
 const LINE: usize = 218;
 
 // Where a text ends, and the question that comes next.
-#[derive(Drop)]
+#[derive(Clone, Copy)]
 pub struct Portion {
     pub at: usize,
     pub next: usize,

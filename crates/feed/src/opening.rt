@@ -11,7 +11,7 @@ use records_state::opening::lay_streams;
 use records_state::state::{EMPTY, arrays_fit};
 
 // What an opening answers: the streams, and how many of them the heap holds.
-#[derive(Drop)]
+#[derive(Clone, Copy)]
 pub enum FeedOpening {
     Opened { streams: usize, held: usize },
     Refused(Refusal),

@@ -14,7 +14,7 @@ use records_state::state::{EMPTY, GONE, STANDING, WAITING, arrays_fit};
 
 // What a call answers: a record, with the index in the window at which its bytes stand; the end; that more of a stream is needed first;
 // or a refusal, damage among them.
-#[derive(Drop)]
+#[derive(Clone, Copy)]
 pub enum Fed {
     Record {
         stream: u64,
@@ -31,7 +31,7 @@ pub enum Fed {
 }
 
 // A call's answer, and how many streams the heap holds after it.
-#[derive(Drop)]
+#[derive(Clone, Copy)]
 pub struct FedTurn {
     pub held: usize,
     pub answer: Fed,

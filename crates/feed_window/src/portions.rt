@@ -20,14 +20,14 @@ const PART: usize = 1024;
 const MOST_STREAMS: u64 = STREAMS as u64;
 
 // What a portion is answered: how many of its bytes were taken, or a refusal.
-#[derive(Drop)]
+#[derive(Clone, Copy)]
 pub enum Added {
     Taken(u64),
     Refused(Refusal),
 }
 
 // What the word that a stream has ended is answered.
-#[derive(Drop)]
+#[derive(Clone, Copy)]
 pub enum Ended {
     Done,
     Refused(Refusal),

@@ -32,7 +32,7 @@ pub const RECORD: u64 = 4;
 pub const WANTING: u64 = 5;
 
 // What a read of the window found, and the span without what was read past.
-#[derive(Drop)]
+#[derive(Clone, Copy)]
 pub struct Got {
     pub found: u64,
     pub time: u64,

@@ -40,7 +40,7 @@ const SHORT_BODY: u64 = 4;
 const MISSING: u64 = 18446744073709551615;
 
 // What stands at a place, in numbers: found is 0 for the end, 1, 2 or 3 for damage with this reason, 4 for a record.
-#[derive(Drop)]
+#[derive(Clone, Copy)]
 pub struct Head {
     pub found: u64,
     pub length: u16,
@@ -50,7 +50,7 @@ pub struct Head {
 }
 
 // What stands at a place.
-#[derive(Drop)]
+#[derive(Clone, Copy)]
 pub enum Frame {
     Record {
         length: u16,
@@ -142,7 +142,7 @@ pub fn frame_at(part: &[u8], place: u64) -> Frame
 }
 
 // What a record's bytes ask for.
-#[derive(Drop)]
+#[derive(Clone, Copy)]
 pub enum Mapping {
     // A record of another kind: nothing.
     Other,

@@ -8,7 +8,7 @@ use leaves::refusal::Refusal;
 use leaves_limits::DAY_NANOSECONDS;
 
 // A date's day.
-#[derive(Drop)]
+#[derive(Clone, Copy)]
 pub enum Day {
     // Days since 1970-01-01.
     Number(u32),
@@ -16,7 +16,7 @@ pub enum Day {
 }
 
 // A day's date.
-#[derive(Drop)]
+#[derive(Clone, Copy)]
 pub enum Date {
     // YYYYMMDD.
     Written(u32),
@@ -24,7 +24,7 @@ pub enum Date {
 }
 
 // A day's start.
-#[derive(Drop)]
+#[derive(Clone, Copy)]
 pub enum Moment {
     // Since the start of 1970-01-01.
     Nanoseconds(u64),

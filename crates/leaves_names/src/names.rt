@@ -10,14 +10,14 @@ use leaves_limits::{NAME_BYTES, NAME_SIZE, NAMES};
 use leaves_utf8::utf8::{is_plain, is_utf8_within};
 
 // What a check of a name list answers.
-#[derive(Drop)]
+#[derive(Clone, Copy)]
 pub enum Checked {
     Done,
     Refused(Refusal),
 }
 
 // What becomes of a name: it has this number, it is new and gets this number, or it is refused.
-#[derive(Drop)]
+#[derive(Clone, Copy)]
 pub enum Naming {
     Old(u32),
     New(u32),
@@ -25,7 +25,7 @@ pub enum Naming {
 }
 
 // What naming answers: the name's number, then the names and the name bytes in use.
-#[derive(Drop)]
+#[derive(Clone, Copy)]
 pub enum Named {
     Number {
         number: u32,
@@ -36,7 +36,7 @@ pub enum Named {
 }
 
 // Where a name lies: its first byte, and the first past its end.
-#[derive(Drop)]
+#[derive(Clone, Copy)]
 pub enum NamePlace {
     At { first: usize, end: usize },
     Refused(Refusal),

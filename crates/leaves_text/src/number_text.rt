@@ -13,7 +13,7 @@ const NINE: u8 = b'9';
 const LARGEST: u64 = 4294967295;
 
 // What reading a number text finds.
-#[derive(Drop)]
+#[derive(Clone, Copy)]
 pub enum Reading {
     // The number.
     Value(u32),

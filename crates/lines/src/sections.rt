@@ -11,7 +11,7 @@ use leaves_limits::{BUNDLE_BYTES, STREAMS};
 const STREAM: u16 = 1;
 
 // A bundle taken apart: this many streams, of this many bytes in all; or bad.
-#[derive(Drop)]
+#[derive(Clone, Copy)]
 pub enum Parted {
     Streams { count: usize, bytes: usize },
     Bad,

@@ -10,7 +10,7 @@ use leaves::refusal::Refusal;
 use map_compare_walk::walk::{Position, Stretch};
 
 // A comparison's answer: done, with the number of stretches, or refused.
-#[derive(Drop)]
+#[derive(Clone, Copy)]
 pub enum Compared {
     Done(usize),
     Refused(Refusal),

@@ -10,14 +10,14 @@ ghost use Rattle.map_compare_walk.specs.Walk.{turn_by, goes_on, cut_to, both_of,
 use map_table::interval::Interval;
 
 // How far a table is walked: the place of its head, and the moment from which that still counts.
-#[derive(Drop)]
+#[derive(Clone, Copy)]
 pub struct Position {
     pub place: usize,
     pub from: u64,
 }
 
 // What becomes of a head: it goes on by 1 or stays, and the head then counts from a moment.
-#[derive(Drop)]
+#[derive(Clone, Copy)]
 pub struct Onward {
     pub by: usize,
     pub from: u64,
@@ -25,7 +25,7 @@ pub struct Onward {
 
 // What two heads give: which of them say something from start to before end, neither where both say the same, and what becomes of
 // them.
-#[derive(Drop)]
+#[derive(Clone, Copy)]
 pub struct Turn {
     pub left: bool,
     pub right: bool,
@@ -37,7 +37,7 @@ pub struct Turn {
 
 // A stretch: from start to before end the left table says what x says, or nothing, and the right one what y says, or nothing. It is
 // none where neither says something.
-#[derive(Drop)]
+#[derive(Clone, Copy)]
 pub struct Stretch {
     pub instrument: u32,
     pub start: u64,
@@ -49,7 +49,7 @@ pub struct Stretch {
 }
 
 // A turn's stretch, and how far both tables are walked after it.
-#[derive(Drop)]
+#[derive(Clone, Copy)]
 pub struct Step {
     pub stretch: Stretch,
     pub left: Position,

@@ -10,7 +10,7 @@ use leaves::refusal::Refusal;
 use map_table::interval::Interval;
 
 // An interval that a reason names: its number within the instrument, from 0, and what is stored.
-#[derive(Drop)]
+#[derive(Clone, Copy)]
 pub struct Named {
     pub index: u64,
     pub start: u64,
@@ -20,7 +20,7 @@ pub struct Named {
 
 // Why there is a symbol, or none: in this interval; the instrument is unknown; before its first interval; after its last; between
 // these two neighbours. Or it is refused.
-#[derive(Drop)]
+#[derive(Clone, Copy)]
 pub enum Explained {
     In(Named),
     Unknown,

@@ -8,7 +8,7 @@ ghost use Rattle.map_look.specs.Lookup.{found_of, looked_of};
 use crate::lookup::{Found, Looked, get_for_ts};
 
 // The hint of one instrument, 0 at first.
-#[derive(Drop)]
+#[derive(Clone, Copy)]
 pub struct Cursor {
     pub hint: u64,
 }

@@ -18,7 +18,7 @@ use map_table::interval::WIDTH;
 const HINT_LIMIT: u64 = ROOM as u64;
 
 // What a lookup finds: the symbol, or nothing; or it is refused.
-#[derive(Drop)]
+#[derive(Clone, Copy)]
 pub enum Found {
     Symbol(u32),
     Nothing,
@@ -26,7 +26,7 @@ pub enum Found {
 }
 
 // What a lookup finds, and the new hint; a refusal leaves the hint.
-#[derive(Drop)]
+#[derive(Clone, Copy)]
 pub struct Looked {
     pub found: Found,
     pub hint: u64,

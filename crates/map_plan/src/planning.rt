@@ -13,7 +13,7 @@ use leaves_names::names::{find_name, has_room, is_list, is_name, list_fits};
 use map_table::table::Checked;
 
 // What a mapping call comes to before the room of the table is judged.
-#[derive(Drop)]
+#[derive(Clone, Copy)]
 pub enum Plan {
     // Done, and nothing changes.
     Nothing,

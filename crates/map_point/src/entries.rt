@@ -11,7 +11,7 @@ pub const WIDTH: usize = 8;
 const SYMBOL: usize = 4;
 
 // An instrument and its symbol number.
-#[derive(Drop)]
+#[derive(Clone, Copy)]
 pub struct Entry {
     pub instrument: u32,
     pub symbol: u32,

@@ -14,7 +14,7 @@ use map_look::lookup::Found;
 use map_table::table::Checked;
 
 // What a call that stores answers: how many entries are in use then.
-#[derive(Drop)]
+#[derive(Clone, Copy)]
 pub enum Stored {
     Done(usize),
     Refused(Refusal),

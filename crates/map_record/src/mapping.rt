@@ -32,7 +32,7 @@ use map_table::table::check;
 use map_time::insert::{Inserted, place};
 
 // What a mapping call answers: the intervals or entries, the names and the name bytes then in use.
-#[derive(Drop)]
+#[derive(Clone, Copy)]
 pub enum Recorded {
     Done {
         used: usize,

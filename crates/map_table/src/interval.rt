@@ -10,7 +10,7 @@ ghost use Rattle.map_table.specs.Interval.{row_of};
 pub const WIDTH: usize = 24;
 
 // A symbol's stretch [start, end) of an instrument.
-#[derive(Drop)]
+#[derive(Clone, Copy)]
 pub struct Interval {
     pub instrument: u32,
     pub symbol: u32,

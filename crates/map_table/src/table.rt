@@ -14,7 +14,7 @@ use leaves_limits::{NAMES, ROOM};
 const BYTE_LIMIT: usize = ROOM * WIDTH;
 
 // The check's answer: the table is well-formed, or 14 or 15.
-#[derive(Drop)]
+#[derive(Clone, Copy)]
 pub enum Checked {
     WellFormed,
     Refused(Refusal),

@@ -10,7 +10,7 @@ use leaves::refusal::Refusal;
 use map_table::interval::{Interval, WIDTH};
 
 // An insert's answer: done, with the new length, or refused.
-#[derive(Drop)]
+#[derive(Clone, Copy)]
 pub enum Inserted {
     Done(usize),
     Refused(Refusal),

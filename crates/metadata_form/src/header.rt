@@ -12,7 +12,7 @@ use metadata_words::words::{INTERVAL_WORDS, MAPPING_WORDS, count_at};
 
 // What a metadata says besides its lists, and how many places of each list are in use. The dataset is a name's number; an end
 // or limit of 0 is a missing one; schema 65535 and stype_in 255 mean none.
-#[derive(Drop)]
+#[derive(Clone, Copy)]
 pub struct Header {
     pub version: u8,
     pub dataset: u32,
@@ -31,14 +31,14 @@ pub struct Header {
 }
 
 // What a call of the metadata merge answers: a header, or a refusal.
-#[derive(Drop)]
+#[derive(Clone, Copy)]
 pub enum MetadataAnswer {
     Done(Header),
     Refused(Refusal),
 }
 
 // The lengths of the five lent lists, in words.
-#[derive(Drop)]
+#[derive(Clone, Copy)]
 pub struct Lengths {
     pub symbols: usize,
     pub partial: usize,
@@ -48,7 +48,7 @@ pub struct Lengths {
 }
 
 // How many entries, mappings and intervals an outcome has.
-#[derive(Drop)]
+#[derive(Clone, Copy)]
 pub struct Counts {
     pub symbols: usize,
     pub partial: usize,

@@ -7,7 +7,7 @@ ghost use Rattle.metadata_gather.specs.Arrivals.{index_of, Marked, IsAdded, AllA
 use metadata_words::words::wide;
 
 // The place of a number among the arrivals, and how many there are then.
-#[derive(Drop)]
+#[derive(Clone, Copy)]
 pub struct Added {
     pub place: usize,
     pub count: usize,

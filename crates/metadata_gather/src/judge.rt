@@ -11,7 +11,7 @@ use metadata_rules::Interval;
 use metadata_words::words::{interval_at, wide};
 
 // What the tests say: all pass, or the refusal of the first that does not.
-#[derive(Drop)]
+#[derive(Clone, Copy)]
 pub enum Judged {
     Passed,
     Refused(Refusal),

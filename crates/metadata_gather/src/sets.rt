@@ -7,7 +7,7 @@ use crate::judge::numbers_known;
 use leaves_limits::NAMES;
 
 // Whether each entry was handed out, and how many the outcome has.
-#[derive(Drop)]
+#[derive(Clone, Copy)]
 pub struct United {
     pub known: bool,
     pub count: usize,

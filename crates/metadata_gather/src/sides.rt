@@ -15,7 +15,7 @@ use metadata_lists::link::offsets;
 use metadata_words::words::{copy_intervals, count_at, name_at, put_mapping};
 
 // How many mappings and intervals are laid.
-#[derive(Drop)]
+#[derive(Clone, Copy)]
 pub struct Laid {
     pub mappings: usize,
     pub intervals: usize,

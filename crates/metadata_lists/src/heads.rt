@@ -11,14 +11,14 @@ use metadata_rules::{Interval, IntervalOrdering};
 use metadata_words::words::{copy_intervals, interval_at, put_interval};
 
 // What two heads give: a conflict, or an interval that goes out and how many of each list are consumed.
-#[derive(Drop)]
+#[derive(Clone, Copy)]
 pub enum WalkStep {
     Conflict,
     Out(Interval, usize, usize),
 }
 
 // What a walk answers: a conflict, or the place behind the last interval that it laid.
-#[derive(Drop)]
+#[derive(Clone, Copy)]
 pub enum WalkLaid {
     Conflict,
     Done(usize),

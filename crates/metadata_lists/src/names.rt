@@ -10,7 +10,7 @@ use crate::name::lay_name;
 use metadata_words::words::{name_at, put_mapping, wide};
 
 // How far the outcome is laid: a conflict, or the mappings and the intervals laid.
-#[derive(Drop)]
+#[derive(Clone, Copy)]
 pub enum NamesLaid {
     Conflict,
     Done(usize, usize),

@@ -11,7 +11,7 @@ use metadata_plan::plan::{Planned, plan};
 use metadata_words::words::wide;
 
 // What comes of a merge: a refusal, or how many of each list the outcome has.
-#[derive(Drop)]
+#[derive(Clone, Copy)]
 pub enum Verdict {
     Refused(Refusal),
     Fits(Counts),

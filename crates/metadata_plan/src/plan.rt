@@ -24,7 +24,7 @@ const BOTH_MAPPING_WORDS: usize = BOTH_MAPPINGS * MAPPING_WORDS;
 const BOTH_INTERVAL_WORDS: usize = 2 * INTERVALS * INTERVAL_WORDS;
 
 // What comes of a plan: 11, 3, 1 or 7, or the mappings and the intervals laid.
-#[derive(Drop)]
+#[derive(Clone, Copy)]
 pub enum Planned {
     Refused(Refusal),
     Laid(usize, usize),

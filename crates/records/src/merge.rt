@@ -26,7 +26,7 @@ const FOUR_BYTES: u64 = 4294967296;
 const GREATEST: u64 = 18446744073709551615;
 
 // What a call answers: a record, the end, or a refusal; damage is the refusal 13.
-#[derive(Drop)]
+#[derive(Clone, Copy)]
 pub enum Turn {
     Record {
         stream: u64,
@@ -41,21 +41,21 @@ pub enum Turn {
 }
 
 // A call's answer, and how many streams the heap holds after it.
-#[derive(Drop)]
+#[derive(Clone, Copy)]
 pub struct Turned {
     pub held: usize,
     pub answer: Turn,
 }
 
 // What an opening answers: the streams, and how many of them the heap holds.
-#[derive(Drop)]
+#[derive(Clone, Copy)]
 pub enum Opening {
     Opened { streams: usize, held: usize },
     Refused(Refusal),
 }
 
 // What a read found, in numbers: the head has the record's length, kind and instrument.
-#[derive(Drop)]
+#[derive(Clone, Copy)]
 pub struct Got {
     pub found: u64,
     pub time: u64,
@@ -63,7 +63,7 @@ pub struct Got {
 }
 
 // A part of the buffer, from its first byte to before its end.
-#[derive(Drop)]
+#[derive(Clone, Copy)]
 struct Part {
     from: u64,
     to: u64,

@@ -5,7 +5,7 @@ ghost use Rattle.leaves.specs.Frame.{frame_at, frame_of, read_of};
 
 use leaves::frame::{Frame, frame_at};
 
-#[derive(Drop)]
+#[derive(Clone, Copy)]
 pub struct Reader<'a> {
     pub src: &'a [u8],
     pub at: usize,

@@ -16,7 +16,7 @@ use records_state::state::arrays_fit;
 use run_list::list::{limit_of, put_row, run_fits};
 
 // How a run stopped: a further call may be made; the end; or a refusal, damage being 13.
-#[derive(Drop)]
+#[derive(Clone, Copy)]
 pub enum Last {
     Going,
     End,
@@ -24,7 +24,7 @@ pub enum Last {
 }
 
 // A run: the calls that were made, the records that were written, how many streams the heap holds, and how it stopped.
-#[derive(Drop)]
+#[derive(Clone, Copy)]
 pub struct Made {
     pub calls: usize,
     pub written: usize,
@@ -33,14 +33,14 @@ pub struct Made {
 }
 
 // One call of a run is noted: whether the run goes on, and how it stopped where not.
-#[derive(Drop)]
+#[derive(Clone, Copy)]
 struct NotedDown {
     more: bool,
     last: Last,
 }
 
 // One call of a run was made: the streams that are held after it, whether the run goes on, and how it stopped where not.
-#[derive(Drop)]
+#[derive(Clone, Copy)]
 struct Stepped {
     held: usize,
     more: bool,

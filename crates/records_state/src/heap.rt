@@ -11,7 +11,7 @@ pub fn slot(stream: u8) -> usize
 }
 
 // A stream of the heap: the place where it stands, its number, its time.
-#[derive(Drop)]
+#[derive(Clone, Copy)]
 struct Entry {
     place: usize,
     stream: usize,

@@ -25,7 +25,7 @@ pub const HEAP: bool = false;
 pub const PLAIN: bool = true;
 
 // What a replay answers: how many bytes its text has.
-#[derive(Drop)]
+#[derive(Clone, Copy)]
 pub enum Replayed {
     Text(usize),
     Refused(Refusal),

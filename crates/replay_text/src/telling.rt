@@ -16,14 +16,14 @@ use lines::lines::{damage_line, record_line, word};
 use records::merge::{Opening, Turn, empty_bytes, empty_numbers};
 
 // A line that was written: the place behind it, and whether it is the last.
-#[derive(Drop)]
+#[derive(Clone, Copy)]
 struct Wrote {
     at: usize,
     last: bool,
 }
 
 // What a call of the merge answered is written: the place behind its line, whether it is the last, and the streams that are held.
-#[derive(Drop)]
+#[derive(Clone, Copy)]
 struct Stepped {
     at: usize,
     last: bool,

@@ -23,14 +23,14 @@ pub fn text_space() -> [u8; 65536]
 }
 
 // What reading answers: how many bytes came until the end or until the room was full, or that a read failed.
-#[derive(Drop)]
+#[derive(Clone, Copy)]
 pub enum Input {
     Bytes(usize),
     Failed,
 }
 
 // What one read answers.
-#[derive(Drop)]
+#[derive(Clone, Copy)]
 struct Portion {
     bytes: usize,
     failed: bool,

@@ -11,14 +11,14 @@ use vectors_side::{Side, at_most, list_at, side_at};
 use vectors_text::narrow;
 
 // Which build: over time, or for a date.
-#[derive(Drop)]
+#[derive(Clone, Copy)]
 enum Call {
     OverTime,
     PointInTime(u32),
 }
 
 // A name list: what is in use, the lengths of its memory, and the place behind it in the text.
-#[derive(Drop)]
+#[derive(Clone, Copy)]
 pub struct Names {
     pub names: usize,
     pub name_bytes: usize,

@@ -15,7 +15,7 @@ fn room() -> [u8; 1024]
 }
 
 // The numbers that a case hands over, and what it is expected to answer.
-#[derive(Drop)]
+#[derive(Clone, Copy)]
 struct Asked {
     left: usize,
     right: usize,

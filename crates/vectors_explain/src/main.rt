@@ -20,7 +20,7 @@ fn narrow(n: u64) -> u32 {
 }
 
 // What a case asks.
-#[derive(Drop)]
+#[derive(Clone, Copy)]
 struct Question {
     used: usize,
     names: usize,
@@ -44,7 +44,7 @@ fn question_at(text: &[u8], at: usize) -> Question {
 }
 
 // An expected interval, and the place behind it.
-#[derive(Drop)]
+#[derive(Clone, Copy)]
 struct Expected {
     index: u64,
     start: u64,

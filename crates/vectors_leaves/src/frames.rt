@@ -5,7 +5,7 @@ use leaves::frame::{Frame, Mapping};
 use leaves::refusal::Refusal;
 
 // An answer in numbers: the rules' number and the values that come with it, 0 where there are fewer than five.
-#[derive(Drop)]
+#[derive(Clone, Copy)]
 struct Numbers {
     number: u64,
     first: u64,
@@ -86,7 +86,7 @@ fn of_mapping(mapping: Mapping) -> Numbers {
 }
 
 // The answer that a line expects, and the place after it.
-#[derive(Drop)]
+#[derive(Clone, Copy)]
 struct Expected {
     answer: Numbers,
     next: usize,

@@ -22,7 +22,7 @@ fn places() -> [u32; 64]
 }
 
 // Ends read from the text: how many, and the place after them.
-#[derive(Drop)]
+#[derive(Clone, Copy)]
 struct Ends {
     count: usize,
     next: usize,
@@ -73,7 +73,7 @@ fn are_ends(text: &[u8], at: usize, ends: &[u32]) -> bool {
 }
 
 // What is in use of table and name list, and the place after it.
-#[derive(Drop)]
+#[derive(Clone, Copy)]
 struct InUse {
     used: usize,
     names: usize,
@@ -94,7 +94,7 @@ fn in_use_at(text: &[u8], at: usize) -> InUse {
 }
 
 // What a call answers: the rules' number, the reason where it is 13, and what is in use then.
-#[derive(Drop)]
+#[derive(Clone, Copy)]
 struct Said {
     number: u64,
     reason: u64,

@@ -15,7 +15,7 @@ pub fn room() -> [u8; 2048]
 }
 
 // What is in use of a table, the names, and the number that its check is expected to answer.
-#[derive(Drop)]
+#[derive(Clone, Copy)]
 struct Checking {
     used: usize,
     names: usize,
@@ -54,7 +54,7 @@ pub fn check(text: &[u8], at: usize, over_time: bool) -> bool {
 }
 
 // An insert, and what it is expected to answer.
-#[derive(Drop)]
+#[derive(Clone, Copy)]
 struct Asked {
     used: usize,
     names: usize,
@@ -124,7 +124,7 @@ pub fn insert(text: &[u8], at: usize) -> bool {
 }
 
 // What a lookup is expected to find, and the place after it.
-#[derive(Drop)]
+#[derive(Clone, Copy)]
 pub struct Expected {
     number: u64,
     found: u64,
@@ -156,7 +156,7 @@ pub fn is_found(found: Found, expected: Expected) -> bool {
 }
 
 // A lookup, and what it is expected to answer.
-#[derive(Drop)]
+#[derive(Clone, Copy)]
 struct Lookup {
     used: usize,
     instrument: u32,

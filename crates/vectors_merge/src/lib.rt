@@ -10,7 +10,7 @@ use leaves::refusal::Refusal;
 use records::merge::{Opening, Turn};
 
 // Numbers read from the text: how many, and the place after them.
-#[derive(Drop)]
+#[derive(Clone, Copy)]
 pub struct Numbers {
     pub count: usize,
     pub next: usize,
@@ -74,7 +74,7 @@ pub fn bytes_of(many: u64, bytes: &[u8]) -> usize
 }
 
 // A case as it was read: how many numbers of its two lists and how many bytes.
-#[derive(Drop)]
+#[derive(Clone, Copy)]
 pub struct Case {
     pub first: usize,
     pub second: usize,
@@ -179,7 +179,7 @@ pub fn print_turn(answer: Turn) -> bool {
 const MOST_CALLS: u64 = 1000;
 
 // How a merge begins: its streams, how many of them the heap holds, and how many calls may come.
-#[derive(Drop)]
+#[derive(Clone, Copy)]
 pub struct Start {
     pub streams: usize,
     pub held: usize,

@@ -8,7 +8,7 @@ use leaves::refusal::Refusal;
 use metadata_form::header::{Header, MetadataAnswer};
 
 // What a call says: its number, the field that comes with 6 (else 0), and the header after it.
-#[derive(Drop)]
+#[derive(Clone, Copy)]
 pub struct Said {
     pub number: u64,
     pub field: u64,

@@ -14,7 +14,7 @@ use metadata_form::header::Header;
 use vectors_text::{Token, narrow};
 
 // A side: its header, the places lent of each list, and the place behind it in the text.
-#[derive(Drop)]
+#[derive(Clone, Copy)]
 pub struct Side {
     pub header: Header,
     pub symbols: usize,
@@ -26,21 +26,21 @@ pub struct Side {
 }
 
 // A header read from the text, and the place behind it.
-#[derive(Drop)]
+#[derive(Clone, Copy)]
 struct Headed {
     header: Header,
     next: usize,
 }
 
 // A list read from the text: the places lent, and the place behind it.
-#[derive(Drop)]
+#[derive(Clone, Copy)]
 pub struct Listed {
     pub places: usize,
     pub next: usize,
 }
 
 // Whether all that was compared so far is the same, and the place behind it in the text.
-#[derive(Drop)]
+#[derive(Clone, Copy)]
 pub struct Compared {
     pub same: bool,
     pub next: usize,

@@ -7,7 +7,7 @@ ghost use Rattle.std.specs.Prelude.{◌<◌};
 use vectors_text::narrow;
 
 // A rule; of no letter where the words themselves stand in the text.
-#[derive(Drop)]
+#[derive(Clone, Copy)]
 pub struct Rule {
     pub letter: u8,
     pub first: u32,
@@ -16,7 +16,7 @@ pub struct Rule {
 }
 
 // A rule read from the text, and the place behind it.
-#[derive(Drop)]
+#[derive(Clone, Copy)]
 pub struct Ruled {
     pub rule: Rule,
     pub next: usize,

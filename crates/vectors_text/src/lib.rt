@@ -6,7 +6,7 @@ ghost use Rattle.std.specs.Prelude.{◌≡◌, ◌+◌, ◌≤◌, ◌<◌, leng
 ghost use Rattle.io.specs.Counts.{IsPrefixLen};
 
 // A number read from the text, and the place after it.
-#[derive(Drop)]
+#[derive(Clone, Copy)]
 pub struct Token {
     pub value: u64,
     pub next: usize,
@@ -201,7 +201,7 @@ fn pair_at(text: &[u8], at: usize) -> u64
 }
 
 // Bytes read from the text: how many, and the place after them.
-#[derive(Drop)]
+#[derive(Clone, Copy)]
 pub struct Word {
     pub count: usize,
     pub next: usize,
@@ -275,7 +275,7 @@ pub fn print_wrong(text: &[u8], at: usize) {
 }
 
 // How many cases were tried, and how many of them were answered otherwise than expected.
-#[derive(Drop)]
+#[derive(Clone, Copy)]
 pub struct Tally {
     pub cases: u64,
     pub wrong: u64,
