@@ -1,0 +1,13 @@
+-- What each turn keeps, and what gets less.
+use mathlib.Core.Path.{◌≡◌}
+use Prim.Native.Nat.{◌-◌, ◌≤◌}
+use lib.ListN.{length}
+use lib.Seq.{paste}
+use Rattle.feed_window.proofs.portions.copy_in.Given as goal
+
+abbrev pub invariant-loop-i : goal.invariant-loop-i
+invariant-loop-i l =
+    (l.i ≤ l.size) × (l.window ≡ paste l.initial.window l.to l.portion l.i) × (length l.window ≡ length l.initial.window)
+
+abbrev pub decreases-loop-i : goal.decreases-loop-i
+decreases-loop-i l = l.size - l.i

@@ -1,0 +1,82 @@
+-- `days::is_date` meets its contract: each `false` is one way in which the date is none or out of range; a day up to the 28th is one of any month.
+-- Assumes nothing.
+use Prim.Native.Nat.{ℕ, ◌+◌, ◌-◌, ◌≤◌, ◌<◌}
+use native.Mathlib.Numerals.{add-one}
+use native.Mathlib.Omega.{arith}
+use mathlib.Core.Path.{◌≡◌, ap}
+use mathlib.Core.Bool.{true, false}
+use Rattle.leaves_days.specs.Calendar.{is_leap, month_days, days_before, year_in, month_in, day_in}
+use Rattle.leaves_days.specs.CalendarLaws.{before_suc, month_long}
+use Rattle.leaves_days.specs.CalendarDates.{date_yes, yes_date, in_month}
+use Rattle.leaves_days.specs.Days.{known_date}
+use Rattle.leaves_days.specs.DaysLaws.{good_known, not_known}
+use Rattle.leaves_days.proofs.days.is_date.Goals as goal
+
+module _ (date : ℕ) where
+  too_early : date < 19700101 → false ≡ known_date date
+  too_early h = not_known date (λ g. omega (arith, g.from))
+
+  too_late : 25540721 < date → false ≡ known_date date
+  too_late h = not_known date (λ g. omega (arith, g.to))
+
+  no_month : month_in date < 1 → false ≡ known_date date
+  no_month h = not_known date (λ g. let m = in_month _ _ _ (date_yes date g.is) in omega (arith, m.from))
+
+  past_december : 12 < month_in date → false ≡ known_date date
+  past_december h = not_known date (λ g. let m = in_month _ _ _ (date_yes date g.is) in omega (arith, m.to))
+
+  no_day : day_in date < 1 → false ≡ known_date date
+  no_day h = not_known date (λ g. omega (arith, (date_yes date g.is).from))
+
+  within : 19700101 ≤ date → date ≤ 25540721 → 1 ≤ day_in date → day_in date ≤ month_days (is_leap (year_in date)) (month_in date) → true ≡ known_date date
+  within h k i j = good_known date (record { is = yes_date date (record { from = i; to = j }); from = h; to = k })
+
+  any_month : 19700101 ≤ date → date ≤ 25540721 → 1 ≤ month_in date → month_in date ≤ 12 → 1 ≤ day_in date → day_in date ≤ 28 → true ≡ known_date date
+  any_month h k m n i j = within h k i (omega (arith, month_long (is_leap (year_in date)) (month_in date) m n))
+
+  module _ (next before : ℕ) (f : next ≡ days_before (is_leap (year_in date)) (month_in date + 1)) (e : before ≡ days_before (is_leap (year_in date)) (month_in date)) where
+    -- the days of a month, as the days before the next one less those before it
+    month_length : next ≡ before + month_days (is_leap (year_in date)) (month_in date)
+    month_length = omega (arith, before_suc (is_leap (year_in date)) (month_in date), ap (days_before (is_leap (year_in date))) (add-one (month_in date)))
+
+    past_month : next - before < day_in date → false ≡ known_date date
+    past_month h = not_known date (λ g. omega (arith, (date_yes date g.is).to, month_length))
+
+    in_length : day_in date ≤ next - before → day_in date ≤ month_days (is_leap (year_in date)) (month_in date)
+    in_length h = omega (arith, month_length)
+
+-- the entry, from the second call of `before_month`
+abbrev at_start : tie.After-before-month2 → tie.Start
+at_start c = c
+
+pub returns-then-date-lt-FIRST_DATE : goal.returns-then-date-lt-FIRST_DATE
+returns-then-date-lt-FIRST_DATE c = too_early c.args.date (omega arith)
+
+pub returns-then-date-gt-LAST_DATE : goal.returns-then-date-gt-LAST_DATE
+returns-then-date-gt-LAST_DATE c = too_late c.args.date (omega arith)
+
+pub returns-then-month-lt1 : goal.returns-then-month-lt1
+returns-then-month-lt1 c = no_month c.args.date (omega arith)
+
+pub returns-then-month-gt-DECEMBER : goal.returns-then-month-gt-DECEMBER
+returns-then-month-gt-DECEMBER c = past_december c.args.date (omega arith)
+
+pub returns-then-day-lt1 : goal.returns-then-day-lt1
+returns-then-day-lt1 c = no_day c.args.date (omega arith)
+
+pub returns-then-day-le-SHORTEST_MONTH : goal.returns-then-day-le-SHORTEST_MONTH
+returns-then-day-le-SHORTEST_MONTH c =
+    any_month c.args.date (omega arith) (omega arith) (omega arith) (omega arith) (omega arith) (omega arith)
+
+pub overflow_sub-before_month : goal.overflow_sub-before_month
+overflow_sub-before_month c =
+    omega (arith, month_length (at_start c).args.date _ _ c.before_month.ensures c.before_month-2.ensures)
+
+pub returns-then-before_month-day : goal.returns-then-before_month-day
+returns-then-before_month-day c =
+    past_month (at_start c).args.date _ _ c.before_month.ensures c.before_month-2.ensures (omega arith)
+
+pub returns : goal.returns
+returns c =
+    within (at_start c).args.date (omega arith) (omega arith) (omega arith)
+    (in_length (at_start c).args.date _ _ c.before_month.ensures c.before_month-2.ensures (omega arith))

@@ -1,0 +1,12 @@
+-- What each turn keeps, and what gets less.
+use mathlib.Core.Path.{◌≡◌}
+use Prim.Native.Nat.{◌+◌, ◌-◌, ◌≤◌}
+use lib.Seq.{slice}
+use Rattle.leaves_utf8.specs.Utf8.{is_utf8}
+use Rattle.leaves_utf8.proofs.utf8.walk.Given as goal
+
+abbrev pub invariant-loop-at : goal.invariant-loop-at
+invariant-loop-at l = (l.at + 4 ≤ l.to) × (is_utf8 (slice l.from l.to l.text) ≡ is_utf8 (slice l.at l.to l.text))
+
+abbrev pub decreases-loop-at : goal.decreases-loop-at
+decreases-loop-at l = l.to - l.at

@@ -1,0 +1,21 @@
+-- The words are laid one behind the other, and stand as one. Assumes nothing.
+use native.Mathlib.Omega.{arith}
+use Prim.Native.Nat.{◌≤◌}
+use lib.ListN.{length}
+use Rattle.lines.specs.Lines.{damage_line, damaged_word, newline}
+use Rattle.lines.specs.LinesLaws.{lays_then}
+use borrow.Author.Rules.{rules}
+use Rattle.lines.proofs.lines.damage_line.Goals as goal
+
+pub returns : goal.returns
+unfolding damage_line damaged_word newline
+returns c =
+    let a = c.args in
+    let w0 = c.number-a.ensures.0 in
+    let w1 = c.word-b.ensures in
+    let w2 = c.number-c.ensures.0 in
+    let w3 = c.word.ensures in
+    let h : a.at ≤ length a.text.now = omega arith in (
+      lays_then h (lays_then h (lays_then h w0 w1) w2) w3,
+      search rules,
+    )

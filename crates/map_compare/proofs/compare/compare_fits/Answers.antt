@@ -1,0 +1,13 @@
+-- Each way through the tests is one law. Assumes nothing.
+use Rattle.map_compare.specs.CompareLaws.{unfit_left, unfit_right, fit_rest}
+use borrow.Author.Rules.{rules}
+use Rattle.map_compare.proofs.compare.compare_fits.Goals as goal
+
+pub returns-then-memory_fits-2 : goal.returns-then-memory_fits-2
+returns-then-memory_fits-2 c = search (rules, fit_rest)
+
+pub returns-else-memory_fits-2 : goal.returns-else-memory_fits-2
+returns-else-memory_fits-2 c = search (rules, unfit_right)
+
+pub returns-else-memory_fits : goal.returns-else-memory_fits
+returns-else-memory_fits c = search (rules, unfit_left)

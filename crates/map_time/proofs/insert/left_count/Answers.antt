@@ -1,0 +1,13 @@
+-- Each way through the tests is one law. Assumes nothing.
+use Rattle.map_rules.specs.Pieces.{left_yes, left_not, left_ge}
+use borrow.Author.Rules.{rules}
+use Rattle.map_time.proofs.insert.left_count.Goals as goal
+
+pub returns-then-same_value : goal.returns-then-same_value
+returns-then-same_value c = search (rules, left_yes, left_not, left_ge)
+
+pub returns-else-same_value : goal.returns-else-same_value
+returns-else-same_value c = search (rules, left_yes, left_not, left_ge)
+
+pub returns-else-x-n : goal.returns-else-x-n
+returns-else-x-n c = search (rules, left_yes, left_not, left_ge)

@@ -1,0 +1,72 @@
+-- `heads::merge_intervals` meets its contract. The invariant: what is left of the walk from here leaves what the whole walk leaves;
+-- a turn is one step of the definition. Assumes nothing.
+use mathlib.Core.Path.{◌≡◌, refl, sym, ◌∙◌}
+use Prim.Native.Nat.{◌-◌}
+use native.Mathlib.Omega.{arith}
+use borrow.Author.Tests.{ltb-true, ltb-false}
+use mathlib.Core.Logic.{⊎_elim}
+use lib.ListN.{length}
+use Rattle.metadata_words.specs.Words.{put_length}
+use Rattle.metadata_lists.specs.Heads.{ended_of, step_counts, turn_conflict, turn_out, end_left, end_right}
+use Rattle.metadata_lists.proofs.heads.merge_intervals.Goals as goal
+
+pub loop-i-init : goal.loop-i-init
+loop-i-init c = (omega arith, omega arith, refl, omega arith, refl)
+
+pub interval_at-y-requires : goal.interval_at-y-requires
+interval_at-y-requires c = omega (arith, ltb-true)
+
+pub enum_told-1 : goal.enum_told-1
+enum_told-1 c = c.in-Conflict.keys1
+
+pub returns-in-Conflict : goal.returns-in-Conflict
+unfolding ended_of
+returns-in-Conflict c =
+    turn_conflict _ _ _ _ _ _ _ _ (omega arith) (omega (arith, ltb-true)) _ _ c.interval_at-x.ensures
+    c.interval_at-y.ensures (sym c.in-Conflict.is ∙ c.turn-s.ensures) ∙
+    c.loop-i.invariant.4
+
+pub enum_known-s : goal.enum_known-s
+enum_known-s c = c.in-Conflict.keys2
+
+pub overflow_add-i : goal.overflow_add-i
+overflow_add-i c = let n = step_counts _ _ _ _ _ (sym c.in-Out.is ∙ c.turn-s.ensures) in omega arith
+
+pub overflow_add-j : goal.overflow_add-j
+overflow_add-j c = let n = step_counts _ _ _ _ _ (sym c.in-Out.is ∙ c.turn-s.ensures) in omega (arith, ltb-true)
+
+pub overflow_add-k : goal.overflow_add-k
+overflow_add-k c = omega (arith, ltb-true, c.well_formed_lem)
+
+pub loop-i-smaller : goal.loop-i-smaller
+loop-i-smaller c = let n = step_counts _ _ _ _ _ (sym c.in-Out.is ∙ c.turn-s.ensures) in omega (arith, ltb-true)
+
+pub loop-i-preserved : goal.loop-i-preserved
+loop-i-preserved c =
+    let n = step_counts _ _ _ _ _ (sym c.in-Out.is ∙ c.turn-s.ensures) in
+    let l : length c.put_interval.new.0 ≡ length c.loop-i.out = put_length _ _ _ _ c.put_interval.ensures in (
+      omega arith,
+      omega (arith, ltb-true),
+      l ∙ c.loop-i.invariant.2,
+      omega (arith, ltb-true),
+      turn_out _ _ _ _ _ _ _ _ (omega arith) (omega (arith, ltb-true)) _ _ c.interval_at-x.ensures
+          c.interval_at-y.ensures _ _ _ _ (sym c.in-Out.is ∙ c.turn-s.ensures)
+          c.put_interval.ensures ∙ c.loop-i.invariant.4,
+    )
+
+pub copy_intervals-requires : goal.copy_intervals-requires
+copy_intervals-requires c = (omega arith, omega arith, omega arith)
+
+pub returns-then-i-left_to : goal.returns-then-i-left_to
+unfolding ended_of
+returns-then-i-left_to c =
+    end_left _ _ _ _ _ _ _ _ _ (⊎_elim (λ w. ltb-false _ _ w.1.left) (λ w. absurd (omega arith))
+    c.loop-i-test.branch) c.copy_intervals.ensures ∙
+    c.loop-i.invariant.4
+
+pub copy_intervals-requires-2 : goal.copy_intervals-requires-2
+copy_intervals-requires-2 c = (omega arith, omega arith, omega arith)
+
+pub returns : goal.returns
+unfolding ended_of
+returns c = end_right _ _ _ _ _ _ _ _ _ (omega arith) c.copy_intervals-2.ensures ∙ c.loop-i.invariant.4

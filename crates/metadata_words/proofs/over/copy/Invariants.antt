@@ -1,0 +1,13 @@
+-- What each turn keeps, and what gets less.
+use mathlib.Core.Path.{◌≡◌}
+use Prim.Native.Nat.{◌≤◌, ◌-◌}
+use lib.ListN.{length}
+use lib.Seq.{paste}
+use Rattle.metadata_words.proofs.over.copy.Given as goal
+
+abbrev pub invariant-loop-j : goal.invariant-loop-j
+invariant-loop-j l =
+    (l.j ≤ l.count) × (length l.list ≡ length l.initial.list) × (l.list ≡ paste l.initial.list 0 l.words l.j)
+
+abbrev pub decreases-loop-j : goal.decreases-loop-j
+decreases-loop-j l = l.count - l.j

@@ -1,0 +1,7 @@
+-- `words::put_mapping` meets its contract: two places written. Assumes nothing.
+use native.Mathlib.Omega.{arith}
+use lib.ListN.{length-set}
+use Rattle.metadata_words.proofs.words.put_mapping.Goals as goal
+
+pub bounds-mappings-o-2 : goal.bounds-mappings-o-2
+bounds-mappings-o-2 c = simp length-set (omega arith)

@@ -1,0 +1,14 @@
+-- What each turn keeps, and what gets less.
+use Prim.Native.Nat.{◌-◌}
+use Rattle.records_rules.specs.Bytes.{streams_of}
+use Rattle.records_rules.specs.Kept.{waits}
+use Rattle.records_rules.specs.View.{statuses_of}
+use Rattle.records_rules.specs.Steps.{Going}
+use Rattle.records.proofs.merge.turns.Given as goal
+
+abbrev pub invariant-loop-size : goal.invariant-loop-size
+invariant-loop-size l =
+    Going (streams_of l.buffer l.cuts) l.held l.initial.marks l.initial.times l.initial.places l.initial.heads l.initial.heap l.size l.marks l.times l.places l.heads l.heap
+
+abbrev pub decreases-loop-size : goal.decreases-loop-size
+decreases-loop-size l = waits (statuses_of 256 l.marks l.times l.places l.heads)

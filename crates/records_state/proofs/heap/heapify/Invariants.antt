@@ -1,0 +1,10 @@
+-- What each turn keeps, and what gets less.
+use Prim.Native.Nat.{◌-◌}
+use Rattle.records_rules.specs.Sift.{Heaped}
+use Rattle.records_state.proofs.heap.heapify.Given as goal
+
+abbrev pub invariant-loop-k : goal.invariant-loop-k
+invariant-loop-k l = Heaped l.times l.held l.initial.heap l.heap l.k
+
+abbrev pub decreases-loop-k : goal.decreases-loop-k
+decreases-loop-k l = l.k

@@ -1,0 +1,8 @@
+-- So many zeros are so many. Assumes nothing.
+use mathlib.Core.Path.{sym}
+use Prim.Native.Nat.{ℕ}
+use lib.ListN.{length-replicate}
+use Rattle.replay_text.proofs.replay.text_space.Goals as goal
+
+pub returns : goal.returns
+returns c = sym (length-replicate {0} {A = ℕ} 252441 0)

@@ -1,0 +1,10 @@
+-- Three places of one row written. Assumes nothing.
+use native.Mathlib.Omega.{arith}
+use lib.ListN.{length-set}
+use Rattle.run_list.proofs.list.put_row.Goals as goal
+
+pub bounds-list-at-2 : goal.bounds-list-at-2
+bounds-list-at-2 c = simp length-set (omega arith)
+
+pub bounds-list-at-3 : goal.bounds-list-at-3
+bounds-list-at-3 c = simp length-set (omega arith)

@@ -1,0 +1,10 @@
+-- What each turn keeps, and what gets less.
+use Prim.Native.Nat.{◌-◌}
+use lib.ListN.{length}
+use Rattle.vectors_builds.proofs.calls.holds.Given as goal
+
+abbrev pub invariant-loop-i : goal.invariant-loop-i
+invariant-loop-i l = Unit {0}
+
+abbrev pub decreases-loop-i : goal.decreases-loop-i
+decreases-loop-i l = length l.table - l.i
