@@ -39,7 +39,7 @@ returns-in-New c =
     c.judge_name-judged.ensures
     c.in-New.is in
     let d = c.add_name-end.ensures in
-    let p = promised_new a.bytes.now a.ends.now a.names a.name_bytes a.text.now _ e (whole a.text.now) (omega arith) d.0 d.1.0 d.1.1 in
+    let p = promised_new a.bytes.now a.ends.now a.names a.name_bytes a.text.now _ e (whole a.text.now) (omega arith) d.value d.bytes_after d.ends_after in
     record {
       result_value = p.0;
       bytes_after = p.1.0;

@@ -6,7 +6,7 @@ use Rattle.map_explain.proofs.explain.explain_checked.Goals as goal
 pub started-requires : goal.started-requires
 started-requires c =
     let r = c.reached-end.ensures in
-    (placed c.requires c.beginning-begin.ensures.right r.1 r.0, search rules)
+    (placed c.requires c.beginning-begin.ensures.right r.right r.within, search rules)
 
 pub returns-then-begin-end : goal.returns-then-begin-end
 returns-then-begin-end c = c.started.ensures
@@ -14,4 +14,4 @@ returns-then-begin-end c = c.started.ensures
 pub returns-else-begin-end : goal.returns-else-begin-end
 returns-else-begin-end c =
     let r = c.reached-end.ensures in
-    c.not_started.ensures _ _ (placed c.requires c.beginning-begin.ensures.right r.1 r.0) c.if-begin-end.false
+    c.not_started.ensures _ _ (placed c.requires c.beginning-begin.ensures.right r.right r.within) c.if-begin-end.false

@@ -36,8 +36,8 @@ returns-then-is_list c =
     let k = sym c.is_list.ensures ∙ c.if-is_list.true in
     let a = c.args in
     let e = c.plan_record.ensures in record {
-      result_value = e.0 ∙ judged_on _ _ _ _ _ _ f q k;
-      ready = ready_planned a.over_time_lem a.bytes.now a.ends.now a.names a.name_bytes a.rec.now c.plan_record.result q e.1.0 e.1.1;
+      result_value = e.result_value ∙ judged_on _ _ _ _ _ _ f q k;
+      ready = ready_planned a.over_time_lem a.bytes.now a.ends.now a.names a.name_bytes a.rec.now c.plan_record.result q e.placed e.forward;
     }
 
 pub returns-else-is_list : goal.returns-else-is_list

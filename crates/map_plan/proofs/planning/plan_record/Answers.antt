@@ -36,8 +36,8 @@ returns-then-not-over_time c =
     let n = c.is_name.ensures in
     let q = c.plan_name-named.ensures in
     let a = c.args in
-    let f = point_forward a.over_time_lem a.bytes.now a.ends.now a.rec.now a.names a.name_bytes e s c.plan_name-named.result q.0 c.if-not-over_time.true-raw in
-    (asked_point _ _ _ _ _ _ e s n c.if-not-is_name.false-raw c.if-not-over_time.true-raw q.0, (q.1, f))
+    let f = point_forward a.over_time_lem a.bytes.now a.ends.now a.rec.now a.names a.name_bytes e s c.plan_name-named.result q.result_value c.if-not-over_time.true-raw in
+    (asked_point _ _ _ _ _ _ e s n c.if-not-is_name.false-raw c.if-not-over_time.true-raw q.result_value, (q.placed, f))
 
 pub returns-then-end-start : goal.returns-then-end-start
 returns-then-end-start c =
@@ -53,8 +53,8 @@ returns-then-start-end c =
     let n = c.is_name.ensures in
     let q = c.plan_name-named.ensures in
     let a = c.args in
-    let f = time_forward a.over_time_lem a.bytes.now a.ends.now a.rec.now a.names a.name_bytes e s c.plan_name-named.result q.0 c.if-start-end.true in
-    (asked_symbol _ _ _ _ _ _ e s n c.if-not-is_name.false-raw c.if-not-over_time.false-raw c.if-start-end.true q.0, (q.1, f))
+    let f = time_forward a.over_time_lem a.bytes.now a.ends.now a.rec.now a.names a.name_bytes e s c.plan_name-named.result q.result_value c.if-start-end.true in
+    (asked_symbol _ _ _ _ _ _ e s n c.if-not-is_name.false-raw c.if-not-over_time.false-raw c.if-start-end.true q.result_value, (q.placed, f))
 
 pub returns-else-start-end : goal.returns-else-start-end
 returns-else-start-end c =

@@ -44,7 +44,7 @@ returns-then-new c =
     let a = c.args in
     let j = c.add_name-end.ensures in
     let p = joined_new a.bytes.now a.ends.now a.names a.name_bytes a.rec.now a.plan a.used c.in-Store.is
-    c.if-new.true c.requires j.0 j.1.0 j.1.1 in
+    c.if-new.true c.requires j.value j.bytes_after j.ends_after in
     record {
       result_value = p.0;
       bytes_after = p.1.0;

@@ -83,13 +83,14 @@ loop-j-smaller c =
     omega arith
 
 pub loop-j-preserved : goal.loop-j-preserved
-loop-j-preserved c = (
-  (turn_going _ _ _ _ _ _ _ _ _ c.requires _ _ _ _ c.loop-j.invariant.0 c.loop-j-test.true _ _ (sym c.loop-j.invariant.1)
-      c.copy_intervals.ensures _ _ refl c.count_at-size.ensures _ _ _
-      (ap (λ (q : WalkLaid). ended_of q c.merge_intervals-walked.new.1.1.1.1.1.1.0) (sym c.in-Done.is) ∙
-      c.merge_intervals-walked.ensures) c.merge_intervals-walked.auto.out refl).0,
-  laid_length _ _ _ _ c.copy_intervals.ensures ∙ c.loop-j.invariant.1,
-)
+loop-j-preserved c =
+    (
+      (turn_going _ _ _ _ _ _ _ _ _ c.requires _ _ _ _ c.loop-j.invariant.0 c.loop-j-test.true _ _ (sym c.loop-j.invariant.1)
+          c.copy_intervals.ensures _ _ refl c.count_at-size.ensures _ _ _
+          (ap (λ (q : WalkLaid). ended_of q c.merge_intervals-walked.new.1.1.1.1.1.1.0) (sym c.in-Done.is) ∙
+          c.merge_intervals-walked.ensures) c.merge_intervals-walked.auto.out refl).0,
+      laid_length _ _ _ _ c.copy_intervals.ensures ∙ c.loop-j.invariant.1,
+    )
 
 pub overflow_add-result : goal.overflow_add-result
 overflow_add-result c = omega (arith, c.well_formed_lem, c.loop-j.invariant.0.room)

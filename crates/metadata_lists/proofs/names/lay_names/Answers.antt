@@ -43,13 +43,14 @@ pub enum_known-r : goal.enum_known-r
 enum_known-r c = c.in-Conflict.keys2
 
 pub loop-i-preserved : goal.loop-i-preserved
-loop-i-preserved c = (
-  turn_lays _ _ _ _ _ _ _ _ _ c.requires _ _ _ _ _ _ _ c.loop-i.invariant.0 c.loop-i-test.true _ _ _ _
-      c.lay_place-r.auto.out_mappings c.lay_place-r.auto.out_intervals
-      (ap (λ (x : NamesLaid). end_names x c.lay_place-r.new.1.1.1.1.1.1.1.1.0 c.lay_place-r.new.1.1.1.1.1.1.1.1.1.1.0)
-      (sym c.in-Done.is) ∙ c.lay_place-r.ensures),
-  c.lay_place-r.auto.temp ∙ c.loop-i.invariant.1,
-)
+loop-i-preserved c =
+    (
+      turn_lays _ _ _ _ _ _ _ _ _ c.requires _ _ _ _ _ _ _ c.loop-i.invariant.0 c.loop-i-test.true _ _ _ _
+          c.lay_place-r.auto.out_mappings c.lay_place-r.auto.out_intervals
+          (ap (λ (x : NamesLaid). end_names x c.lay_place-r.new.1.1.1.1.1.1.1.1.0 c.lay_place-r.new.1.1.1.1.1.1.1.1.1.1.0)
+          (sym c.in-Done.is) ∙ c.lay_place-r.ensures),
+      c.lay_place-r.auto.temp ∙ c.loop-i.invariant.1,
+    )
 
 pub returns : goal.returns
 unfolding end_names
