@@ -43,30 +43,26 @@ module _ (date : ℕ) (b : _) (t : b ≡ known_date date) (h : b ≡ true) where
       let n : years + before + (day_in date - 1) ≡ day_number date = omega (arith, e, y) in
       ap (λ (x : ℕ). answer 0 (x ∷ [])) n ∙ sym (day_good date (known_good date (sym t ∙ h)))
 
--- past the test the number is a date
-of : (c : tie.Else1) → Parts c.args.date
-of c = parts c.args.date _ c.is_date.ensures c.if-not-is_date.false
-
 pub returns-then-not-is_date : goal.returns-then-not-is_date
 unfolding day_of
 returns-then-not-is_date c = rw (sym c.is_date.ensures ∙ c.if-not-is_date.true) refl
 
 pub before_year-requires : goal.before_year-requires
-before_year-requires c = let p = of c in (omega (arith, p.from), omega (arith, p.to))
+before_year-requires c = let p = parts c.args.date _ c.is_date.ensures c.if-not-is_date.false in (omega (arith, p.from), omega (arith, p.to))
 
 pub before_month-requires : goal.before_month-requires
-before_month-requires c = omega (arith, (of c).month)
+before_month-requires c = omega (arith, (parts c.args.date _ c.is_date.ensures c.if-not-is_date.false).month)
 
 pub overflow_add-result : goal.overflow_add-result
 overflow_add-result c =
-    let p = of c in omega (arith, p.years, p.months, c.before_year.ensures, c.before_month.ensures)
+    let p = parts c.args.date _ c.is_date.ensures c.if-not-is_date.false in omega (arith, p.years, p.months, c.before_year.ensures, c.before_month.ensures)
 
 pub overflow_sub-result : goal.overflow_sub-result
-overflow_sub-result c = omega (arith, (of c).day)
+overflow_sub-result c = omega (arith, (parts c.args.date _ c.is_date.ensures c.if-not-is_date.false).day)
 
 pub overflow_add-result-2 : goal.overflow_add-result-2
 overflow_add-result-2 c =
-    let p = of c in omega (arith, p.years, p.months, c.before_year.ensures, c.before_month.ensures)
+    let p = parts c.args.date _ c.is_date.ensures c.if-not-is_date.false in omega (arith, p.years, p.months, c.before_year.ensures, c.before_month.ensures)
 
 pub returns : goal.returns
 returns c =

@@ -45,10 +45,6 @@ module _ (date : ℕ) where
     in_length : day_in date ≤ next - before → day_in date ≤ month_days (is_leap (year_in date)) (month_in date)
     in_length h = omega (arith, month_length)
 
--- the entry, from the second call of `before_month`
-abbrev at_start : tie.After-before-month2 → tie.Start
-at_start c = c
-
 pub returns-then-date-lt-FIRST_DATE : goal.returns-then-date-lt-FIRST_DATE
 returns-then-date-lt-FIRST_DATE c = too_early c.args.date (omega arith)
 
@@ -70,13 +66,13 @@ returns-then-day-le-SHORTEST_MONTH c =
 
 pub overflow_sub-before_month : goal.overflow_sub-before_month
 overflow_sub-before_month c =
-    omega (arith, month_length (at_start c).args.date _ _ c.before_month.ensures c.before_month-2.ensures)
+    omega (arith, month_length c.args.date _ _ c.before_month.ensures c.before_month-2.ensures)
 
 pub returns-then-before_month-day : goal.returns-then-before_month-day
 returns-then-before_month-day c =
-    past_month (at_start c).args.date _ _ c.before_month.ensures c.before_month-2.ensures (omega arith)
+    past_month c.args.date _ _ c.before_month.ensures c.before_month-2.ensures (omega arith)
 
 pub returns : goal.returns
 returns c =
-    within (at_start c).args.date (omega arith) (omega arith) (omega arith)
-    (in_length (at_start c).args.date _ _ c.before_month.ensures c.before_month-2.ensures (omega arith))
+    within c.args.date (omega arith) (omega arith) (omega arith)
+    (in_length c.args.date _ _ c.before_month.ensures c.before_month-2.ensures (omega arith))

@@ -16,7 +16,7 @@ loop-n-init c =
 pub is_same-requires : goal.is_same-requires
 is_same-requires c =
     let n = c.loop-n.n in
-    omega (arith, c.requires.0.rising n c.loop-n-test.true, c.requires.0.inside n c.loop-n-test.true, c.loop-n.invariant.begins, c.place-end.ensures.0, c.requires.1)
+    omega (arith, c.requires.ordered.rising n c.loop-n-test.true, c.requires.ordered.inside n c.loop-n-test.true, c.loop-n.invariant.begins, c.place-end.ensures.0, c.requires.from_le_to)
 
 pub returns-then-is_same : goal.returns-then-is_same
 returns-then-is_same c = search (rules, seek_found)
