@@ -5,7 +5,7 @@ use Rattle.build_rules.proofs.reading.number_named.Goals as goal
 
 pub number_within-read-requires : goal.number_within-read-requires
 number_within-read-requires c =
-    named_within c.args.bytes.now c.args.ends.now c.args.names c.args.number c.requires.0 c.requires.1 c.name_start-start.ensures c.name_end-end.ensures
+    named_within c.args.bytes.now c.args.ends.now c.args.names c.args.number c.requires.ordered c.requires.number_lt_names c.name_start-start.ensures c.name_end-end.ensures
 
 pub returns-in-Value : goal.returns-in-Value
 returns-in-Value c = search (rules, named_value)
