@@ -2,7 +2,7 @@
 -- determine the table, and what an insert does to the answers and to the other rows. Assumes nothing.
 use Rattle.std.specs.Prelude.{◌≡◌, ◌≢◌, ◌↔◌, ℕ, ◌<◌, Bool}
 use Rattle.std.proofs.Math.Path.{refl, sym}
-use Rattle.std.proofs.Common.{ap, ◌∙◌, le_refl, arith}
+use Rattle.std.proofs.Common.{subst, ap, ◌∙◌, le_refl, arith}
 use Rattle.std.proofs.Math.Decide.{ℕ_discrete}
 use Rattle.std.proofs.Math.Option.{Option, none, some}
 use mathlib.Core.List.{List, [], ◌∷◌}
@@ -78,8 +78,10 @@ module _ {A : Type 0} (same : A → A → Bool) (laws : Same same) where
       where
         go : Dec (n.instrument ≡ i) → answer_at (group i (insert_rows same n xs)) m ≡ answer_at (picked i n (group i xs)) m
         go (yes d) =
-            rw (picked_own i n (group i xs) d, ← d, insert_own same n xs)
-            (overwrite_answer same laws (interval_of n) (group n.instrument xs) h (((formed_iff xs).0 w).groups n.instrument) m)
+            rw (picked_own i n (group i xs) d)
+            (subst (λ (k : ℕ). answer_at (group k (insert_rows same n xs)) m ≡ answer_at (interval_of n ∷ group k xs) m) d
+            (rw (insert_own same n xs)
+            (overwrite_answer same laws (interval_of n) (group n.instrument xs) h (((formed_iff xs).0 w).groups n.instrument) m)))
         go (no d) = rw (picked_other i n (group i xs) d, insert_other same n xs i d) refl
 
     -- what it leaves alone: other instruments, and what ends before its start or starts after its end

@@ -110,7 +110,8 @@ mappings_read (m ∷ ms) pm rm pv rv t o h k =
     ap (λ (x : List ℕ). pv ++ x) (append_assoc (words_of m.intervals) (interval_words ms) rv) in
     let c = stretch_read m.intervals pv (interval_words ms ++ rv) o k in
     rw (a, b, g, c) (ap (λ (x : List Mapping). m ∷ x)
-    (ap (λ (x : List ℕ). mappings_from x (pv ++ (words_of m.intervals ++ (interval_words ms ++ rv))) (t + 1) (o + length m.intervals) (length ms))
+    (ap (λ (x : List ℕ). mappings_from (pm ++ (mapping_words (m ∷ ms) ++ rm)) x (t + 1) (o + length m.intervals) (length ms)) g
+    ∙ ap (λ (x : List ℕ). mappings_from x (pv ++ (words_of m.intervals ++ (interval_words ms ++ rv))) (t + 1) (o + length m.intervals) (length ms))
     (sym (append_assoc pm (m.name ∷ length m.intervals ∷ []) (mapping_words ms ++ rm)))
     ∙ ap (λ (x : List ℕ). mappings_from ((pm ++ m.name ∷ length m.intervals ∷ []) ++ (mapping_words ms ++ rm)) x (t + 1) (o + length m.intervals) (length ms))
     (sym (append_assoc pv (words_of m.intervals) (interval_words ms ++ rv)))
