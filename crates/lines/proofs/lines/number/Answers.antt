@@ -9,13 +9,13 @@ pub word-requires : goal.word-requires
 word-requires c =
     let d = c.decimal-k in
     let k : d.result ≤ 20 = twenty_digits _ _ d.ensures.len (omega arith) in
-    omega (arith, d.ensures.in_bounds.1)
+    omega (arith, d.ensures.in_bounds)
 
 pub returns : goal.returns
 returns c =
     let d = c.decimal-k in
     let k : d.result ≤ 20 = twenty_digits _ _ d.ensures.len (omega arith) in
     let w = c.word.ensures in (
-      lays_same (d.ensures.1.1 ∙ decimal_fewest _ _ d.ensures.len) w,
-      omega (arith, d.ensures.in_bounds.1, w.behind),
+      lays_same (d.ensures.digits ∙ decimal_fewest _ _ d.ensures.len) w,
+      omega (arith, d.ensures.in_bounds, w.behind),
     )

@@ -6,12 +6,6 @@ use lib.ListN.{length-set}
 use Rattle.lines.specs.SectionsLaws.{taking_start, taking_turn, bad_long, bad_many, bad_section, bad_none, apart, Turned, turned}
 use Rattle.lines.proofs.sections.part.Goals as goal
 
-turned_at : (c : tie.Else3 invariant_loop decreases_loop)
-    → Turned c.args.bundle.now c.loop-at.at c.loop-at.bytes c.loop-at.count c.part_size-size.result
-turned_at c =
-    turned c.loop-at.invariant.2 c.loop-at-test.true
-    c.if-bundle-gt-BUNDLE_BYTES.false c.if-count-eq-STREAMS.false c.part_size-size.ensures c.if-size-eq0.false
-
 pub returns-then-bundle-gt-BUNDLE_BYTES : goal.returns-then-bundle-gt-BUNDLE_BYTES
 returns-then-bundle-gt-BUNDLE_BYTES c = bad_long _ (omega arith)
 
@@ -30,38 +24,80 @@ returns-then-size-eq0 c =
     bad_section c.loop-at.invariant.2 c.if-bundle-gt-BUNDLE_BYTES.false c.loop-at-test.true (sym c.part_size-size.ensures ∙ c.if-size-eq0.true)
 
 pub overflow_add-at : goal.overflow_add-at
-overflow_add-at c = let t = turned_at c in omega arith
+overflow_add-at c =
+    let t =
+    turned c.loop-at.invariant.2 c.loop-at-test.true
+    c.if-bundle-gt-BUNDLE_BYTES.false c.if-count-eq-STREAMS.false c.part_size-size.ensures c.if-size-eq0.false in
+    omega arith
 
 pub overflow_sub-size : goal.overflow_sub-size
-overflow_sub-size c = let t = turned_at c in omega arith
+overflow_sub-size c =
+    let t =
+    turned c.loop-at.invariant.2 c.loop-at-test.true
+    c.if-bundle-gt-BUNDLE_BYTES.false c.if-count-eq-STREAMS.false c.part_size-size.ensures c.if-size-eq0.false in
+    omega arith
 
 pub copy-requires : goal.copy-requires
-copy-requires c = let t = turned_at c in omega arith
+copy-requires c =
+    let t =
+    turned c.loop-at.invariant.2 c.loop-at-test.true
+    c.if-bundle-gt-BUNDLE_BYTES.false c.if-count-eq-STREAMS.false c.part_size-size.ensures c.if-size-eq0.false in
+    omega arith
 
 pub overflow_sub-bytes : goal.overflow_sub-bytes
-overflow_sub-bytes c = let t = turned_at c in omega arith
+overflow_sub-bytes c =
+    let t =
+    turned c.loop-at.invariant.2 c.loop-at-test.true
+    c.if-bundle-gt-BUNDLE_BYTES.false c.if-count-eq-STREAMS.false c.part_size-size.ensures c.if-size-eq0.false in
+    omega arith
 
 pub overflow_add-bytes : goal.overflow_add-bytes
-overflow_add-bytes c = let t = turned_at c in omega arith
+overflow_add-bytes c =
+    let t =
+    turned c.loop-at.invariant.2 c.loop-at-test.true
+    c.if-bundle-gt-BUNDLE_BYTES.false c.if-count-eq-STREAMS.false c.part_size-size.ensures c.if-size-eq0.false in
+    omega arith
 
 pub overflow_add-at-in-loop-at : goal.overflow_add-at-in-loop-at
-overflow_add-at-in-loop-at c = let t = turned_at c in omega arith
+overflow_add-at-in-loop-at c =
+    let t =
+    turned c.loop-at.invariant.2 c.loop-at-test.true
+    c.if-bundle-gt-BUNDLE_BYTES.false c.if-count-eq-STREAMS.false c.part_size-size.ensures c.if-size-eq0.false in
+    omega arith
 
 pub overflow_add-count : goal.overflow_add-count
-overflow_add-count c = let t = turned_at c in omega arith
+overflow_add-count c =
+    let t =
+    turned c.loop-at.invariant.2 c.loop-at-test.true
+    c.if-bundle-gt-BUNDLE_BYTES.false c.if-count-eq-STREAMS.false c.part_size-size.ensures c.if-size-eq0.false in
+    omega arith
 
 pub offset_bounds-cuts-count : goal.offset_bounds-cuts-count
-offset_bounds-cuts-count c = let t = turned_at c in omega arith
+offset_bounds-cuts-count c =
+    let t =
+    turned c.loop-at.invariant.2 c.loop-at-test.true
+    c.if-bundle-gt-BUNDLE_BYTES.false c.if-count-eq-STREAMS.false c.part_size-size.ensures c.if-size-eq0.false in
+    omega arith
 
 pub bounds-cuts-count : goal.bounds-cuts-count
-bounds-cuts-count c = let t = turned_at c in omega arith
+bounds-cuts-count c =
+    let t =
+    turned c.loop-at.invariant.2 c.loop-at-test.true
+    c.if-bundle-gt-BUNDLE_BYTES.false c.if-count-eq-STREAMS.false c.part_size-size.ensures c.if-size-eq0.false in
+    omega arith
 
 pub loop-at-smaller : goal.loop-at-smaller
-loop-at-smaller c = let t = turned_at c in omega arith
+loop-at-smaller c =
+    let t =
+    turned c.loop-at.invariant.2 c.loop-at-test.true
+    c.if-bundle-gt-BUNDLE_BYTES.false c.if-count-eq-STREAMS.false c.part_size-size.ensures c.if-size-eq0.false in
+    omega arith
 
 pub loop-at-preserved : goal.loop-at-preserved
 loop-at-preserved c =
-    let t = turned_at c in (
+    let t =
+    turned c.loop-at.invariant.2 c.loop-at-test.true
+    c.if-bundle-gt-BUNDLE_BYTES.false c.if-count-eq-STREAMS.false c.part_size-size.ensures c.if-size-eq0.false in (
       c.copy.auto.to ∙ c.loop-at.invariant.0,
       simp length-set c.loop-at.invariant.1,
       rw c.copy.ensures (
