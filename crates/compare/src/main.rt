@@ -1,7 +1,9 @@
-// compare: the program that rt runs on `stdin` and holds to `stdout`. A Rattle main sets no status: `tools/program` builds the one
-// that people run from the same function.
+// compare: the program that rt runs on `stdin` and holds to `stdout`, and that people run by
+// `tools/program`.
 #![tactic(auto)]
 
-fn main() {
-    compare_main::compare_main();
+use std::process::ExitCode;
+
+fn main(rt: HostRuntime) -> ExitCode {
+    ExitCode::from(compare_main::compare_main(&rt))
 }

@@ -14,6 +14,7 @@ use map_compare::compare::{both_formed, compare_fits};
 use map_compare_walk::walk::Position;
 use map_table::interval::WIDTH;
 use standard::{BAD, DONE, FAILED, Input, text_space};
+use std::io::Input as StandardInput;
 
 // An input over this many bytes is bad.
 const MOST_BYTES: usize = 3145750;
@@ -26,19 +27,19 @@ fn input_space() -> [u8; 3145751]
 }
 
 // Writes the last line and answers the status.
-fn say(text: &[u8], status: u8) -> u8
+fn say(rt: &(impl Print + Eprint), text: &[u8], status: u8) -> u8
     ensures { Ends status result }
 {
-    standard::ended(text, status, b"compare: writing standard output")
+    standard::ended(rt, text, status, b"compare: writing standard output")
 }
 
 // Writes a portion of lines, and answers whether it went out.
-fn put(text: &[u8]) -> bool {
-    standard::write_portion(text, b"compare: writing standard output")
+fn put(rt: &(impl Print + Eprint), text: &[u8]) -> bool {
+    standard::write_portion(rt, text, b"compare: writing standard output")
 }
 
 // Writes the line of every stretch in which two tables that are in order disagree, portion by portion, then `end`.
-fn tell_all(left: &[u8], n: usize, right: &[u8], m: usize, text: &mut [u8]) -> u8
+fn tell_all(rt: &(impl Print + Eprint), left: &[u8], n: usize, right: &[u8], m: usize, text: &mut [u8]) -> u8
     requires { InOrder left.now n right.now m × (105 ≤ length text.old) }
     ensures { Ends 0 result }
 {
@@ -47,58 +48,57 @@ fn tell_all(left: &[u8], n: usize, right: &[u8], m: usize, text: &mut [u8]) -> u
     while l.place < n || r.place < m {
         let p = lay_portion(left, n, right, m, l, r, text);
         let k = p.at;
-        if !put(&text[..k]) {
+        if !put(rt, &text[..k]) {
             return FAILED;
         }
         l = p.left;
         r = p.right;
     }
-    say(b"end\n", DONE)
+    say(rt, b"end\n", DONE)
 }
 
 // Compares two tables of which every interval is in use: their lines, or the line that refuses them.
-fn compare_tables(left: &[u8], right: &[u8], names: usize, text: &mut [u8]) -> u8
+fn compare_tables(rt: &(impl Print + Eprint), left: &[u8], right: &[u8], names: usize, text: &mut [u8]) -> u8
     requires { 105 ≤ length text.old }
     ensures { Ends (tables_status left.now right.now names) result }
 {
     let n = left.len() / WIDTH;
     let m = right.len() / WIDTH;
     if !compare_fits(left.len(), n, right.len(), m, names, 0) {
-        say(b"refused 15\n", BAD)
+        say(rt, b"refused 15\n", BAD)
     } else if both_formed(left, n, right, m, names) {
-        tell_all(left, n, right, m, text)
+        tell_all(rt, left, n, right, m, text)
     } else {
-        say(b"refused 14\n", BAD)
+        say(rt, b"refused 14\n", BAD)
     }
 }
 
 // Takes the input apart and compares, or writes only the line that says that it is bad.
-fn show(input: &[u8], text: &mut [u8]) -> u8
+fn show(rt: &(impl Print + Eprint), input: &[u8], text: &mut [u8]) -> u8
     requires { 105 ≤ length text.old }
     ensures { Ends (status_of input.now) result }
 {
     let end = table_end(input, MOST_BYTES, TABLE);
     if end == 0 {
-        return say(b"bad bundle\n", BAD);
+        return say(rt, b"bad bundle\n", BAD);
     }
     let names = leaves_fields::fields::u32_at(input, PART_HEAD) as usize;
     let begin = NAMES_BYTES + PART_HEAD;
     let next = end + PART_HEAD;
-    compare_tables(&input[begin..end], &input[next..], names, text)
+    compare_tables(rt, &input[begin..end], &input[next..], names, text)
 }
 
 // Compares standard input and answers the status.
-fn compared() -> u8 {
+fn compared(rt: &(impl StandardInput + Print + Eprint)) -> u8 {
     let mut input = input_space();
     let mut text = text_space();
-    match standard::read_input(&mut input, b"compare: reading standard input") {
-        Input::Bytes(n) => show(&input[..n], &mut text),
+    match standard::read_input(rt, &mut input, b"compare: reading standard input") {
+        Input::Bytes(n) => show(rt, &input[..n], &mut text),
         Input::Failed => FAILED,
     }
 }
 
 // The program: compares the tables of standard input, and answers the status to end with.
-#[unsafe(no_mangle)]
-pub extern "C" fn compare_main() -> i32 {
-    compared() as i32
+pub fn compare_main(rt: &(impl StandardInput + Print + Eprint)) -> u8 {
+    compared(rt)
 }

@@ -1,7 +1,9 @@
-// explain: the program that rt runs on `stdin` and holds to `stdout`. A Rattle main sets no status: `tools/program` builds the one
-// that people run from the same function.
+// explain: the program that rt runs on `stdin` and holds to `stdout`, and that people run by
+// `tools/program`.
 #![tactic(auto)]
 
-fn main() {
-    explain_main::explain_main();
+use std::process::ExitCode;
+
+fn main(rt: HostRuntime) -> ExitCode {
+    ExitCode::from(explain_main::explain_main(&rt))
 }

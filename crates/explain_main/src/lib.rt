@@ -13,6 +13,7 @@ use lines::parts::PART_HEAD;
 use map_table::interval::WIDTH;
 use map_table::table::Checked;
 use standard::{BAD, DONE, FAILED, Input, text_space};
+use std::io::Input as StandardInput;
 
 pub mod telling;
 
@@ -44,15 +45,15 @@ fn are_questions(bytes: usize) -> bool
 }
 
 // Writes the last line and answers the status.
-fn say(text: &[u8], status: u8) -> u8
+fn say(rt: &(impl Print + Eprint), text: &[u8], status: u8) -> u8
     ensures { Ends status result }
 {
-    standard::ended(text, status, b"explain: writing standard output")
+    standard::ended(rt, text, status, b"explain: writing standard output")
 }
 
 // Writes a portion of lines, and answers whether it went out.
-fn put(text: &[u8]) -> bool {
-    standard::write_portion(text, b"explain: writing standard output")
+fn put(rt: &(impl Print + Eprint), text: &[u8]) -> bool {
+    standard::write_portion(rt, text, b"explain: writing standard output")
 }
 
 // The status of questions about a table of which the check said this.
@@ -67,6 +68,7 @@ fn status_of(checked: Checked) -> u8
 
 // Writes the line of each of so many questions, portion by portion.
 fn tell_all(
+    rt: &(impl Print + Eprint),
     table: &[u8],
     used: usize,
     checked: Checked,
@@ -81,25 +83,26 @@ fn tell_all(
     while next < count {
         let p = lay_portion(table, used, checked, questions, count, next, text);
         let k = p.at;
-        if !put(&text[..k]) {
+        if !put(rt, &text[..k]) {
             return FAILED;
         }
         next = p.next;
     }
-    say(b"", status_of(checked))
+    say(rt, b"", status_of(checked))
 }
 
 // Answers questions about a table of which every interval is in use, or writes only the line that says that they are none.
-fn answer_all(table: &[u8], names: usize, questions: &[u8], text: &mut [u8]) -> u8
+fn answer_all(rt: &(impl Print + Eprint), table: &[u8], names: usize, questions: &[u8], text: &mut [u8]) -> u8
     requires { 218 ≤ length text.old }
     ensures { Ends (asked_status table.now names (length questions.now)) result }
 {
     if !are_questions(questions.len()) {
-        return say(b"bad bundle\n", BAD);
+        return say(rt, b"bad bundle\n", BAD);
     }
     let used = table.len() / WIDTH;
     let checked = map_table::table::check(table, used, names);
     tell_all(
+        rt,
         table,
         used,
         checked,
@@ -110,32 +113,31 @@ fn answer_all(table: &[u8], names: usize, questions: &[u8], text: &mut [u8]) -> 
 }
 
 // Takes the input apart and answers, or writes only the line that says that it is bad.
-fn show(input: &[u8], text: &mut [u8]) -> u8
+fn show(rt: &(impl Print + Eprint), input: &[u8], text: &mut [u8]) -> u8
     requires { 218 ≤ length text.old }
     ensures { Ends (status_of input.now) result }
 {
     let end = table_end(input, MOST_BYTES, QUESTIONS);
     if end == 0 {
-        return say(b"bad bundle\n", BAD);
+        return say(rt, b"bad bundle\n", BAD);
     }
     let names = leaves_fields::fields::u32_at(input, PART_HEAD) as usize;
     let begin = NAMES_BYTES + PART_HEAD;
     let next = end + PART_HEAD;
-    answer_all(&input[begin..end], names, &input[next..], text)
+    answer_all(rt, &input[begin..end], names, &input[next..], text)
 }
 
 // Answers standard input's questions and answers the status.
-fn answered() -> u8 {
+fn answered(rt: &(impl StandardInput + Print + Eprint)) -> u8 {
     let mut input = input_space();
     let mut text = text_space();
-    match standard::read_input(&mut input, b"explain: reading standard input") {
-        Input::Bytes(n) => show(&input[..n], &mut text),
+    match standard::read_input(rt, &mut input, b"explain: reading standard input") {
+        Input::Bytes(n) => show(rt, &input[..n], &mut text),
         Input::Failed => FAILED,
     }
 }
 
 // The program: answers the questions of standard input, and answers the status to end with.
-#[unsafe(no_mangle)]
-pub extern "C" fn explain_main() -> i32 {
-    answered() as i32
+pub fn explain_main(rt: &(impl StandardInput + Print + Eprint)) -> u8 {
+    answered(rt)
 }

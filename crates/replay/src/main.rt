@@ -1,7 +1,9 @@
-// replay: the program that rt runs on `stdin` and holds to `stdout`. A Rattle main sets no status: `tools/program` builds the one
-// that people run from the same function.
+// replay: the program that rt runs on `stdin` and holds to `stdout`, and that people run by
+// `tools/program`.
 #![tactic(auto)]
 
-fn main() {
-    replay_main::replay_main();
+use std::process::ExitCode;
+
+fn main(rt: HostRuntime) -> ExitCode {
+    ExitCode::from(replay_main::replay_main(&rt))
 }

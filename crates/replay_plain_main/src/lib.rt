@@ -2,9 +2,9 @@
 #![tactic(auto)]
 
 use replay_text::replay::PLAIN;
+use std::io::Input as StandardInput;
 
 // The program: replays standard input to standard output, and answers the status to end with.
-#[unsafe(no_mangle)]
-pub extern "C" fn replay_plain_main() -> i32 {
-    replay_main::replayed_by(PLAIN) as i32
+pub fn replay_plain_main(rt: &(impl StandardInput + Print + Eprint)) -> u8 {
+    replay_main::replayed_by(rt, PLAIN)
 }

@@ -1,10 +1,13 @@
-// Standard input read to its end, and a text written to standard output, for every program. What the system refuses is said in one
+// Standard input read to its end, and a text written to standard output, for every program, over std. What the system refuses is said in one
 // line on standard error: what the program was doing, and the system's reason.
 #![tactic(auto)]
 
-ghost use Rattle.std.specs.Prelude.{◌≡◌, ◌+◌, ◌≤◌, length};
+ghost use Rattle.std.specs.Prelude.{◌≡◌, ◌+◌, ◌≤◌, IfOk, length};
 ghost use Rattle.standard.specs.Input.{Within};
 ghost use Rattle.standard.specs.Status.{Ends};
+
+use std::io;
+use std::io::{Cursor, Input as StandardInput, Read, Write};
 
 // The status of a program that did what it was asked.
 pub const DONE: u8 = 0;
@@ -29,70 +32,69 @@ pub enum Input {
     Failed,
 }
 
-// What one read answers.
-#[derive(Clone, Copy)]
-struct Portion {
-    bytes: usize,
-    failed: bool,
+// Says in one line on standard error what the program was doing and the system's reason, which is std's text but for the number
+// behind it. Where that line can't be written either, nobody is left to tell.
+fn fail(rt: &impl Eprint, doing: &[u8], error: &io::Error) {
+    let mut space = [0u8; 256];
+    let mut out = Cursor::new(&mut space[..]);
+    let _ = write!(out, "{error}");
+    let used = out.position() as usize;
+    let text = std::str::from_utf8(&space[..used.min(space.len())]).unwrap_or("");
+    let reason = match text.split_once(" (os error ") {
+        Some((words, _)) => words,
+        None => text,
+    };
+    let _ = rt.eprintln(format_args!("{}: {reason}", doing.escape_ascii()));
 }
 
-// Reads once, into the lent bytes from a place on.
-fn read_at(space: &mut [u8], at: usize) -> Portion
+// Reads once, into the lent bytes from a place on, and answers how many bytes came.
+fn read_at(reader: &mut impl Read, space: &mut [u8], at: usize) -> io::Result<usize>
     requires { at ≤ length space.old }
-    ensures { at + result.bytes ≤ length space.old }
+    ensures { IfOk result (λ n. at + n ≤ length space.old) }
 {
-    let part = &mut space[at..];
-    let got = libc::read(libc::STDIN_FILENO, part);
-    let bytes = io::count(got, part);
-    let failed = got < 0;
-    Portion { bytes, failed }
+    reader.read(&mut space[at..])
 }
 
 // Reads standard input to its end, or until the lent bytes are full.
-pub fn read_input(space: &mut [u8], doing: &[u8]) -> Input
+pub fn read_input(rt: &(impl StandardInput + Eprint), space: &mut [u8], doing: &[u8]) -> Input
     ensures { Within result (length space.new) }
 {
+    let mut reader = rt.reader();
     let mut used = 0;
     while used < space.len() {
-        let got = read_at(space, used);
-        if got.failed {
-            os::fail(doing);
-            return Input::Failed;
+        match read_at(&mut reader, space, used) {
+            Ok(0) => return Input::Bytes(used),
+            Ok(n) => used += n,
+            Err(error) => {
+                fail(rt, doing, &error);
+                return Input::Failed;
+            }
         }
-        if got.bytes == 0 {
-            return Input::Bytes(used);
-        }
-        used += got.bytes;
     }
     Input::Bytes(used)
 }
 
-// Writes a text to standard output and closes it, since some systems refuse only then, and answers whether all of it went out.
-pub fn write_output(text: &[u8], doing: &[u8]) -> bool {
-    let mut out = io::write_all(libc::STDOUT_FILENO, text);
-    if out {
-        out = libc::close(libc::STDOUT_FILENO) == 0;
+// Writes a text to standard output, and answers whether all of it went out.
+pub fn write_output(rt: &(impl Print + Eprint), text: &[u8], doing: &[u8]) -> bool {
+    match rt.write_all(text) {
+        Ok(()) => true,
+        Err(error) => {
+            fail(rt, doing, &error);
+            false
+        }
     }
-    if !out {
-        os::fail(doing);
-    }
-    out
 }
 
 // Writes a portion of a text, and answers whether all of it went out.
-pub fn write_portion(text: &[u8], doing: &[u8]) -> bool {
-    let out = io::write_all(libc::STDOUT_FILENO, text);
-    if !out {
-        os::fail(doing);
-    }
-    out
+pub fn write_portion(rt: &(impl Print + Eprint), text: &[u8], doing: &[u8]) -> bool {
+    write_output(rt, text, doing)
 }
 
 // Writes a program's last text, and answers the status to end with.
-pub fn ended(text: &[u8], status: u8, doing: &[u8]) -> u8
+pub fn ended(rt: &(impl Print + Eprint), text: &[u8], status: u8, doing: &[u8]) -> u8
     ensures { Ends status result }
 {
-    if write_output(text, doing) {
+    if write_output(rt, text, doing) {
         status
     } else {
         FAILED
