@@ -1,0 +1,11 @@
+// The library for C programs, libdesk.a: each export of the doors under its own name and with its promises. A static library exports
+// what it declares itself and nothing of what it calls, so each function here is one call of its door's function.
+#![tactic(auto)]
+
+mod builds;
+mod feed;
+mod map;
+mod metadata;
+mod names;
+mod records;
+mod run;
