@@ -11,7 +11,7 @@ loop-i-init c = (omega arith, refl, omega arith, refl)
 
 pub loop-i-preserved : goal.loop-i-preserved
 loop-i-preserved c =
-    let n : length c.put_interval.new.0 ≡ length c.loop-i.out = put_length _ _ _ _ c.put_interval.ensures in (
+    let n : length c.put_interval.new.intervals ≡ length c.loop-i.out = put_length _ _ _ _ c.put_interval.ensures in (
       omega arith,
       n ∙ c.loop-i.invariant.1,
       omega arith,
