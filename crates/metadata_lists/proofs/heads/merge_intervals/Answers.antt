@@ -4,20 +4,17 @@ use mathlib.Core.Path.{◌≡◌, refl, sym, ◌∙◌}
 use Prim.Native.Nat.{◌-◌}
 use native.Mathlib.Omega.{arith}
 use borrow.Author.Tests.{ltb-true, ltb-false}
-use mathlib.Core.Logic.{⊎_elim}
 use lib.ListN.{length}
 use Rattle.metadata_words.specs.Words.{put_length}
 use Rattle.metadata_lists.specs.Heads.{ended_of, step_counts, turn_conflict, turn_out, end_left, end_right}
 use Rattle.metadata_lists.proofs.heads.merge_intervals.Goals as goal
+use Rattle.metadata_lists.proofs.heads.merge_intervals.Goals.{then-loop-i-test+else-j-right_to, else-loop-i-test}
 
 pub loop-i-init : goal.loop-i-init
 loop-i-init c = (omega arith, omega arith, refl, omega arith, refl)
 
 pub interval_at-y-requires : goal.interval_at-y-requires
 interval_at-y-requires c = omega (arith, ltb-true)
-
-pub enum_told-1 : goal.enum_told-1
-enum_told-1 c = c.in-Conflict.keys1
 
 pub returns-in-Conflict : goal.returns-in-Conflict
 unfolding ended_of
@@ -26,17 +23,11 @@ returns-in-Conflict c =
     c.interval_at-y.ensures (sym c.in-Conflict.is ∙ c.turn-s.ensures) ∙
     c.loop-i.invariant.4
 
-pub enum_known-s : goal.enum_known-s
-enum_known-s c = c.in-Conflict.keys2
-
 pub overflow_add-i : goal.overflow_add-i
 overflow_add-i c = let n = step_counts _ _ _ _ _ (sym c.in-Out.is ∙ c.turn-s.ensures) in omega arith
 
 pub overflow_add-j : goal.overflow_add-j
 overflow_add-j c = let n = step_counts _ _ _ _ _ (sym c.in-Out.is ∙ c.turn-s.ensures) in omega (arith, ltb-true)
-
-pub overflow_add-k : goal.overflow_add-k
-overflow_add-k c = omega (arith, ltb-true, c.well_formed_lem)
 
 pub loop-i-smaller : goal.loop-i-smaller
 loop-i-smaller c = let n = step_counts _ _ _ _ _ (sym c.in-Out.is ∙ c.turn-s.ensures) in omega (arith, ltb-true)
@@ -44,7 +35,7 @@ loop-i-smaller c = let n = step_counts _ _ _ _ _ (sym c.in-Out.is ∙ c.turn-s.e
 pub loop-i-preserved : goal.loop-i-preserved
 loop-i-preserved c =
     let n = step_counts _ _ _ _ _ (sym c.in-Out.is ∙ c.turn-s.ensures) in
-    let l : length c.put_interval.new.0 ≡ length c.loop-i.out = put_length _ _ _ _ c.put_interval.ensures in (
+    let l : length c.put_interval.new.intervals ≡ length c.loop-i.out = put_length _ _ _ _ c.put_interval.ensures in (
       omega arith,
       omega (arith, ltb-true),
       l ∙ c.loop-i.invariant.2,
@@ -60,8 +51,7 @@ copy_intervals-requires c = (omega arith, omega arith, omega arith)
 pub returns-then-i-left_to : goal.returns-then-i-left_to
 unfolding ended_of
 returns-then-i-left_to c =
-    end_left _ _ _ _ _ _ _ _ _ (⊎_elim (λ w. ltb-false _ _ w.1.left) (λ w. absurd (omega arith))
-    c.loop-i-test.branch) c.copy_intervals.ensures ∙
+    end_left _ _ _ _ _ _ _ _ _ (elim c.loop-i-test.branch [ then-loop-i-test+else-j-right_to w ↦ omega arith | else-loop-i-test w ↦ absurd (omega arith) ]) c.copy_intervals.ensures ∙
     c.loop-i.invariant.4
 
 pub copy_intervals-requires-2 : goal.copy_intervals-requires-2

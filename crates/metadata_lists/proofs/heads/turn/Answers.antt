@@ -4,18 +4,6 @@ use borrow.Author.Tests.{eq-eqb, ne_eqb}
 use Rattle.metadata_lists.specs.Heads.{step_of, step_on, agreed_step}
 use Rattle.metadata_lists.proofs.heads.turn.Goals as goal
 
-pub enum_told-1 : goal.enum_told-1
-enum_told-1 c = c.in-Equal.keys1
-
-pub enum_told-in-Less : goal.enum_told-in-Less
-enum_told-in-Less c = c.in-Equal.keys2
-
-pub enum_told-in-Greater : goal.enum_told-in-Greater
-enum_told-in-Greater c = c.in-Equal.keys3
-
-pub enum_told-in-Overlap : goal.enum_told-in-Overlap
-enum_told-in-Overlap c = c.in-Equal.keys4
-
 pub returns-then-a-b : goal.returns-then-a-b
 unfolding step_of step_on agreed_step
 returns-then-a-b c = simp (sym c.ordering-o.ensures ∙ c.in-Equal.is, eq-eqb _ _ c.if-a-b.true)

@@ -12,26 +12,13 @@ loop-i-init c = (omega arith, refl, refl, chained_none _ _ _ _ c.requires.3)
 pub name_at-x-requires : goal.name_at-x-requires
 name_at-x-requires c = omega (arith, c.requires.0)
 
-pub offset_bounds-firsts-n : goal.offset_bounds-firsts-n
-offset_bounds-firsts-n c =
-    let h = c.requires.2 (c.loop-i.i - 1) (omega arith) in let n = c.wide-n.ensures ∙ c.name_at-x.ensures in let z = c.loop-i.invariant.2 in omega
-    (arith, c.well_formed_lem.1.1.1.0)
-
 pub bounds-firsts-n : goal.bounds-firsts-n
 bounds-firsts-n c =
     let h = c.requires.2 (c.loop-i.i - 1) (omega arith) in let n = c.wide-n.ensures ∙
     c.name_at-x.ensures in let z = c.loop-i.invariant.2 in omega arith
 
-pub offset_bounds-nexts-i : goal.offset_bounds-nexts-i
-offset_bounds-nexts-i c = omega (arith, c.requires.1, c.well_formed_lem.1.1.0)
-
 pub bounds-nexts-i : goal.bounds-nexts-i
 bounds-nexts-i c = omega (arith, c.requires.1)
-
-pub offset_bounds-firsts-n-in-loop-i : goal.offset_bounds-firsts-n-in-loop-i
-offset_bounds-firsts-n-in-loop-i c =
-    let h = c.requires.2 (c.loop-i.i - 1) (omega arith) in let n = c.wide-n.ensures ∙ c.name_at-x.ensures in let z = c.loop-i.invariant.2 in
-    omega (arith, c.well_formed_lem.1.1.1.0)
 
 pub bounds-firsts-n-in-loop-i : goal.bounds-firsts-n-in-loop-i
 bounds-firsts-n-in-loop-i c =

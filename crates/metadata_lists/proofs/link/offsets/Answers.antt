@@ -12,9 +12,6 @@ pub loop-t-init : goal.loop-t-init
 unfolding before
 loop-t-init c = (omega arith, refl, refl, λ s h. absurd (omega arith))
 
-pub offset_bounds-starts-t : goal.offset_bounds-starts-t
-offset_bounds-starts-t c = omega (arith, c.requires.1, c.well_formed_lem.1.1.0)
-
 pub bounds-starts-t : goal.bounds-starts-t
 bounds-starts-t c = omega (arith, c.requires.1)
 

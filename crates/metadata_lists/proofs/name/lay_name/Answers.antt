@@ -12,9 +12,6 @@ use Rattle.metadata_lists.proofs.name.lay_name.Goals as goal
 pub loop-j-init : goal.loop-j-init
 loop-j-init c = (start_going _ _ _ _ _ _ _ _ _ c.requires _ refl, refl)
 
-pub overflow_add-at : goal.overflow_add-at
-overflow_add-at c = omega (arith, c.well_formed_lem, c.loop-j.invariant.0.room)
-
 pub copy_intervals-requires : goal.copy_intervals-requires
 copy_intervals-requires c =
     let a = c.loop-j.invariant.0.room in
@@ -22,21 +19,11 @@ copy_intervals-requires c =
     let d = c.loop-j.invariant.0.same in
     (omega arith, omega arith, omega (arith, c.loop-j.invariant.1))
 
-pub offset_bounds-starts-j : goal.offset_bounds-starts-j
-offset_bounds-starts-j c = let a = c.requires.offs in omega (arith, c.well_formed_lem.1.1.1.0)
-
 pub bounds-starts-j : goal.bounds-starts-j
 bounds-starts-j c = let a = c.requires.offs in omega arith
 
 pub count_at-size-requires : goal.count_at-size-requires
 count_at-size-requires c = omega (arith, c.requires.words, c.loop-j-test)
-
-pub overflow_add-start : goal.overflow_add-start
-overflow_add-start c =
-    let w = c.requires.within c.loop-j.j
-    c.loop-j-test.true in
-    let d = c.count_at-size.ensures in
-    omega (arith, c.well_formed_lem.1.1.0)
 
 pub merge_intervals-walked-requires : goal.merge_intervals-walked-requires
 merge_intervals-walked-requires c =
@@ -49,32 +36,20 @@ merge_intervals-walked-requires c =
     let o = c.loop-j.invariant.0.same in
     (omega arith, omega arith, omega arith, omega arith, omega arith)
 
-pub enum_told-1 : goal.enum_told-1
-enum_told-1 c = c.in-Conflict.keys1
-
 pub returns-in-Conflict : goal.returns-in-Conflict
 unfolding ended_of
 returns-in-Conflict c =
     turn_conflict _ _ _ _ _ _ _ _ _ c.requires _ _ _ _ c.loop-j.invariant.0 c.loop-j-test.true _ _ (sym c.loop-j.invariant.1)
     c.copy_intervals.ensures _ _ refl c.count_at-size.ensures
-    c.merge_intervals-walked.new.1.1.1.1.1.1.0
-    (ap (λ (q : WalkLaid). ended_of q c.merge_intervals-walked.new.1.1.1.1.1.1.0) (sym c.in-Conflict.is) ∙ c.merge_intervals-walked.ensures)
-
-pub enum_known-walked : goal.enum_known-walked
-enum_known-walked c = c.in-Conflict.keys2
+    c.merge_intervals-walked.new.out
+    (ap (λ (q : WalkLaid). ended_of q c.merge_intervals-walked.new.out) (sym c.in-Conflict.is) ∙ c.merge_intervals-walked.ensures)
 
 pub overflow_sub-laid : goal.overflow_sub-laid
 overflow_sub-laid c =
     (turn_going _ _ _ _ _ _ _ _ _ c.requires _ _ _ _ c.loop-j.invariant.0 c.loop-j-test.true _ _ (sym c.loop-j.invariant.1)
     c.copy_intervals.ensures _ _ refl c.count_at-size.ensures _ _ _
-    (ap (λ (q : WalkLaid). ended_of q c.merge_intervals-walked.new.1.1.1.1.1.1.0) (sym c.in-Done.is) ∙ c.merge_intervals-walked.ensures)
+    (ap (λ (q : WalkLaid). ended_of q c.merge_intervals-walked.new.out) (sym c.in-Done.is) ∙ c.merge_intervals-walked.ensures)
     c.merge_intervals-walked.auto.out refl).1
-
-pub offset_bounds-nexts-j : goal.offset_bounds-nexts-j
-offset_bounds-nexts-j c = let a = c.pre.links in omega (arith, c.good.1.1.1.1.0)
-
-pub bounds-nexts-j : goal.bounds-nexts-j
-bounds-nexts-j c = let a = c.pre.links in omega arith
 
 pub loop-j-smaller : goal.loop-j-smaller
 loop-j-smaller c =
@@ -83,17 +58,13 @@ loop-j-smaller c =
     omega arith
 
 pub loop-j-preserved : goal.loop-j-preserved
-loop-j-preserved c =
-    (
-      (turn_going _ _ _ _ _ _ _ _ _ c.requires _ _ _ _ c.loop-j.invariant.0 c.loop-j-test.true _ _ (sym c.loop-j.invariant.1)
-          c.copy_intervals.ensures _ _ refl c.count_at-size.ensures _ _ _
-          (ap (λ (q : WalkLaid). ended_of q c.merge_intervals-walked.new.1.1.1.1.1.1.0) (sym c.in-Done.is) ∙
-          c.merge_intervals-walked.ensures) c.merge_intervals-walked.auto.out refl).0,
-      laid_length _ _ _ _ c.copy_intervals.ensures ∙ c.loop-j.invariant.1,
-    )
-
-pub overflow_add-result : goal.overflow_add-result
-overflow_add-result c = omega (arith, c.well_formed_lem, c.loop-j.invariant.0.room)
+loop-j-preserved c = (
+  (turn_going _ _ _ _ _ _ _ _ _ c.requires _ _ _ _ c.loop-j.invariant.0 c.loop-j-test.true _ _ (sym c.loop-j.invariant.1)
+      c.copy_intervals.ensures _ _ refl c.count_at-size.ensures _ _ _
+      (ap (λ (q : WalkLaid). ended_of q c.merge_intervals-walked.new.out) (sym c.in-Done.is) ∙
+      c.merge_intervals-walked.ensures) c.merge_intervals-walked.auto.out refl).0,
+  laid_length _ _ _ _ c.copy_intervals.ensures ∙ c.loop-j.invariant.1,
+)
 
 pub returns : goal.returns
 unfolding ended_of

@@ -28,29 +28,22 @@ lay_place-r-requires c =
       place_ready _ _ _ _ _ _ _ _ _ c.requires _ _ _ _ _ _ _ c.loop-i.invariant.0 c.loop-i-test.true _ _ c.loop-i.invariant.1 d,
     )
 
-pub enum_told-1 : goal.enum_told-1
-enum_told-1 c = c.in-Conflict.keys1
-
 pub returns-in-Conflict : goal.returns-in-Conflict
 unfolding end_names
 returns-in-Conflict c =
-    turn_fails _ _ _ _ _ _ _ _ _ c.requires _ _ _ _ _ _ _ c.loop-i.invariant.0 c.loop-i-test.true c.lay_place-r.new.1.1.1.1.1.1.1.1.0
-    c.lay_place-r.new.1.1.1.1.1.1.1.1.1.1.0
-    (ap (λ (x : NamesLaid). end_names x c.lay_place-r.new.1.1.1.1.1.1.1.1.0 c.lay_place-r.new.1.1.1.1.1.1.1.1.1.1.0)
+    turn_fails _ _ _ _ _ _ _ _ _ c.requires _ _ _ _ _ _ _ c.loop-i.invariant.0 c.loop-i-test.true c.lay_place-r.new.out_mappings
+    c.lay_place-r.new.out_intervals
+    (ap (λ (x : NamesLaid). end_names x c.lay_place-r.new.out_mappings c.lay_place-r.new.out_intervals)
     (sym c.in-Conflict.is) ∙ c.lay_place-r.ensures)
 
-pub enum_known-r : goal.enum_known-r
-enum_known-r c = c.in-Conflict.keys2
-
 pub loop-i-preserved : goal.loop-i-preserved
-loop-i-preserved c =
-    (
-      turn_lays _ _ _ _ _ _ _ _ _ c.requires _ _ _ _ _ _ _ c.loop-i.invariant.0 c.loop-i-test.true _ _ _ _
-          c.lay_place-r.auto.out_mappings c.lay_place-r.auto.out_intervals
-          (ap (λ (x : NamesLaid). end_names x c.lay_place-r.new.1.1.1.1.1.1.1.1.0 c.lay_place-r.new.1.1.1.1.1.1.1.1.1.1.0)
-          (sym c.in-Done.is) ∙ c.lay_place-r.ensures),
-      c.lay_place-r.auto.temp ∙ c.loop-i.invariant.1,
-    )
+loop-i-preserved c = (
+  turn_lays _ _ _ _ _ _ _ _ _ c.requires _ _ _ _ _ _ _ c.loop-i.invariant.0 c.loop-i-test.true _ _ _ _
+      c.lay_place-r.auto.out_mappings c.lay_place-r.auto.out_intervals
+      (ap (λ (x : NamesLaid). end_names x c.lay_place-r.new.out_mappings c.lay_place-r.new.out_intervals)
+      (sym c.in-Done.is) ∙ c.lay_place-r.ensures),
+  c.lay_place-r.auto.temp ∙ c.loop-i.invariant.1,
+)
 
 pub returns : goal.returns
 unfolding end_names

@@ -18,40 +18,31 @@ lay_name-walked-requires c =
     c.requires.5 (ap (λ (y : ℕ). get_or c.args.firsts.now y 0)
     (sym (c.wide-n.ensures ∙ c.name_at-name.ensures)) ∙ c.if-firsts-n.false)
 
-pub enum_told-1 : goal.enum_told-1
-enum_told-1 c = c.in-Conflict.keys1
-
-pub enum_known-walked : goal.enum_known-walked
-enum_known-walked c = c.in-Conflict.keys2
-
 pub overflow_sub-size : goal.overflow_sub-size
 overflow_sub-size c =
-    (laid_bound _ _ _ _ _ _ c.lay_name-walked.new.1.1.1.1.1.1.1.0 _ _
-    (ap (λ (x : WalkLaid). ended_of x c.lay_name-walked.new.1.1.1.1.1.1.1.0) (sym c.in-Done.is) ∙ c.lay_name-walked.ensures)).0
+    (laid_bound _ _ _ _ _ _ c.lay_name-walked.new.out _ _
+    (ap (λ (x : WalkLaid). ended_of x c.lay_name-walked.new.out) (sym c.in-Done.is) ∙ c.lay_name-walked.ensures)).0
 
 pub put_mapping-requires : goal.put_mapping-requires
 put_mapping-requires c =
-    let b = laid_bound _ _ _ _ _ _ c.lay_name-walked.new.1.1.1.1.1.1.1.0 _ _
-    (ap (λ (x : WalkLaid). ended_of x c.lay_name-walked.new.1.1.1.1.1.1.1.0) (sym c.in-Done.is) ∙
+    let b = laid_bound _ _ _ _ _ _ c.lay_name-walked.new.out _ _
+    (ap (λ (x : WalkLaid). ended_of x c.lay_name-walked.new.out) (sym c.in-Done.is) ∙
     c.lay_name-walked.ensures) in
     let r = (c.requires.5 (ap (λ (y : ℕ). get_or c.args.firsts.now y 0) (sym (c.wide-n.ensures ∙ c.name_at-name.ensures)) ∙
     c.if-firsts-n.false)).room in
     (omega (arith, c.requires.0), omega (arith, c.requires.4))
 
-pub overflow_add-result : goal.overflow_add-result
-overflow_add-result c = omega (arith, c.pre.0, c.good)
-
 pub returns-in-Conflict : goal.returns-in-Conflict
 unfolding end_names
 returns-in-Conflict c =
-    place_conflict _ _ _ _ _ _ _ _ _ c.lay_name-walked.new.1.1.1.1.1.1.1.0 _ _
+    place_conflict _ _ _ _ _ _ _ _ _ c.lay_name-walked.new.out _ _
     (c.wide-n.ensures ∙ c.name_at-name.ensures) c.if-firsts-n.false
-    (ap (λ (x : WalkLaid). ended_of x c.lay_name-walked.new.1.1.1.1.1.1.1.0) (sym c.in-Conflict.is) ∙ c.lay_name-walked.ensures)
+    (ap (λ (x : WalkLaid). ended_of x c.lay_name-walked.new.out) (sym c.in-Conflict.is) ∙ c.lay_name-walked.ensures)
 
 pub returns-in-Done : goal.returns-in-Done
 unfolding end_names
 returns-in-Done c =
-    place_laid _ _ _ _ _ _ _ _ _ _ c.lay_name-walked.new.1.1.1.1.1.1.1.0 _ _ _ _ c.name_at-name.ensures
+    place_laid _ _ _ _ _ _ _ _ _ _ c.lay_name-walked.new.out _ _ _ _ c.name_at-name.ensures
     (ap (λ (y : ℕ). get_or c.args.firsts.now y 0) (sym c.wide-n.ensures) ∙ c.if-firsts-n.false)
-    (ap (λ (x : WalkLaid). ended_of x c.lay_name-walked.new.1.1.1.1.1.1.1.0) (sym c.in-Done.is) ∙
+    (ap (λ (x : WalkLaid). ended_of x c.lay_name-walked.new.out) (sym c.in-Done.is) ∙
     c.lay_name-walked.ensures) refl c.put_mapping.ensures
