@@ -13,11 +13,6 @@ loop-i-init c =
     let z = spaced_all a.words.now a.stride a.count c.requires.1 in
     (omega arith, z.0, ap (every (below a.names)) z.1)
 
-pub offset_bounds-words-at : goal.offset_bounds-words-at
-offset_bounds-words-at c =
-    let z = spaced_in (below c.args.names) c.args.words.now c.args.stride c.loop-i.at c.loop-i.i c.args.count c.requires.0 c.loop-i.invariant.1
-    c.loop-i-test.true in search rules
-
 pub bounds-words-at : goal.bounds-words-at
 bounds-words-at c =
     spaced_in (below c.args.names) c.args.words.now c.args.stride c.loop-i.at c.loop-i.i c.args.count c.requires.0 c.loop-i.invariant.1

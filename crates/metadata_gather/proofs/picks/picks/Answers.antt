@@ -17,9 +17,8 @@ add_one-a-requires c =
 
 pub offset_bounds-last-place : goal.offset_bounds-last-place
 offset_bounds-last-place c =
-    let p = place_low _ _ _ _ _ _ c.loop-i.invariant.4 (omega arith) _ _ _ _ _
-    c.name_at-x.ensures c.add_one-a.ensures in omega
-    (arith, c.well_formed_lem.1.1.1.1.0)
+    let p = place_low _ _ _ _ _ _ c.loop-i.invariant.4 (omega arith) _ _ _
+    _ _ c.name_at-x.ensures c.add_one-a.ensures in omega arith
 
 pub bounds-last-place : goal.bounds-last-place
 bounds-last-place c =
@@ -27,14 +26,13 @@ bounds-last-place c =
     _ _ c.name_at-x.ensures c.add_one-a.ensures in omega arith
 
 pub loop-i-preserved : goal.loop-i-preserved
-loop-i-preserved c =
-    (
-      omega arith,
-      c.add_one-a.auto.numbers ∙ c.loop-i.invariant.1,
-      c.add_one-a.auto.marks ∙ c.loop-i.invariant.2,
-      simp length-set c.loop-i.invariant.3,
-      picking_turn _ _ _ _ _ _ c.loop-i.invariant.4 (omega arith) _ _ _ _ _ c.name_at-x.ensures c.add_one-a.ensures _ refl,
-    )
+loop-i-preserved c = (
+  omega arith,
+  c.add_one-a.auto.numbers ∙ c.loop-i.invariant.1,
+  c.add_one-a.auto.marks ∙ c.loop-i.invariant.2,
+  simp length-set c.loop-i.invariant.3,
+  picking_turn _ _ _ _ _ _ c.loop-i.invariant.4 (omega arith) _ _ _ _ _ c.name_at-x.ensures c.add_one-a.ensures _ refl,
+)
 
 pub returns : goal.returns
 returns c =

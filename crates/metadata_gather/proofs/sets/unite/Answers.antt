@@ -7,34 +7,28 @@ use Rattle.metadata_gather.specs.Sets.{first_few, all_united, united_few, is_uni
 use native.Mathlib.Omega.{arith}
 use Rattle.metadata_gather.proofs.sets.unite.Goals as goal
 
--- the entry, and what stands after both sides have arrived
-abbrev at_start : tie.After-add-all2 → tie.Start
-at_start d = d
-
 pub add_all-met-requires : goal.add_all-met-requires
 add_all-met-requires c = (omega arith, c.requires.3, c.requires.0, marked_none 4096)
 
 pub add_all-count-requires : goal.add_all-count-requires
 add_all-count-requires c =
     let a = c.args in
-    let l = length-take-le a.left_count_lem a.left.now c.requires.0 in let f = first_few _ a.out.now _ _ _ c.add_all-met.ensures in
+    let l = length-take-le a.left_count a.left.now c.requires.0 in let f = first_few _ a.out.now _ _ _ c.add_all-met.ensures in
     (omega arith, omega (arith, c.requires.3), c.requires.1, subst (Marked _) (sym c.add_all-met.ensures.stand) c.add_all-met.ensures.marks)
 
 pub numbers_known-requires : goal.numbers_known-requires
 numbers_known-requires c =
-    let s = at_start c in
-    let a = s.args in
-    let l = length-take-le a.left_count_lem a.left.now s.pre.0 in
-    let r = length-take-le a.right_count_lem a.right.now s.pre.1 in
+    let a = c.args in
+    let l = length-take-le a.left_count a.left.now c.requires.0 in
+    let r = length-take-le a.right_count a.right.now c.requires.1 in
     let f = united_few _ _ _ _ (all_united _ _ a.out.now _ _ _ c.add_all-met.ensures _ _ _ c.add_all-count.ensures) in
-    (omega arith, omega (arith, s.pre.2))
+    (omega arith, omega (arith, c.requires.2))
 
 pub returns : goal.returns
 returns c =
-    let s = at_start c in
-    let a = s.args in
-    let l = length-take-le a.left_count_lem a.left.now s.pre.0 in
-    let r = length-take-le a.right_count_lem a.right.now s.pre.1 in
+    let a = c.args in
+    let l = length-take-le a.left_count a.left.now c.requires.0 in
+    let r = length-take-le a.right_count a.right.now c.requires.1 in
     let u = all_united _ _ a.out.now _ _ _ c.add_all-met.ensures _ _ _ c.add_all-count.ensures in
     let f = united_few _ _ _ _ u in
-    is_united _ _ _ _ _ u (omega (arith, s.pre.2)) _ c.numbers_known.ensures
+    is_united _ _ _ _ _ u (omega (arith, c.requires.2)) _ c.numbers_known.ensures

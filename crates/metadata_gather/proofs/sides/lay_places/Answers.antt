@@ -8,9 +8,6 @@ use Rattle.metadata_gather.proofs.sides.lay_places.Goals as goal
 pub loop-i-init : goal.loop-i-init
 loop-i-init c = following_start _ _ _ _ _ _ _ _ _ c.requires.room
 
-pub offset_bounds-places-i : goal.offset_bounds-places-i
-offset_bounds-places-i c = omega (arith, c.requires.places)
-
 pub bounds-places-i : goal.bounds-places-i
 bounds-places-i c = omega (arith, c.requires.places)
 
