@@ -17,12 +17,12 @@ follow-intervals-requires c =
 pub overflow_add-result : goal.overflow_add-result
 overflow_add-result c =
     let args = c.args in
-    let a = q_small _ _ _ _ _ _ args.both_mappings.now args.both_intervals.now c.pre _ _ _ _
+    let a = q_small _ _ _ _ _ _ args.both_mappings.now args.both_intervals.now c.requires _ _ _ _
     c.lose_repeats-left.ensures in omega arith
 
 pub returns : goal.returns
 returns c =
     let a = c.args in
-    both_stand _ _ _ _ _ _ a.both_mappings.now a.both_intervals.now c.pre _ _ _ _
+    both_stand _ _ _ _ _ _ a.both_mappings.now a.both_intervals.now c.requires _ _ _ _
     c.lose_repeats-left.ensures _ _ _
     c.follow-intervals.ensures

@@ -5,10 +5,6 @@ use native.Mathlib.Omega.{arith}
 use Rattle.metadata_plan.specs.Plan.{end_plan, shown_names, stands_words, stands_spans, plan_gathered, plan_linkable, plan_stopped, plan_laid}
 use Rattle.metadata_plan.proofs.plan.plan.Goals as goal
 
--- what was gathered before it was judged
-abbrev gathered_at : tie.After-judge → tie.After-gather-sides
-gathered_at d = d
-
 pub gather_sides-gathered-requires : goal.gather_sides-gathered-requires
 gather_sides-gathered-requires c =
     plan_gathered _ _ _ _ _ _ _ _ _ c.requires _ _ (length-replicate {A = ℕ} 16384 0) (length-replicate {A = ℕ} 393216 0)
@@ -20,39 +16,25 @@ numbers_known-named-requires c =
 pub judge-judged-requires : goal.judge-judged-requires
 judge-judged-requires c = stands_spans _ _ _ _ _ c.gather_sides-gathered.ensures
 
-pub enum_known-judged : goal.enum_known-judged
-enum_known-judged c = c.in-Refused.keys1
-
-pub enum_told-1 : goal.enum_told-1
-enum_told-1 c = c.in-Refused.keys2
-
 pub merge_names-merged-requires : goal.merge_names-merged-requires
 merge_names-merged-requires c =
-    let g = gathered_at c in
-    let s = g in
-    plan_linkable _ _ _ _ _ _ _ _ _ s.pre _ _ _ _ g.gather_sides.ensures s.args.rest _ c.numbers_known-named.ensures _ c.judge-judged.ensures
+    plan_linkable _ _ _ _ _ _ _ _ _ c.requires _ _ _ _ c.gather_sides-gathered.ensures c.args.rest _ c.numbers_known-named.ensures _ c.judge-judged.ensures
     c.in-Passed.is _ (length-replicate {A = ℕ} 393216 0)
-
-pub enum_told-in-Conflict : goal.enum_told-in-Conflict
-enum_told-in-Conflict c = c.in-Conflict.keys1
-
-pub enum_known-merged : goal.enum_known-merged
-enum_known-merged c = c.in-Conflict.keys2
 
 pub returns-in-Refused : goal.returns-in-Refused
 unfolding end_plan
 returns-in-Refused c =
-    plan_stopped _ _ _ _ _ (gathered_at c).gather_sides.ensures _ _ _ c.numbers_known-named.ensures _ c.judge-judged.ensures _ _ _
+    plan_stopped _ _ _ _ _ c.gather_sides-gathered.ensures _ _ _ c.numbers_known-named.ensures _ c.judge-judged.ensures _ _ _
     c.in-Refused.is
 
 pub returns-in-Conflict : goal.returns-in-Conflict
 unfolding end_plan shown_names
 returns-in-Conflict c =
-    plan_laid _ _ _ _ _ (gathered_at c).gather_sides.ensures _ _ _ c.numbers_known-named.ensures _ c.judge-judged.ensures _ _ _ _ _ _
+    plan_laid _ _ _ _ _ c.gather_sides-gathered.ensures _ _ _ c.numbers_known-named.ensures _ c.judge-judged.ensures _ _ _ _ _ _
     c.in-Passed.is c.merge_names-merged.ensures c.in-Conflict.is
 
 pub returns-in-Done : goal.returns-in-Done
 unfolding end_plan shown_names
 returns-in-Done c =
-    plan_laid _ _ _ _ _ (gathered_at c).gather_sides.ensures _ _ _ c.numbers_known-named.ensures _ c.judge-judged.ensures _ _ _ _ _ _
+    plan_laid _ _ _ _ _ c.gather_sides-gathered.ensures _ _ _ c.numbers_known-named.ensures _ c.judge-judged.ensures _ _ _ _ _ _
     c.in-Passed.is c.merge_names-merged.ensures c.in-Done.is
