@@ -37,7 +37,7 @@ returns-then-is_list c =
     let a = c.args in
     let e = c.plan_record.ensures in record {
       result_value = e.result_value ∙ judged_on _ _ _ _ _ _ f q k;
-      ready = ready_planned a.over_time_lem a.bytes.now a.ends.now a.names a.name_bytes a.rec.now c.plan_record.result q e.placed e.forward;
+      ready = ready_planned a.over_time a.bytes.now a.ends.now a.names a.name_bytes a.rec.now c.plan_record.result q e.placed e.forward;
     }
 
 pub returns-else-is_list : goal.returns-else-is_list

@@ -1,2 +1,0 @@
--- What the proofs of the cursor share.
-pub mod CellLent
