@@ -1,7 +1,7 @@
 -- Point-in-time tables as lists of entries: setting an entry keeps them well-formed, the latest entry of an instrument decides,
 -- other instruments' entries stay; and the same by places, as a binary search finds them. Assumes nothing.
 use Rattle.std.specs.Prelude.{◌≡◌, refl, ◌≢◌, ℕ, zero, suc, ◌+◌, ◌-◌, ◌*◌, ◌/◌, ◌%◌, ◌≤◌, ◌<◌, Bool, true, false, not, ◌&&◌, cond, List, [], ◌∷◌, ◌++◌, length, get_or, set, take, drop, T, ltb, leb, eqb}
-use Rattle.std.proofs.Common.{sym, ap, ◌∙◌, arith, lt→ltb, le-leb, leb-true, eq-eqb, ne_eqb}
+use Rattle.std.proofs.Common.{sym, ap, subst, ◌∙◌, arith, lt→ltb, le-leb, leb-true, eq-eqb, ne_eqb}
 use Rattle.std.proofs.Math.Option.{Option, none, some}
 use Rattle.std.proofs.Math.Dec.{eqb_refl, not_T}
 use Rattle.std.proofs.Math.Facts.{ltb_yes, eqb_yes}
@@ -73,7 +73,7 @@ latest (x ∷ xs) i = go (order x.instrument i) (latest xs i)
 
     go : Order x.instrument i → symbol_for i (after xs) ≡ symbol_for i xs → symbol_for i (after (x ∷ xs)) ≡ symbol_for i (x ∷ xs)
     go (less h) rest = other rest (omega arith)
-    go (equal h) rest = rw (← h) (set_own x (after xs) ∙ sym (symbol_own x.instrument x xs refl))
+    go (equal h) rest = subst (λ (k : ℕ). symbol_for k (after (x ∷ xs)) ≡ symbol_for k (x ∷ xs)) h (set_own x (after xs) ∙ sym (symbol_own x.instrument x xs refl))
     go (more h) rest = other rest (omega arith)
 
 -- ---- other entries stay, and the table stays well-formed

@@ -1,12 +1,7 @@
 -- The entry is stored over its instrument's, or at its place after the later ones have moved. Assumes nothing.
 use native.Mathlib.Omega.{arith}
 use Rattle.map_point.specs.PointsSteps.{held_within, stores_held, stores_full, stores_more}
-use Rattle.map_point.specs.EntriesLaws.{Small}
 use Rattle.map_point.proofs.points.set_entry.Goals as goal
-
--- the fields of the entry are numbers of 32 bits
-small : (c : tie.Start) → Small c.args.x
-small c = record { instrument = c.well_formed_lem.1.1.0.1.1.0.1; symbol = c.well_formed_lem.1.1.0.1.1.1.0.1 }
 
 pub put_entry-requires : goal.put_entry-requires
 put_entry-requires c = held_within _ _ _ _ c.requires.0 c.holds.ensures c.if-holds.true
@@ -14,7 +9,7 @@ put_entry-requires c = held_within _ _ _ _ c.requires.0 c.holds.ensures c.if-hol
 pub returns-then-holds : goal.returns-then-holds
 returns-then-holds c =
     let p = stores_held _ _ _ _ c.requires.0 c.requires.1 c.place_of-place.ensures c.holds.ensures
-    (λ k. omega (arith, c.slice_known-1.given k)) (small c) c.if-holds.true c.put_entry.ensures in
+    (λ k. omega (arith, c.slice_known-1.given k)) (record { instrument = omega arith; symbol = omega arith }) c.if-holds.true c.put_entry.ensures in
     record {
       answered = p.0;
       bytes = p.1.0;
@@ -24,7 +19,7 @@ returns-then-holds c =
 pub returns-then-table-used : goal.returns-then-table-used
 returns-then-table-used c =
     let p = stores_full _ _ _ _ c.requires.0 c.requires.1 c.place_of-place.ensures c.holds.ensures
-    (λ k. omega (arith, c.slice_known-1.given k)) (small c) c.if-holds.false c.if-table-used.true in
+    (λ k. omega (arith, c.slice_known-1.given k)) (record { instrument = omega arith; symbol = omega arith }) c.if-holds.false c.if-table-used.true in
     record {
       answered = p.0;
       bytes = p.1.0;
@@ -35,7 +30,7 @@ pub returns : goal.returns
 returns c =
     let p = stores_more _ _ _ _ c.requires.0 c.requires.1 c.place_of-place.ensures
     c.holds.ensures
-    (λ k. omega (arith, c.slice_known-1.given k)) (small c)
+    (λ k. omega (arith, c.slice_known-1.given k)) (record { instrument = omega arith; symbol = omega arith })
     c.if-holds.false
     c.if-table-used.false
     c.move_up.ensures c.put_entry-2.ensures in

@@ -1,27 +1,20 @@
 -- A new name is added, an old one changes nothing. Assumes nothing.
 use mathlib.Core.Path.{◌≡◌, refl, ap, ◌∙◌}
-use mathlib.Core.Bool.{false}
-use mathlib.Core.List.{List, [], ◌∷◌}
+use mathlib.Core.Bool.{Bool, false}
 use Prim.Native.Nat.{ℕ}
 use native.Mathlib.Omega.{arith}
-use denote.Enum.Declared.{tag_of}
-use types.Run.{OneOf, miss}
 use Rattle.map_plan.specs.Wanted.{plan_of}
 use Rattle.map_plan.specs.declared.planning.Plan.{Plan}
 use Rattle.map_plan.specs.declared.planning.Plan.TheVariants.{Nothing, Refuse, Store}
-use Rattle.map_plan.specs.contracts.planning.Plan.{the_type}
 use Rattle.map_record.specs.Mapping.{joins_in}
 use Rattle.map_record.specs.MappingLaws.{placed_lies, joined_new, joined_old}
 use Rattle.map_record.proofs.mapping.join_name.Goals as goal
 
--- the tags of the plans that store nothing
-abbrev others : List ℕ
-others = 0 ∷ 1 ∷ []
-
-keeps_list : (x : Plan) → OneOf others (tag_of the_type x) → joins_in (plan_of x) ≡ false
+-- a plan that stores nothing
+keeps_list : (x : Plan) → ((i s e n : ℕ) (new : Bool) (from to : ℕ) → x ≡ Store i s e n new from to → ⊥) → joins_in (plan_of x) ≡ false
 keeps_list Nothing o = refl
 keeps_list (Refuse r) o = refl
-keeps_list (Store i s e n new from to) o = absurd (miss others 2 tt o)
+keeps_list (Store i s e n new from to) o = absurd (o i s e n new from to refl)
 
 pub add_name-end-requires : goal.add_name-end-requires
 add_name-end-requires c =
@@ -64,7 +57,7 @@ returns-else-new c =
 pub returns-in_default : goal.returns-in_default
 returns-in_default c =
     let a = c.args in
-    let p = joined_old _ _ _ _ a.rec.now a.plan _ (keeps_list a.plan c.in-Store.keys2) in
+    let p = joined_old _ _ _ _ a.rec.now a.plan _ (keeps_list a.plan c.in_default.not-Store) in
     record {
       result_value = p.0;
       bytes_after = p.1.0;

@@ -23,6 +23,7 @@ returns-in-Refused c =
 pub returns-in-Done : goal.returns-in-Done
 returns-in-Done c =
     let a = c.args in
+    let j = c.join_name.ensures in
     time_done a.table.now a.used a.bytes.now a.ends.now a.names a.name_bytes a.rec.now c.judge-plan.result
     c.judge-plan.ensures.result_value c.check-checked.ensures c.insert_planned-inserted.ensures
-    c.in-Done.then (sym (ap inserted_of c.in-Done.is)) c.join_name.ensures
+    c.in-Done.then (sym (ap inserted_of c.in-Done.is)) (j.result_value, (j.bytes_after, j.ends_after))

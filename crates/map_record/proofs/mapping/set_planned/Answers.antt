@@ -12,4 +12,5 @@ pub returns-in-Refuse : goal.returns-in-Refuse
 returns-in-Refuse c = sets_refused _ _ c.in-Refuse.is
 
 pub returns-in-Store : goal.returns-in-Store
-returns-in-Store c = sets_entry _ _ c.in-Store.is c.set_entry.ensures
+returns-in-Store c =
+    let e = c.set_entry.ensures in sets_entry _ _ c.in-Store.is (e.answered, (e.bytes, e.stored))
