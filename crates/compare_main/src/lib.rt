@@ -39,7 +39,14 @@ fn put(rt: &(impl Print + Eprint), text: &[u8]) -> bool {
 }
 
 // Writes the line of every stretch in which two tables that are in order disagree, portion by portion, then `end`.
-fn tell_all(rt: &(impl Print + Eprint), left: &[u8], n: usize, right: &[u8], m: usize, text: &mut [u8]) -> u8
+fn tell_all(
+    rt: &(impl Print + Eprint),
+    left: &[u8],
+    n: usize,
+    right: &[u8],
+    m: usize,
+    text: &mut [u8],
+) -> u8
     requires { InOrder left.now n right.now m × (105 ≤ length text.old) }
     ensures { Ends 0 result }
 {
@@ -58,7 +65,13 @@ fn tell_all(rt: &(impl Print + Eprint), left: &[u8], n: usize, right: &[u8], m: 
 }
 
 // Compares two tables of which every interval is in use: their lines, or the line that refuses them.
-fn compare_tables(rt: &(impl Print + Eprint), left: &[u8], right: &[u8], names: usize, text: &mut [u8]) -> u8
+fn compare_tables(
+    rt: &(impl Print + Eprint),
+    left: &[u8],
+    right: &[u8],
+    names: usize,
+    text: &mut [u8],
+) -> u8
     requires { 105 ≤ length text.old }
     ensures { Ends (tables_status left.now right.now names) result }
 {

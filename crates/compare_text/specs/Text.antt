@@ -1,7 +1,7 @@
 -- The lines of a comparison (RULES, Requests, No. 1): a stretch's line is instrument, start, end, left symbol or `-`, right symbol or `-`. Numbers are
 -- decimal, one blank parts two fields, a newline ends each line.
-use Rattle.std.specs.Prelude.{ℕ, ◌+◌, ◌≤◌, ◌≡◌, Bool, true, false, ◌||◌, cond, length, take, drop, List, [], ◌∷◌, ◌++◌}
-use Rattle.std.proofs.Common.{ap, sym, subst, ◌∙◌, add-zero, arith, take-append-drop, append-nil}
+use Rattle.std.specs.Prelude.{ℕ, ◌≤◌, ◌≡◌, Bool, true, false, ◌||◌, cond, length, take, drop, List, [], ◌∷◌, ◌++◌}
+use Rattle.std.proofs.Common.{ap, sym, subst, ◌∙◌, add-zero, take-append-drop, append-nil}
 use Rattle.std.proofs.Math.Option.{Option, none, some}
 use Rattle.lines.specs.Lines.{decimal, blank, newline, laid, Lays}
 use Rattle.lines.specs.LinesLaws.{lays_then}

@@ -92,7 +92,13 @@ fn tell_all(
 }
 
 // Answers questions about a table of which every interval is in use, or writes only the line that says that they are none.
-fn answer_all(rt: &(impl Print + Eprint), table: &[u8], names: usize, questions: &[u8], text: &mut [u8]) -> u8
+fn answer_all(
+    rt: &(impl Print + Eprint),
+    table: &[u8],
+    names: usize,
+    questions: &[u8],
+    text: &mut [u8],
+) -> u8
     requires { 218 ≤ length text.old }
     ensures { Ends (asked_status table.now names (length questions.now)) result }
 {

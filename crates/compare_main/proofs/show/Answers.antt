@@ -4,29 +4,29 @@ use Rattle.compare_main.specs.Asked.{status_bad, status_asked}
 use Rattle.compare_main.proofs.show.Goals as goal
 
 pub returns-then-end-eq0 : goal.returns-then-end-eq0
-returns-then-end-eq0 c = status_bad _ c.table_end-end.ensures.0 c.if-end-eq0.true c.say.ensures
+returns-then-end-eq0 g c = status_bad _ c.table_end-end.ensures.0 c.if-end-eq0.true c.say.ensures
 
 pub u32_at-names-requires : goal.u32_at-names-requires
-u32_at-names-requires c =
+u32_at-names-requires g c =
     let h = c.table_end-end.ensures.1.table_in c.if-end-eq0.false in
     let k = c.table_end-end.ensures.1.last_in_lem c.if-end-eq0.false in omega arith
 
 pub overflow_add-next : goal.overflow_add-next
-overflow_add-next c =
+overflow_add-next g c =
     let h = c.table_end-end.ensures.1.table_in c.if-end-eq0.false in
     let k = c.table_end-end.ensures.1.last_in_lem c.if-end-eq0.false in omega arith
 
 pub slice_bounds-compare_tables-count : goal.slice_bounds-compare_tables-count
-slice_bounds-compare_tables-count c =
+slice_bounds-compare_tables-count g c =
     let h = c.table_end-end.ensures.1.table_in c.if-end-eq0.false in
     let k = c.table_end-end.ensures.1.last_in_lem c.if-end-eq0.false in omega arith
 
 pub slice_bounds-compare_tables-count-2 : goal.slice_bounds-compare_tables-count-2
-slice_bounds-compare_tables-count-2 c =
+slice_bounds-compare_tables-count-2 g c =
     let h = c.table_end-end.ensures.1.table_in c.if-end-eq0.false in
     let k = c.table_end-end.ensures.1.last_in_lem c.if-end-eq0.false in omega arith
 
 pub returns : goal.returns
-returns c =
+returns g c =
     status_asked _ c.table_end-end.ensures.0 c.if-end-eq0.false
     c.u32_at-names.ensures c.compare_tables.ensures

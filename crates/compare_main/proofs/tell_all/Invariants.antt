@@ -5,7 +5,7 @@ use Rattle.map_compare_walk.specs.Walk.{turns_left, Ready}
 use Rattle.compare_main.proofs.tell_all.Given as goal
 
 abbrev pub invariant-loop-l : goal.invariant-loop-l
-invariant-loop-l l = Ready left n right m l r × (length text ≡ length text₀)
+invariant-loop-l g l = Ready l.left l.n l.right l.m l.l l.r × (length l.text ≡ length l.initial.text)
 
 abbrev pub decreases-loop-l : goal.decreases-loop-l
-decreases-loop-l l = turns_left left n right m l r
+decreases-loop-l g l = turns_left l.left l.n l.right l.m l.l l.r

@@ -5,7 +5,7 @@ use lib.ListN.{length}
 use Rattle.explain_main.proofs.tell_all.Given as goal
 
 abbrev pub invariant-loop-next : goal.invariant-loop-next
-invariant-loop-next l = (next ≤ count) × (length text ≡ length text₀)
+invariant-loop-next g l = (l.next ≤ l.count) × (length l.text ≡ length l.initial.text)
 
 abbrev pub decreases-loop-next : goal.decreases-loop-next
-decreases-loop-next l = count - next
+decreases-loop-next g l = l.count - l.next

@@ -3,4 +3,4 @@ use mathlib.Core.Path.{◌∙◌}
 use Rattle.replay_main.proofs.put.Goals as goal
 
 pub returns : goal.returns
-returns c = λ h. c.ended.ensures h ∙ c.status_of.ensures
+returns g c = λ h. c.ended.ensures h ∙ c.status_of.ensures

@@ -3,30 +3,23 @@
 use mathlib.Core.Path.{refl, sym, ap, ◌∙◌}
 use Prim.Native.Nat.{◌≤◌}
 use lib.ListN.{length}
-use lib.Seq.{length-take-le}
 use Rattle.replay_text.specs.Replay.{replayed_of}
 use Rattle.replay_text.specs.ReplayCalls.{text_taken}
 use Rattle.replay_main.specs.Status.{text_status}
 use Rattle.replay_main.specs.StatusLaws.{text_status_lem}
 use Rattle.replay_main.proofs.show.Goals as goal
 
-fits : (c : tie.After-known-told) → c.in-Text.n ≤ length c.replay_by.new.1.1.0
-fits c =
+pub slice_bounds-put-end : goal.slice_bounds-put-end
+slice_bounds-put-end g c =
     let r = c.replay_by in
     (text_taken _ _ _ _ (ap replayed_of (sym c.in-Text.is) ∙ r.ensures.result_value) r.ensures.text_after).1
 
-pub slice_bounds-put-end : goal.slice_bounds-put-end
-slice_bounds-put-end c = fits c
-
-pub slice_bounds-put-end-in-Text : goal.slice_bounds-put-end-in-Text
-slice_bounds-put-end-in-Text c = sym (length-take-le _ _ (fits c))
-
 pub returns-in-Text : goal.returns-in-Text
-returns-in-Text c =
+returns-in-Text g c =
     λ h.
     let r = c.replay_by in
     c.put.ensures h ∙ ap text_status (text_taken _ _ _ _ (ap replayed_of (sym c.in-Text.is) ∙ r.ensures.result_value) r.ensures.text_after).0
     ∙ text_status_lem _
 
 pub returns-in-Refused : goal.returns-in-Refused
-returns-in-Refused c = λ h. absurd (h refl)
+returns-in-Refused g c = λ h. absurd (h refl)

@@ -1,9 +1,10 @@
 -- What is laid and the lines still to come are all, and each turn comes nearer to the end. Assumes nothing.
-use mathlib.Core.Logic.{⊎_elim}
 use native.Mathlib.Omega.{arith}
+use borrow.Author.Tests.{lt-ltb}
 use Rattle.map_compare.specs.CompareLaws.{more_left, more_right}
 use Rattle.compare_text.specs.Portions.{telling_start, telling_on, telling_full, telling_end}
 use Rattle.compare_text.proofs.telling.lay_portion.Goals as goal
+use Rattle.compare_text.proofs.telling.lay_portion.Goals.{then-l-n, else-l-n+then-r-m}
 
 pub loop-l-init : goal.loop-l-init
 loop-l-init c = telling_start _ _ _ _ _ _ _ c.requires.0
@@ -16,7 +17,7 @@ returns-then-text-at-lt-LINE c = telling_full c.loop-l.invariant c.if-text-at-lt
 
 pub next_step-s-requires : goal.next_step-s-requires
 next_step-s-requires c =
-    (c.loop-l.invariant.ready, ⊎_elim (λ w. more_left w.taken) (λ w. more_right w.2.taken) c.if-l-n.branch)
+    (c.loop-l.invariant.ready, elim c.if-l-n.branch [ then-l-n w ↦ more_left w.if-l-n.true | else-l-n+then-r-m w ↦ more_right (lt-ltb _ _ w.if-r-m.true) ])
 
 pub tell-at-requires : goal.tell-at-requires
 tell-at-requires c =

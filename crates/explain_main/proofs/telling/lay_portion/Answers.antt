@@ -1,6 +1,5 @@
 -- What is laid and the lines still to come are all, and each turn takes a question. Assumes nothing.
 use native.Mathlib.Omega.{arith}
-use Prim.Native.Nat.{◌-◌}
 use Rattle.explain_main.specs.Portions.{telling_start, telling_on, telling_full, telling_end}
 use Rattle.explain_main.proofs.telling.lay_portion.Goals as goal
 

@@ -49,8 +49,7 @@ returns-in-Between c =
     let a = c.args in
     let h : a.at ≤ length a.text.now = omega arith in
     let l = lays_then h (lays_then h c.word-a-in-Between.ensures c.numbers-b.ensures.0) c.numbers-in-Between.ensures.0 in
-    let g = c.explained-in-Between-1.given in
-    let e = between_text (named_of g.0.0) (named_of g.0.1.0) ∙ ap (λ (e : Explained). answer_text (explained_of e)) (sym g.1) in
+    let e = between_text (named_of c.in-Between.x) (named_of c.in-Between.y) ∙ ap (λ (e : Explained). answer_text (explained_of e)) (sym c.in-Between.is) in
     (lays_same e l, search rules)
 
 pub returns-in-Refused : goal.returns-in-Refused
@@ -60,6 +59,5 @@ returns-in-Refused c =
     let h : a.at ≤ length a.text.now = omega arith in
     let l = lays_then h c.word-a-in-Refused.ensures c.number-in-Refused.ensures.0 in
     let d = ap (λ (v : ℕ). refused_word ++ decimal v) c.number.ensures in
-    let g = c.explained-in-Refused-1.given in
-    let e = d ∙ refused_text g.0.0 ∙ ap (λ (e : Explained). answer_text (explained_of e)) (sym g.1) in
+    let e = d ∙ refused_text _ ∙ ap (λ (e : Explained). answer_text (explained_of e)) (sym c.in-Refused.is) in
     (lays_same e l, search rules)

@@ -1,9 +1,8 @@
 -- Loop: what is taken apart so far, and the sections that are left (`Taking`). Assumes nothing.
 use native.Mathlib.Omega.{arith}
 use mathlib.Core.Path.{refl, sym, ◌∙◌}
-use Prim.Native.Nat.{◌-◌}
 use lib.ListN.{length-set}
-use Rattle.lines.specs.SectionsLaws.{taking_start, taking_turn, bad_long, bad_many, bad_section, bad_none, apart, Turned, turned}
+use Rattle.lines.specs.SectionsLaws.{taking_start, taking_turn, bad_long, bad_many, bad_section, bad_none, apart, turned}
 use Rattle.lines.proofs.sections.part.Goals as goal
 
 pub returns-then-bundle-gt-BUNDLE_BYTES : goal.returns-then-bundle-gt-BUNDLE_BYTES
