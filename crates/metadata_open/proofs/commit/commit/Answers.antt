@@ -19,37 +19,37 @@ lay_over-requires-2 c =
 
 pub lay_over-requires-3 : goal.lay_over-requires-3
 lay_over-requires-3 c =
-    let f = c.pre.not_found in
+    let f = c.requires.not_found in
     (f.used_lent, f.new_lent, f.new_held)
 
 pub overflow_mul-header : goal.overflow_mul-header
 overflow_mul-header c =
-    let a = c.pre.mappings.used_lent in
-    omega (arith, c.good.1.1.1.1.0)
+    let a = c.requires.mappings.used_lent in
+    omega arith
 
 pub overflow_mul-counts : goal.overflow_mul-counts
 overflow_mul-counts c =
-    let a = c.pre.mappings.new_lent in
-    omega (arith, c.good.1.1.1.1.0)
+    let a = c.requires.mappings.new_lent in
+    omega arith
 
 pub lay_over-requires-4 : goal.lay_over-requires-4
 lay_over-requires-4 c =
-    let f = c.pre.mappings in
+    let f = c.requires.mappings in
     (f.used_lent, f.new_lent, f.new_held)
 
 pub overflow_mul-used : goal.overflow_mul-used
 overflow_mul-used c =
-    let a = c.pre.intervals.used_lent in let b = c.total-used.ensures in
-    omega (arith, c.good.1.1.1.1.1.0)
+    let a = c.requires.intervals.used_lent in let b = c.total-used.ensures in
+    omega arith
 
 pub overflow_mul-counts-2 : goal.overflow_mul-counts-2
 overflow_mul-counts-2 c =
-    let a = c.pre.intervals.new_lent in
-    omega (arith, c.good.1.1.1.1.1.0)
+    let a = c.requires.intervals.new_lent in
+    omega arith
 
 pub lay_over-requires-5 : goal.lay_over-requires-5
 lay_over-requires-5 c =
-    let f = c.pre.intervals in
+    let f = c.requires.intervals in
     (omega (arith, f.used_lent, c.total-used.ensures), f.new_lent, f.new_held)
 
 pub returns : goal.returns

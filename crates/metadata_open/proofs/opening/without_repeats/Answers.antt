@@ -14,11 +14,11 @@ alone-b-requires c =
 
 pub alone-c-requires : goal.alone-c-requires
 alone-c-requires c =
-    let f = c.pre.fitting.fit in
-    set_room f.not_found_used f.not_found_lent c.pre.room_c
+    let f = c.requires.fitting.fit in
+    set_room f.not_found_used f.not_found_lent c.requires.room_c
 
 pub lose_repeats-laid-requires : goal.lose_repeats-laid-requires
-lose_repeats-laid-requires c = open_sound _ _ _ c.pre
+lose_repeats-laid-requires c = open_sound _ _ _ c.requires
 
 pub returns : goal.returns
 returns c =
