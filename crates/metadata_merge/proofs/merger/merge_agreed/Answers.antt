@@ -26,15 +26,9 @@ outcome-verdict-requires c =
     let a = c.args in
     let l = lists a.symbols.now a.partial.now a.not_found.now a.mappings.now a.intervals.now in
     let r = lists a.added_symbols.now a.added_partial.now a.added_not_found.now a.added_mappings.now a.added_intervals.now in
-    both_plannable a.names a.header l a.added r c.pre _ (length-replicate {A = ℕ} 8192 0) (length-replicate {A = ℕ} 8192 0)
+    both_plannable a.names a.header l a.added r c.requires _ (length-replicate {A = ℕ} 8192 0) (length-replicate {A = ℕ} 8192 0)
     (length-replicate {A = ℕ} 8192 0)
     (length-replicate {A = ℕ} 16384 0) (length-replicate {A = ℕ} 393216 0)
-
-pub enum_known-verdict : goal.enum_known-verdict
-enum_known-verdict c = c.in-Refused.keys1
-
-pub enum_known-verdict-in-Fits-1 : goal.enum_known-verdict-in-Fits-1
-enum_known-verdict-in-Fits-1 c = c.in-Refused.keys2
 
 pub slice_bounds-commit-end : goal.slice_bounds-commit-end
 slice_bounds-commit-end c = sym (c.outcome-verdict.auto.out_symbols ∙ length-replicate {A = ℕ} 8192 0)
@@ -50,26 +44,26 @@ slice_bounds-commit-end-in-Fits-3 c = sym (c.outcome-verdict.auto.out_mappings �
 
 pub slice_bounds-commit-end-in-Fits-4 : goal.slice_bounds-commit-end-in-Fits-4
 slice_bounds-commit-end-in-Fits-4 c =
-    sym (c.outcome-verdict.kept.1.1.1.1.1.1.1.1.1.1.1.1.1.1.1.1.1.0 ∙ length-replicate {A = ℕ} 393216 0)
+    sym (c.outcome-verdict.auto.out_intervals ∙ length-replicate {A = ℕ} 393216 0)
 
 pub commit-requires : goal.commit-requires
 commit-requires c =
     let a = c.args in
     let l = lists a.symbols.now a.partial.now a.not_found.now a.mappings.now a.intervals.now in
     let r = lists a.added_symbols.now a.added_partial.now a.added_not_found.now a.added_mappings.now a.added_intervals.now in
-    merge_commit a.names a.header l a.added r c.pre _ _ c.outcome-verdict.ensures _ c.in-Fits.is
+    merge_commit a.names a.header l a.added r c.requires _ _ c.outcome-verdict.ensures _ c.in-Fits.is
 
 pub returns-in-Refused : goal.returns-in-Refused
 returns-in-Refused c =
     let a = c.args in
     let l = lists a.symbols.now a.partial.now a.not_found.now a.mappings.now a.intervals.now in
     let r = lists a.added_symbols.now a.added_partial.now a.added_not_found.now a.added_mappings.now a.added_intervals.now in
-    merge_refuses a.names a.header l a.added r c.pre _ _ c.outcome-verdict.ensures _ c.in-Refused.is
+    merge_refuses a.names a.header l a.added r c.requires _ _ c.outcome-verdict.ensures _ c.in-Refused.is
 
 pub returns-in-Fits : goal.returns-in-Fits
 returns-in-Fits c =
     let a = c.args in
     let l = lists a.symbols.now a.partial.now a.not_found.now a.mappings.now a.intervals.now in
     let r = lists a.added_symbols.now a.added_partial.now a.added_not_found.now a.added_mappings.now a.added_intervals.now in
-    merge_done a.names a.header l a.added r c.pre _ _ c.outcome-verdict.ensures _ c.in-Fits.is
+    merge_done a.names a.header l a.added r c.requires _ _ c.outcome-verdict.ensures _ c.in-Fits.is
     _ c.commit.ensures _ c.merged_header-r.ensures

@@ -9,16 +9,16 @@ unite-a-requires c =
 
 pub unite-b-requires : goal.unite-b-requires
 unite-b-requires c =
-    let f = c.pre.left_fitting.fit in let g = c.pre.right_fitting.fit in
-    set_room f.partial_used f.partial_lent g.partial_used g.partial_lent c.pre.room_b
+    let f = c.requires.left_fitting.fit in let g = c.requires.right_fitting.fit in
+    set_room f.partial_used f.partial_lent g.partial_used g.partial_lent c.requires.room_b
 
 pub unite-c-requires : goal.unite-c-requires
 unite-c-requires c =
-    let f = c.pre.left_fitting.fit in let g = c.pre.right_fitting.fit in
-    set_room f.not_found_used f.not_found_lent g.not_found_used g.not_found_lent c.pre.room_c
+    let f = c.requires.left_fitting.fit in let g = c.requires.right_fitting.fit in
+    set_room f.not_found_used f.not_found_lent g.not_found_used g.not_found_lent c.requires.room_c
 
 pub plan-planned-requires : goal.plan-planned-requires
-plan-planned-requires c = planable c.pre
+plan-planned-requires c = planable c.requires
 
 pub returns : goal.returns
 returns c =
