@@ -1,2 +1,2 @@
 -- What the proofs of more than one function use.
-mod Kept
+pub mod Kept

@@ -1,5 +1,6 @@
--- A refusal's tag, from 0 on, is one less than its number. Assumes nothing.
+-- A refusal's tag, from 0 on, is one less than its number; damage and a difference are told by theirs. Assumes nothing.
 use mathlib.Core.Path.{◌≡◌, refl}
+use mathlib.Core.Logic.{◌≢◌}
 use Prim.Native.Nat.{ℕ, suc}
 use native.Mathlib.Omega.{arith}
 use denote.Enum.Declared.{tag_of}
@@ -27,3 +28,39 @@ tagged refusal.BadMemory = refl
 
 pub tag_is : (r : Refusal) (n : ℕ) → number_of r ≡ suc n → tag_of the_type r ≡ n
 tag_is r n e = let t : suc (tag_of the_type r) ≡ number_of r = tagged r in omega arith
+
+-- only damage has the number 13
+pub no_damage : (r : Refusal) → ((stream place reason : ℕ) → r ≡ refusal.Damaged stream place reason → ⊥) → number_of r ≢ 13
+no_damage refusal.Reversed h e = omega arith
+no_damage refusal.NoRoom h e = omega arith
+no_damage refusal.UnknownSymbol h e = omega arith
+no_damage refusal.BadName h e = omega arith
+no_damage refusal.NoNameRoom h e = omega arith
+no_damage (refusal.Differ field) h e = omega arith
+no_damage refusal.Conflict h e = omega arith
+no_damage refusal.NotNumber h e = omega arith
+no_damage refusal.NoInstrumentId h e = omega arith
+no_damage refusal.OutsideQuery h e = omega arith
+no_damage refusal.NoDate h e = omega arith
+no_damage refusal.BadStreams h e = omega arith
+no_damage (refusal.Damaged stream place reason) h e = h stream place reason refl
+no_damage refusal.IllFormed h e = omega arith
+no_damage refusal.BadMemory h e = omega arith
+
+-- only a difference has the number 6
+pub no_difference : (r : Refusal) → ((field : ℕ) → r ≡ refusal.Differ field → ⊥) → number_of r ≢ 6
+no_difference refusal.Reversed h e = omega arith
+no_difference refusal.NoRoom h e = omega arith
+no_difference refusal.UnknownSymbol h e = omega arith
+no_difference refusal.BadName h e = omega arith
+no_difference refusal.NoNameRoom h e = omega arith
+no_difference (refusal.Differ field) h e = h field refl
+no_difference refusal.Conflict h e = omega arith
+no_difference refusal.NotNumber h e = omega arith
+no_difference refusal.NoInstrumentId h e = omega arith
+no_difference refusal.OutsideQuery h e = omega arith
+no_difference refusal.NoDate h e = omega arith
+no_difference refusal.BadStreams h e = omega arith
+no_difference (refusal.Damaged stream place reason) h e = omega arith
+no_difference refusal.IllFormed h e = omega arith
+no_difference refusal.BadMemory h e = omega arith

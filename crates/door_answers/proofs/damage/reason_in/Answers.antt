@@ -11,4 +11,4 @@ unfolding damage_in
 returns-in-Damaged c = ap (λ (r : Refusal). damage_in c.args.held 2 (refused r)) (sym c.in-Damaged.is)
 
 pub returns-in_default : goal.returns-in_default
-returns-in_default c = kept c.args.refusal c.args.held 2 c.in-Damaged.keys2
+returns-in_default c = kept c.args.refusal c.args.held 2 c.in_default.not-Damaged
