@@ -1,6 +1,6 @@
 -- The ways a turn of the plain engine's loop goes: the laws of the heap engine's turns (`StateLaws`) ask only who is chosen, so all of
 -- them serve. Assumes nothing.
-use Rattle.std.specs.Prelude.{◌≡◌, refl, ◌≢◌, ℕ, ◌+◌, ◌-◌, ◌%◌, ◌≤◌, ◌<◌, ◌^◌, List, length, get_or, set, replicate, true}
+use Rattle.std.specs.Prelude.{◌≡◌, refl, ◌≢◌, ℕ, ◌+◌, ◌%◌, ◌≤◌, ◌<◌, ◌^◌, List, length, get_or, set, replicate, true}
 use Rattle.std.proofs.Common.{sym, ap, ◌∙◌, arith, length-set}
 use Rattle.theory.specs.Answer.{Answer}
 use Rattle.records_rules.specs.Machine.{Stream, says, end, record_at_lem, damage_at, turn}

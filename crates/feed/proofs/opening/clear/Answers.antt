@@ -1,7 +1,6 @@
 -- Loop: the first i places are empty. Assumes nothing.
 use native.Mathlib.Omega.{arith}
 use mathlib.Core.Path.{refl}
-use Prim.Native.Nat.{◌-◌}
 use lib.ListN.{length-set}
 use Rattle.feed_rules.specs.OpeningLaws.{emptied}
 use Rattle.feed.proofs.opening.clear.Goals as goal

@@ -1,7 +1,6 @@
 -- Each turn looks at the heap's root. The invariant: the arrays keep their lengths, and where the entry was sound, this state is, the
 -- machine goes on from it as from the entry, and what is left of each stream is kept. The measure is the streams waiting, which falls
 -- with each read. Assumes nothing.
-use Prim.Native.Nat.{◌-◌}
 use native.Mathlib.Omega.{arith}
 use lib.ListN.{length-set}
 use Rattle.records_rules.specs.StateLaws.{less_gone, less_stand}

@@ -1,5 +1,4 @@
 -- What each turn keeps, and what gets less.
-use Prim.Native.Nat.{◌-◌}
 use Rattle.records_rules.specs.Kept.{waits}
 use Rattle.records_rules.specs.View.{statuses_of}
 use Rattle.feed_rules.specs.Going.{Going⁺}

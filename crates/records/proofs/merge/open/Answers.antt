@@ -4,7 +4,6 @@ use mathlib.Core.Bool.{true, false}
 use Prim.Native.Nat.{ℕ}
 use native.Mathlib.Omega.{arith}
 use lib.ListN.{length}
-use borrow.Author.Tests.{not-true, not-false}
 use Rattle.records_rules.specs.State.{arrays_fit, right_streams, opening}
 use Rattle.records_rules.specs.Opening.{arrays_room, right_count_lem, opened}
 use Rattle.records.proofs.merge.open.Goals as goal
@@ -26,8 +25,7 @@ returns-then-not-streams_right c =
     let a = c.args in
     let yes : arrays_fit 0 (length a.marks.now) (length a.times.now) (length a.places.now) (length a.heads.now) (length a.heap.now) ≡
     true = sym c.arrays_fit.ensures ∙ c.if-not-arrays_fit.false in
-    let no : right_streams (length a.buffer.now) a.cuts.now (length a.hints.now) ≡ false = sym c.streams_right.ensures ∙ not-true _
-    c.if-not-streams_right.true-raw in
+    let no : right_streams (length a.buffer.now) a.cuts.now (length a.hints.now) ≡ false = sym c.streams_right.ensures ∙ c.if-not-streams_right.true in
     record {
       answers = rw (yes, no) refl;
       refused = λ e. refl;
@@ -45,11 +43,9 @@ pub lay_streams-requires : goal.lay_streams-requires
 lay_streams-requires c =
     let a = c.args in
     let room = arrays_room 0 a.marks.now a.times.now a.places.now a.heads.now a.heap.now
-    (sym c.arrays_fit.ensures ∙ not-false _
-    c.if-not-arrays_fit.false-raw) in
+    (sym c.arrays_fit.ensures ∙ c.if-not-arrays_fit.false) in
     let count = right_count_lem (length a.buffer.now) a.cuts.now (length a.hints.now)
-    (sym c.streams_right.ensures ∙ not-false _
-    c.if-not-streams_right.false-raw) in
+    (sym c.streams_right.ensures ∙ c.if-not-streams_right.false) in
     omega (arith, count.1, room)
 
 pub heapify-requires : goal.heapify-requires
@@ -59,8 +55,8 @@ heapify-requires c =
     (sym c.arrays_fit.ensures ∙ c.if-not-arrays_fit.false) in
     let count = right_count_lem (length a.buffer.now) a.cuts.now (length a.hints.now)
     (sym c.streams_right.ensures ∙ c.if-not-streams_right.false) in
-    let kept = c.lay_streams.auto.1.1 in
-    omega (arith, count.1, room, kept.0, kept.1.0, kept.1.1.0, kept.1.1.1.0, kept.1.1.1.1.0)
+    let kept = c.lay_streams.auto in
+    omega (arith, count.1, room, kept.marks, kept.times, kept.places, kept.heads, kept.heap)
 
 pub returns : goal.returns
 unfolding opening
@@ -72,8 +68,7 @@ returns c =
     (sym c.streams_right.ensures ∙ c.if-not-streams_right.false) in
     let yes : arrays_fit 0 (length a.marks.now) (length a.times.now) (length a.places.now) (length a.heads.now) (length a.heap.now) ≡
     true = sym c.arrays_fit.ensures ∙ c.if-not-arrays_fit.false in
-    let yes₂ : right_streams (length a.buffer.now) a.cuts.now (length a.hints.now) ≡ true = sym c.streams_right.ensures ∙ not-false _
-    c.if-not-streams_right.false-raw in
+    let yes₂ : right_streams (length a.buffer.now) a.cuts.now (length a.hints.now) ≡ true = sym c.streams_right.ensures ∙ c.if-not-streams_right.false in
     record {
       answers = rw (yes, yes₂) refl;
       refused = rw (yes, yes₂) (λ e. let z : ◌≡◌ {A = ℕ} 0 1 = cc in absurd (omega arith));

@@ -1,6 +1,5 @@
 -- Each turn looks at the heap's root. The invariant: the arrays keep their lengths, and where the entry was sound, this state is, and
 -- the machine goes on from it as from the entry. The measure is the streams waiting, which falls with each read. Assumes nothing.
-use Prim.Native.Nat.{◌-◌}
 use native.Mathlib.Omega.{arith}
 use lib.ListN.{length-set}
 use Rattle.records_rules.specs.Bytes.{stream_short}
@@ -54,13 +53,13 @@ loop-size-preserved c =
     let at = c.loop-size in
     step_whole at.invariant c.requires c.slot-p.ensures.0 (omega (arith, c.if-size-eq0.false)) c.if-marks-p-eq-WAITING.true got.result.found
     got.result.time got.result.head got.ensures c.if-found-lt-RECORD.false
-    (omega (arith, stream_short c.args.buffer.now c.args.cuts.now c.slot-p.result, c.well_formed_lem.0.0))
+    (omega (arith, stream_short c.args.buffer.now c.args.cuts.now c.slot-p.result, c.well_formed.0.0))
     c.sift_down-else-found-lt-RECORD.ensures c.sift_down-else-found-lt-RECORD.auto.heap
 
 pub returns-else-marks-p-eq-WAITING : goal.returns-else-marks-p-eq-WAITING
 returns-else-marks-p-eq-WAITING c =
     let at = c.loop-size in
     rw c.handed-record.ensures
-    (step_record at.invariant c.pre c.slot-p.ensures.0
+    (step_record at.invariant c.requires c.slot-p.ensures.0
     (omega (arith, c.if-size-eq0.false)) c.if-marks-p-eq-WAITING.false
     c.plus.result c.plus.ensures)

@@ -1,5 +1,4 @@
 -- What each turn keeps, and what gets less.
-use Prim.Native.Nat.{◌-◌}
 use Rattle.records_rules.specs.Bytes.{streams_of}
 use Rattle.records_rules.specs.Kept.{waits}
 use Rattle.records_rules.specs.View.{statuses_of}

@@ -1,10 +1,8 @@
 -- Loop: `Scan` over the first p streams. Assumes nothing.
 use mathlib.Core.Path.{◌≡◌}
-use mathlib.Core.Logic.{⊎_elim}
-use Prim.Native.Nat.{◌-◌}
 use native.Mathlib.Omega.{arith}
-use borrow.Author.Tests.{ltb-true, ltb-false}
 use Rattle.records_plain.specs.Scan.{scan_start, scan_gone, scan_new, scan_stays, scan_done}
+use Rattle.records_plain.proofs.plain.least.Goals.{then-marks-p-ne-GONE+then-best-streams, then-best-streams-via-then-best-streams, then-best-streams-via-else-best-streams+then-times-p, then-marks-p-ne-GONE+else-best-streams+else-times-p, else-marks-p-ne-GONE}
 use Rattle.records_plain.proofs.plain.least.Goals as goal
 
 pub loop-p-init : goal.loop-p-init
@@ -14,13 +12,16 @@ pub loop-p-preserved : goal.loop-p-preserved
 loop-p-preserved c =
     let s = c.loop-p.invariant.1 in (
       omega arith,
-      ⊎_elim
-          (λ w. rw w.2 (scan_new s (omega arith) w.0.taken (λ l.
-          ⊎_elim (λ v. absurd (omega (arith, v.taken))) (λ v. ltb-true _ _ v.3.taken) w.1.came)))
-          (⊎_elim
-          (λ w. rw w.5 (scan_stays s (omega (arith, w.1.left, s.within)) (ltb-false _ _ w.4.left)))
-          (λ w. rw w.1 (scan_gone s w.0.left)))
-          c.if-marks-p-ne-GONE.branch,
+      elim c.if-marks-p-ne-GONE.branch [
+        | then-marks-p-ne-GONE+then-best-streams w ↦ rw w.best-is (scan_new s (omega arith) w.if-marks-p-ne-GONE.true (λ l.
+            elim w.then-best-streams.branch [
+              | then-best-streams-via-then-best-streams v ↦ absurd (omega (arith, v.if-best-streams.true))
+              | then-best-streams-via-else-best-streams+then-times-p v ↦ v.if-times-p.true
+            ]))
+        | then-marks-p-ne-GONE+else-best-streams+else-times-p w ↦
+            rw w.best-is (scan_stays s (omega (arith, w.if-best-streams.false, s.within)) w.if-times-p.false)
+        | else-marks-p-ne-GONE w ↦ rw w.best-is (scan_gone s w.if-marks-p-ne-GONE.false)
+      ],
     )
 
 pub returns : goal.returns

@@ -45,7 +45,7 @@ loop-streams-preserved c =
     let got = c.read_stream-got in
     turn_whole c.loop-streams.invariant c.requires c.least-p.ensures c.if-p-streams.false
     c.if-marks-p-eq-WAITING.true got.result.found got.result.time got.result.head got.ensures c.if-found-lt-RECORD.false
-    (omega (arith, stream_short c.args.buffer.now c.args.cuts.now c.least-p.result, c.well_formed_lem.0.0))
+    (omega (arith, stream_short c.args.buffer.now c.args.cuts.now c.least-p.result, c.well_formed.0.0))
 
 pub returns-else-marks-p-eq-WAITING : goal.returns-else-marks-p-eq-WAITING
 returns-else-marks-p-eq-WAITING c =
