@@ -11,7 +11,7 @@ returns-then-is_done c =
     build_done a.names a.table.now (names_of a.bytes.now a.ends.now a.names)
     (mappings_from a.mappings.now a.intervals.now 0 0 a.count) a.stype_in a.stype_out
     c.direction_by-heading.ensures c.in-Is.is c.lay_mappings-laid.result
-    c.lay_mappings-laid.new.0 c.lay_mappings-laid.auto.table c.lay_mappings-laid.ensures (sym c.is_done.ensures ∙ c.if-is_done.true)
+    c.lay_mappings-laid.new.table c.lay_mappings-laid.auto.table c.lay_mappings-laid.ensures (sym c.is_done.ensures ∙ c.if-is_done.true)
 
 pub returns-in-Refused : goal.returns-in-Refused
 returns-in-Refused c =
@@ -25,6 +25,6 @@ returns-else-is_done c =
     let a = c.args in
     build_cleared a.names a.table.now (names_of a.bytes.now a.ends.now a.names)
     (mappings_from a.mappings.now a.intervals.now 0 0 a.count) a.stype_in a.stype_out c.direction_by-heading.ensures
-    c.in-Is.is c.lay_mappings-laid.result c.lay_mappings-laid.new.0 c.lay_mappings-laid.auto.table
-    c.lay_mappings-laid.ensures c.clear.new.0
+    c.in-Is.is c.lay_mappings-laid.result c.lay_mappings-laid.new.table c.lay_mappings-laid.auto.table
+    c.lay_mappings-laid.ensures c.clear.new.table
     (sym c.is_done.ensures ∙ c.if-is_done.false) c.clear.ensures

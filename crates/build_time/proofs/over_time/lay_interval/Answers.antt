@@ -22,13 +22,13 @@ returns-in-Nothing c =
 pub returns-in-Done : goal.returns-in-Done
 returns-in-Done c =
     let a = c.args in
-    took_insert a.names (names_of a.bytes.now a.ends.now a.names) a.way a.interval a.table.now a.used c.enter-inserted.new.0
+    took_insert a.names (names_of a.bytes.now a.ends.now a.names) a.way a.interval a.table.now a.used c.enter-inserted.new.table
     c.requires.1 c.enter-inserted.auto.table c.step-asked.ensures c.in-Insert.is
     c.enter-inserted.ensures c.in-Done.is
 
 pub returns-in-Refused : goal.returns-in-Refused
 returns-in-Refused c =
     let a = c.args in
-    took_full a.names (names_of a.bytes.now a.ends.now a.names) a.way a.interval a.table.now a.used c.enter-inserted.new.0
+    took_full a.names (names_of a.bytes.now a.ends.now a.names) a.way a.interval a.table.now a.used c.enter-inserted.new.table
     c.step-asked.ensures c.in-Insert.is c.enter-inserted.ensures
     c.in-Refused.is

@@ -19,7 +19,7 @@ returns-then-not-is_done c =
     let a = c.args in
     let l = c.loop-k in
     laying_stop a.names (names_of a.bytes.now a.ends.now a.names) a.way a.intervals.now a.from a.count a.table.now a.used
-    l.table l.then l.k l.invariant (omega arith) c.lay_interval-laid.new.0 c.lay_interval-laid.result c.interval_at-x.result
+    l.table l.then l.k l.invariant (omega arith) c.lay_interval-laid.new.table c.lay_interval-laid.result c.interval_at-x.result
     c.interval_at-x.ensures c.lay_interval-laid.ensures (sym c.is_done.ensures ∙ c.if-not-is_done.true)
 
 pub loop-k-preserved : goal.loop-k-preserved
@@ -27,7 +27,7 @@ loop-k-preserved c =
     let a = c.args in
     let l = c.loop-k in
     laying_turn a.names (names_of a.bytes.now a.ends.now a.names) a.way a.intervals.now a.from a.count a.table.now a.used
-    l.table l.then l.k l.invariant (omega arith) c.lay_interval-laid.new.0 c.lay_interval-laid.result c.used_of-then.result
+    l.table l.then l.k l.invariant (omega arith) c.lay_interval-laid.new.table c.lay_interval-laid.result c.used_of-then.result
     c.interval_at-x.result c.interval_at-x.ensures c.lay_interval-laid.auto.table c.lay_interval-laid.ensures
     (sym c.is_done.ensures ∙ c.if-not-is_done.false) c.used_of-then.ensures
 

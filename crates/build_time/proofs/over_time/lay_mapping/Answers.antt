@@ -8,7 +8,7 @@ pub returns-in-Forward : goal.returns-in-Forward
 returns-in-Forward c =
     let a = c.args in
     mapping_forward a.bytes.now a.ends.now a.names a.name (room_of a.table.now) (stretch a.intervals.now a.from a.count)
-    (rows a.table.now a.used) c.lay_intervals.result c.lay_intervals.new.0
+    (rows a.table.now a.used) c.lay_intervals.result c.lay_intervals.new.table
     c.in-Forward.is c.lay_intervals.ensures
 
 pub returns-in-Refused : goal.returns-in-Refused
@@ -22,7 +22,7 @@ pub returns-in-Number : goal.returns-in-Number
 returns-in-Number c =
     let a = c.args in
     mapping_number a.bytes.now a.ends.now a.names a.name (room_of a.table.now) (stretch a.intervals.now a.from a.count)
-    (rows a.table.now a.used) c.lay_intervals-in-Number.result c.lay_intervals-in-Number.new.0
+    (rows a.table.now a.used) c.lay_intervals-in-Number.result c.lay_intervals-in-Number.new.table
     c.in-Inverse.is
     c.instrument_of-read.ensures c.in-Number.is
     c.lay_intervals-in-Number.ensures

@@ -27,7 +27,7 @@ returns-then-not-is_done c =
     let a = c.args in
     let l = c.loop-t in
     mapping_stop a.names (names_of a.bytes.now a.ends.now a.names) a.direction a.mappings.now a.intervals.now a.count a.table.now
-    l.table l.used l.from l.t l.invariant (omega arith) c.lay_mapping-laid.new.0 c.lay_mapping-laid.result c.name_at-name.result
+    l.table l.used l.from l.t l.invariant (omega arith) c.lay_mapping-laid.new.table c.lay_mapping-laid.result c.name_at-name.result
     c.count_at-n.result c.name_at-name.ensures c.count_at-n.ensures c.lay_mapping-laid.ensures
     (sym c.is_done.ensures ∙ c.if-not-is_done.true)
 
@@ -47,7 +47,7 @@ loop-t-preserved c =
     let a = c.args in
     let l = c.loop-t in
     mapping_turn a.names (names_of a.bytes.now a.ends.now a.names) a.direction a.mappings.now a.intervals.now a.count a.table.now
-    l.table l.used l.from l.t l.invariant (omega arith) c.lay_mapping-laid.new.0 c.lay_mapping-laid.result c.name_at-name.result
+    l.table l.used l.from l.t l.invariant (omega arith) c.lay_mapping-laid.new.table c.lay_mapping-laid.result c.name_at-name.result
     c.count_at-n.result c.name_at-name.ensures c.count_at-n.ensures c.lay_mapping-laid.ensures c.used_of-used.result
     c.lay_mapping-laid.auto.table (sym c.is_done.ensures ∙ c.if-not-is_done.false) c.used_of-used.ensures
 

@@ -57,7 +57,7 @@ returns c =
     c.lengths_by-l.ensures
     c.table_fits-of_form.ensures c.build_fits.ensures c.if-not-build_fits.false-raw
     c.is_list.ensures c.if-not-is_list.false-raw c.build.result
-    c.build.new.0 c.build.ensures in
+    c.build.new.table c.build.ensures in
     record {
       result_value = p.0;
       table_after = p.1.0;
