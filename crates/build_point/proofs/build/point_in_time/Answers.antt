@@ -36,17 +36,17 @@ returns-then-not-is_list c =
 
 pub lay_mappings-laid-requires : goal.lay_mappings-laid-requires
 lay_mappings-laid-requires c =
-    let a = c.args in (
-      clean_zeros (length a.table.now) _ c.clear.ensures,
-      (
-        ends_lists (length a.table.now) a.header (lists a.symbols.now a.partial.now a.not_found.now a.mappings.now a.intervals.now)
-            a.bytes.now a.ends.now a.names a.name_bytes a.date c.points_fit-of_form.ensures c.build_fits.ensures c.if-not-build_fits.false-raw
-            c.is_list.ensures c.if-not-is_list.false-raw,
-        ends_ordered (length a.table.now) a.header (lists a.symbols.now a.partial.now a.not_found.now a.mappings.now a.intervals.now)
-            a.bytes.now a.ends.now a.names a.name_bytes a.date c.points_fit-of_form.ensures c.build_fits.ensures c.if-not-build_fits.false-raw
-            c.is_list.ensures c.if-not-is_list.false-raw,
-      ),
-    )
+    let a = c.args in record {
+      clean = clean_zeros (length a.table.now) _ c.clear.ensures;
+      count_in_bounds =
+          ends_lists (length a.table.now) a.header (lists a.symbols.now a.partial.now a.not_found.now a.mappings.now a.intervals.now)
+          a.bytes.now a.ends.now a.names a.name_bytes a.date c.points_fit-of_form.ensures c.build_fits.ensures c.if-not-build_fits.false-raw
+          c.is_list.ensures c.if-not-is_list.false-raw;
+      ordered =
+          ends_ordered (length a.table.now) a.header (lists a.symbols.now a.partial.now a.not_found.now a.mappings.now a.intervals.now)
+          a.bytes.now a.ends.now a.names a.name_bytes a.date c.points_fit-of_form.ensures c.build_fits.ensures c.if-not-build_fits.false-raw
+          c.is_list.ensures c.if-not-is_list.false-raw;
+    }
 
 pub returns-in-Refused : goal.returns-in-Refused
 returns-in-Refused c =
@@ -81,7 +81,7 @@ returns-in-Refused-laid c =
     c.is_list.ensures c.if-not-is_list.false-raw c.begin-begun.result c.begin-begun.ensures c.in-On.is _
     c.clear.ensures c.lay_mappings-laid.result _ c.lay_mappings-laid.ensures c.in-Refused-laid.is
     (c.clear-in-Refused-laid.ensures ∙ ap (λ (n : ℕ). replicate n 0)
-    (c.table-in-On-1.given ∙ c.table-1.given)) in
+    (c.lay_mappings-laid.auto.table ∙ c.clear.auto.table)) in
     record {
       answered = p.0;
       memory = p.1;

@@ -20,10 +20,10 @@ returns-in-Refused c = search (rules, going_refused)
 pub overflow_add-from : goal.overflow_add-from
 overflow_add-from c =
     omega (
-  arith,
-  going_room _ _ _ _ _ _ _ c.loop-i.invariant
-      (omega arith) c.count_at-n.ensures (omega arith),
-)
+      arith,
+      going_room _ _ _ _ _ _ _ c.loop-i.invariant
+          (omega arith) c.count_at-n.ensures (omega arith),
+    )
 
 pub loop-i-preserved : goal.loop-i-preserved
 loop-i-preserved c =
