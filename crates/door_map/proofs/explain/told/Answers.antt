@@ -29,5 +29,4 @@ returns-in-Between c =
 pub returns-in-Refused : goal.returns-in-Refused
 unfolding number_in
 returns-in-Refused c =
-    let k = c.enum_told-in-Refused-1.given in
-    λ z. absurd (refused_not_done k.0.0 (sym (ap (λ (e : Explained). number_in (explained_of e)) k.1) ∙ z))
+    λ z. absurd (refused_not_done _ (sym (ap (λ (e : Explained). number_in (explained_of e)) c.in-Refused.is) ∙ z))

@@ -6,10 +6,10 @@ use Rattle.door_map.proofs.names.desk_place_of_name.Goals as goal
 pub returns-in-At : goal.returns-in-At
 returns-in-At c =
     let e = answer_same placed_of c.place_of_name-placed.ensures c.in-At.is in
-    (done_number e, (done_value c.args.first.now 0 e, done_value c.args.end.now 1 e))
+    record { value = done_number e; first_after = done_value c.args.first.now 0 e; end_after = done_value c.args.end.now 1 e }
 
 pub returns-in-Refused : goal.returns-in-Refused
 returns-in-Refused c =
     let e = answer_same placed_of c.place_of_name-placed.ensures c.in-Refused.is in
     let r = c.in-Refused.refusal in
-    (not_number r c.number.ensures e, (not_value r c.args.first.now 0 e, not_value r c.args.end.now 1 e))
+    record { value = not_number r c.number.ensures e; first_after = not_value r c.args.first.now 0 e; end_after = not_value r c.args.end.now 1 e }
