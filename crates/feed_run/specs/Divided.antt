@@ -5,11 +5,11 @@ use Rattle.std.proofs.Common.{sym, ap, ap₂, subst, ◌∙◌}
 use Rattle.theory.specs.Answer.{Answer, answer}
 use Rattle.run_rules.specs.Batch.{answers, after}
 use Rattle.run_rules.specs.Rows.{ended, wanting}
-use Rattle.run_rules.specs.Shown.{Gave, shown, seen, SeenOk, seen_single}
+use Rattle.run_rules.specs.Shown.{Gave, shown, seen, seen_single}
 use Rattle.records_rules.specs.Machine.{record_at_lem, damage_at, says, end}
 use Rattle.feed_rules.specs.Partial.{Turn⁺, replies, needs}
 use Rattle.feed_rules.specs.Windows.{Kept, Feed, opened, turn_in, turn_answer, next_answer, next_leaves}
-use Rattle.feed_rules.specs.Windows.{Call, portion, word, call, answer_to, leaves, answers_to, lastly, Alike}
+use Rattle.feed_rules.specs.Windows.{Call, portion, word, call, answer_to, leaves, lastly, Alike}
 use Rattle.feed_rules.specs.Spans.{feed_at}
 use Rattle.feed_rules.specs.Adding.{FeedOpenedIn}
 use Rattle.feed_rules.specs.History.{FeedLent, feed_in, Calling, call_answers, same_call, same_left, alike_trans}

@@ -13,13 +13,7 @@ pub returns-in-End : goal.returns-in-End
 returns-in-End c = λ kept x e. note_end _ _ kept x (ap fed_of (sym c.in-End.is) ∙ e)
 
 pub returns-in-NeedMore : goal.returns-in-NeedMore
-returns-in-NeedMore c =
-    λ kept x e.
-    let a = c.answer-in-NeedMore-1.given in
-    note_need _ _ kept x a.0.0 (ap fed_of (sym a.1) ∙ e)
+returns-in-NeedMore c = λ kept x e. note_need _ _ kept x _ (ap fed_of (sym c.in-NeedMore.is) ∙ e)
 
 pub returns-in-Refused : goal.returns-in-Refused
-returns-in-Refused c =
-    λ kept x e.
-    let a = c.answer-in-Refused-1.given in
-    note_refused _ _ kept x a.0.0 (ap fed_of (sym a.1) ∙ e)
+returns-in-Refused c = λ kept x e. note_refused _ _ kept x _ (ap fed_of (sym c.in-Refused.is) ∙ e)

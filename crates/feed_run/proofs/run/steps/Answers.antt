@@ -1,6 +1,5 @@
 -- Loop: what the run is to hand back is what is handed back from here on (`Under⁺`); the calls that are left fall. Assumes nothing.
 use native.Mathlib.Omega.{arith}
-use Prim.Native.Nat.{◌-◌}
 use borrow.Author.Tests.{not-true, not-false}
 use Rattle.feed_run.specs.Running.{under_start, under_room, under_done, under_more, under_stop}
 use Rattle.feed_run.proofs.run.steps.Goals as goal
@@ -31,10 +30,17 @@ loop-calls-smaller c = omega (arith, c.loop-calls-test.true)
 pub loop-calls-preserved : goal.loop-calls-preserved
 loop-calls-preserved c =
     let u = c.loop-calls.invariant in
-    let k = c.step-stepped.auto.1.1 in
-    under_more u c.step-stepped.ensures c.loop-calls-test.true (not-false _ c.if-not-stepped.false)
-    (record { marks = k.0; times = k.1.0; places = k.1.1.0; heads = k.1.1.1.0; heap = k.1.1.1.1.0; list = k.1.1.1.1.1.1.0 })
-    k.1.1.1.1.1.0
+    let s = c.step-stepped in
+    under_more u s.ensures c.loop-calls-test.true (not-false _ c.if-not-stepped.false)
+    (record {
+      marks = s.auto.marks;
+      times = s.auto.times;
+      places = s.auto.places;
+      heads = s.auto.heads;
+      heap = s.auto.heap;
+      list = s.auto.list;
+    })
+    s.auto.spans
 
 pub returns : goal.returns
 returns c = under_done c.loop-calls.invariant c.requires.1 c.loop-calls-test.false

@@ -13,7 +13,4 @@ pub returns-in-End : goal.returns-in-End
 returns-in-End c = λ x e. note_end _ _ x (ap turn_of (sym c.in-End.is) ∙ e)
 
 pub returns-in-Refused : goal.returns-in-Refused
-returns-in-Refused c =
-    λ x e.
-    let a = c.answer-in-Refused-1.given in
-    note_refused _ _ x a.0.0 (ap turn_of (sym a.1) ∙ e)
+returns-in-Refused c = λ x e. note_refused _ _ x _ (ap turn_of (sym c.in-Refused.is) ∙ e)

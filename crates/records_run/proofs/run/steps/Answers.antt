@@ -1,6 +1,5 @@
 -- Loop: what the run is to hand back is what is handed back from here on (`Under`); the calls that are left fall. Assumes nothing.
 use native.Mathlib.Omega.{arith}
-use Prim.Native.Nat.{◌-◌}
 use borrow.Author.Tests.{not-true, not-false}
 use Rattle.records_run.specs.Running.{under_start, under_room, under_done, under_more, under_stop}
 use Rattle.records_run.proofs.run.steps.Goals as goal
@@ -15,7 +14,7 @@ step-stepped-requires c =
     (under_room u p.0, omega (arith, u.lengths.list, p.1, c.loop-calls-test.true))
 
 pub overflow_add-result : goal.overflow_add-result
-overflow_add-result c = omega (arith, c.loop-calls-test.taken, c.fits.limit)
+overflow_add-result c = omega (arith, c.loop-calls-test.true, c.ranges.limit)
 
 pub returns-then-not-stepped : goal.returns-then-not-stepped
 returns-then-not-stepped c =
@@ -23,7 +22,7 @@ returns-then-not-stepped c =
     under_stop u c.step-stepped.ensures c.loop-calls-test.true (not-true _ c.if-not-stepped.true) c.requires.1
 
 pub overflow_add-calls : goal.overflow_add-calls
-overflow_add-calls c = omega (arith, c.loop-calls-test.taken, c.fits.limit)
+overflow_add-calls c = omega (arith, c.loop-calls-test.true, c.ranges.limit)
 
 pub loop-calls-smaller : goal.loop-calls-smaller
 loop-calls-smaller c = omega (arith, c.loop-calls-test.true)
