@@ -12,12 +12,6 @@ returns-then-not-is_header c =
 pub header_of-h-requires : goal.header_of-h-requires
 header_of-h-requires c = sym c.is_header.ensures ∙ c.if-not-is_header.false
 
-pub enum_told-1 : goal.enum_told-1
-enum_told-1 c = c.in-Done.keys1
-
-pub enum_known-finished : goal.enum_known-finished
-enum_known-finished c = c.in-Done.keys2
-
 pub returns-in-Done : goal.returns-in-Done
 returns-in-Done c =
     let a = c.args in

@@ -1,6 +1,5 @@
 -- Each arm of the match is what its case says. Assumes nothing.
 use mathlib.Core.Path.{sym, ◌∙◌}
-use borrow.Author.Tests.{not-false}
 use Rattle.metadata_form.specs.Header.{lists}
 use Rattle.door_answers.specs.Header.{header_fits}
 use Rattle.theory.specs.Bools.{and_left, and_right}
@@ -22,15 +21,9 @@ pub header_of-g-requires : goal.header_of-g-requires
 header_of-g-requires c =
     and_right (header_fits c.args.header.now) _ (sym c.are_headers.ensures ∙ c.if-not-are_headers.false)
 
-pub enum_known-merged : goal.enum_known-merged
-enum_known-merged c = c.in-Done.keys1
-
 pub put_header-requires : goal.put_header-requires
 put_header-requires c =
-    header_length _ (and_left _ _ (sym c.are_headers.ensures ∙ not-false _ c.if-not-are_headers.left))
-
-pub enum_known-merged-in-Refused-1 : goal.enum_known-merged-in-Refused-1
-enum_known-merged-in-Refused-1 c = c.in-Done.keys2
+    header_length _ (and_left _ _ (sym c.are_headers.ensures ∙ c.if-not-are_headers.false))
 
 pub returns-in-Done : goal.returns-in-Done
 returns-in-Done c =

@@ -6,12 +6,9 @@ use Rattle.door_metadata.specs.Merger.{field_in}
 use Rattle.door_metadata.proofs.Kept.{field_kept}
 use Rattle.door_metadata.proofs.merger.field_in.Goals as goal
 
-pub enum_known-refusal : goal.enum_known-refusal
-enum_known-refusal c = c.in-Differ.keys1
-
 pub returns-in-Differ : goal.returns-in-Differ
 unfolding field_in
 returns-in-Differ c = ap (λ (r : Refusal). field_in c.args.held (refused r)) (sym c.in-Differ.is)
 
 pub returns-in_default : goal.returns-in_default
-returns-in_default c = field_kept c.args.refusal c.args.held c.in-Differ.keys2
+returns-in_default c = field_kept c.args.refusal c.args.held c.in_default.not-Differ
