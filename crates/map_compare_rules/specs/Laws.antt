@@ -16,7 +16,7 @@ use Rattle.std.proofs.Math.Arith.{le→nltb, lt→nleb}
 use Rattle.std.proofs.Math.Facts.{eqb_yes}
 use Rattle.theory.specs.RunsTools.{cond_case, cond_yes, cond_no, cond_lt, cond_ge, T_and, T_right, T_nor_l, T_nor_r, Order, less, equal, more, order, none_some}
 use Rattle.theory.specs.Runs.{Interval, Same, IsRun, Mem}
-use Rattle.theory.specs.RunsLongest.{Rising, same_run}
+use Rattle.theory.proofs.RunsLongest.{Rising, same_run}
 use Rattle.map_rules.specs.Table.{Row, interval_of, group, answer_for, Ordered}
 use Rattle.map_rules.specs.Groups.{Sorted}
 use Rattle.map_rules.specs.Rules.{rows_longest, rows_unique, only_rows}

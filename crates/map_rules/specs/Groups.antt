@@ -13,7 +13,7 @@ use Rattle.std.proofs.Math.Dec.{eqb_refl, not_T}
 use Rattle.std.proofs.Math.Facts.{eqb_yes, eqb_no}
 use Rattle.theory.specs.Runs.{Interval, Mem, Ahead, WellFormed, overwrite, Same}
 use Rattle.theory.specs.RunsTools.{cond_case, ltb_case, cond_yes, cond_no, Order, less, equal, more, order}
-use Rattle.theory.specs.RunsOverwrite.{overwrite_ok}
+use Rattle.theory.proofs.RunsOverwrite.{overwrite_ok}
 use Rattle.map_rules.specs.Table.{Row, interval_of, row_of, picked, group, below, above, tagged, AheadRow, Ordered, insert_rows}
 
 module _ {A : Type 0} where

@@ -11,7 +11,7 @@ use Rattle.std.proofs.Math.Dec.{T}
 use Rattle.std.proofs.Math.Facts.{eqb_yes, eqb_no}
 use Rattle.theory.specs.Runs.{answer_at, Mem, IsRun, Same}
 use Rattle.theory.specs.RunsTools.{cond_case, ltb_case, T_and}
-use Rattle.theory.specs.RunsLongest.{Rising, same_run}
+use Rattle.theory.proofs.RunsLongest.{Rising, same_run}
 use Rattle.map_rules.specs.Table.{Row, interval_of, group, answer_for, Ordered, all_known, Outcome, refused_by, stored, now_stored, if_room, room_fits, names_fit, well_formed, insert_rows, entered, inserted}
 use Rattle.map_rules.specs.Tests.{formed_parts, formed_both, memory_good}
 use Rattle.map_rules.specs.Groups.{Sorted}

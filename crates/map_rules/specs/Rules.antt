@@ -9,8 +9,8 @@ use mathlib.Core.List.{List, [], ◌∷◌}
 use Rattle.std.proofs.Math.Dec.{T}
 use Rattle.theory.specs.Runs.{Interval, answer_at, Mem, IsRun, Same}
 use Rattle.theory.specs.RunsTools.{T_fst, T_snd, none_some, some_same, Place, early, within, late, place, answer_in, answer_early, answer_late, answer_cons}
-use Rattle.theory.specs.RunsOverwrite.{overwrite_answer}
-use Rattle.theory.specs.RunsLongest.{Rising, longest, unique, only_list, kept_before, kept_after}
+use Rattle.theory.proofs.RunsOverwrite.{overwrite_answer}
+use Rattle.theory.proofs.RunsLongest.{Rising, longest, unique, only_list, kept_before, kept_after}
 use Rattle.map_rules.specs.Table.{Row, interval_of, row_of, picked, group, answer_for, Ordered, all_known, insert_rows}
 use Rattle.map_rules.specs.Tests.{known_iff}
 use Rattle.map_rules.specs.Groups.{Sorted, picked_own, picked_other, Formed, formed_iff, groups_unique, mem_group, group_mem, insert_own, insert_other, insert_formed}

@@ -9,7 +9,7 @@ use mathlib.Core.List.{List, [], ◌∷◌, ◌++◌}
 use Rattle.std.proofs.Math.Dec.{ltb, eqb_refl, not_T}
 use Rattle.theory.specs.Runs.{Interval, interval, Ahead, WellFormed, All, clipped, up_to, from, meets, glue, join, overwrite, Same}
 use Rattle.theory.specs.RunsTools.{cond_yes, cond_no, T_and, T_nor_l, T_nor_r, cond_lt, cond_ge, Low, low_ahead, low_le}
-use Rattle.theory.specs.RunsOverwrite.{up_to_none, up_to_ahead, meets_yes, glue_case, glue_ahead}
+use Rattle.theory.proofs.RunsOverwrite.{up_to_none, up_to_ahead, meets_yes, glue_case, glue_ahead}
 
 -- ---- the pieces, where n overlaps or touches x first and z last
 

@@ -8,7 +8,7 @@ use Rattle.std.proofs.Math.Dec.{T}
 use Rattle.std.proofs.Math.Facts.{leb_yes, ltb_yes}
 use Rattle.theory.specs.Runs.{Mem, Same, apart}
 use Rattle.theory.specs.RunsTools.{cond_lt, cond_ge, T_and, T_fst, T_snd, head_yes, head_if, Order, less, equal, more, order}
-use Rattle.theory.specs.RunsOverwrite.{apart_iff}
+use Rattle.theory.proofs.RunsOverwrite.{apart_iff}
 use Rattle.map_rules.specs.Table.{Row, interval_of, AheadRow, Ordered, all_known, apart_row, ordered, well_formed, room_fits, names_fit}
 
 module _ {A : Type 0} (same : A → A → Bool) (laws : Same same) where

@@ -9,7 +9,7 @@ use Rattle.std.proofs.Math.Facts.{eqb_no, ltb_no}
 use Rattle.theory.specs.Answer.{Answer, answer}
 use Rattle.theory.specs.Runs.{Mem, IsRun}
 use Rattle.theory.specs.RunsTools.{cond_case, cond_yes, T_right}
-use Rattle.theory.specs.RunsLongest.{Rising}
+use Rattle.theory.proofs.RunsLongest.{Rising}
 use Rattle.map_rules.specs.Table.{Row, interval_of, group, answer_for, Ordered, ordered, Outcome, refused_by, stored, now_stored, if_room, room_fits, names_fit, well_formed, insert_rows, entered, inserted}
 use Rattle.map_rules.specs.Tests.{ordered_iff}
 use Rattle.map_rules.specs.Groups.{Sorted}

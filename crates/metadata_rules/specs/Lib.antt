@@ -4,8 +4,6 @@ pub mod WalkLaws
 pub mod Metadata
 pub mod Names
 pub mod Fold
-pub mod Cover
-pub mod Laws
 pub mod Words
 pub mod WordsLaws
 pub mod Examples

@@ -3,7 +3,5 @@ pub mod Bools
 pub mod Bracket
 pub mod Fields
 pub mod Runs
-pub mod RunsLongest
-pub mod RunsOverwrite
 pub mod RunsTools
 pub mod Slices

@@ -11,7 +11,7 @@ use mathlib.Core.List.{List, [], ◌∷◌}
 use Rattle.theory.specs.Runs.{Interval, answer_at, Ahead, WellFormed, overwrite, Same, Mem, All, IsRun}
 use Rattle.theory.specs.RunsTools.{Place, early, within, late, place, Order, less, equal, more, order, none_some, some_same}
 use Rattle.theory.specs.RunsTools.{answer_in, answer_early, answer_late, Low, low_ahead, low_tail, answer_tail}
-use Rattle.theory.specs.RunsOverwrite.{overwrite_ok, overwrite_early, overwrite_late}
+use Rattle.theory.proofs.RunsOverwrite.{overwrite_ok, overwrite_early, overwrite_late}
 
 module _ {A : Type 0} where
   pub run_path : (x y : Interval A) → x.start ≡ y.start → x.end ≡ y.end → x.value ≡ y.value → x ≡ y

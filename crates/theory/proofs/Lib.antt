@@ -1,0 +1,3 @@
+-- Laws over the definitions of specs/: what is proved of them here, and what the proofs above stand on.
+pub mod RunsLongest
+pub mod RunsOverwrite
