@@ -16,7 +16,8 @@ use Rattle.records_rules.specs.Machine.{answer, rest, answers_f, up_to, until_en
 use Rattle.records_rules.specs.Least.{LeastOk, least_ok}
 use Rattle.records_rules.specs.Kept.{waits}
 use Rattle.records_rules.specs.Bytes.{neither, bytes_of}
-use Rattle.records_rules.specs.Whole.{Ends, all_from, all_step, run, run_all}
+use Rattle.records_rules.specs.Whole.{Ends, all_from, run}
+use Rattle.records_rules.proofs.Whole.{all_step, run_all}
 use Rattle.feed_rules.specs.Partial.{Part, so_far, known_at, Step⁺, moved, wants, step⁺, Turn⁺, replies, needs, onward⁺, next_f⁺, next⁺}
 use Rattle.feed_rules.specs.Partial.{Knows, Heard, Reads, here, onto, Wants}
 use Rattle.feed_rules.specs.PartialLaws.{never_some, heard_are, grown, StepOk⁺, step_ok⁺, next_again⁺, rule_wants⁺}

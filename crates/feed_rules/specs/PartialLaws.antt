@@ -22,7 +22,7 @@ use Rattle.records_rules.specs.Machine.{Answer, says, end, Step, done, again, af
 use Rattle.records_rules.specs.Machine.{Turn, turn, onward, next_f, next, answer, rest, answers_f}
 use Rattle.records_rules.specs.Least.{IsFirst, LeastOk, least_ok, least_is, least_none}
 use Rattle.records_rules.specs.Kept.{inside, unread, waits, waits_le, waits_less}
-use Rattle.records_rules.specs.Rules.{next_again}
+use Rattle.records_rules.proofs.Rules.{next_again}
 use Rattle.feed_rules.specs.Partial.{so_far, Step⁺, moved, wants, found⁺, chosen⁺, step_at⁺, step⁺}
 use Rattle.feed_rules.specs.Partial.{Turn⁺, replies, needs, onward⁺, next_f⁺, next⁺}
 use Rattle.feed_rules.specs.Partial.{Knows, Heard, stop, reply, need, all, lifted, Wants}

@@ -13,7 +13,8 @@ use Rattle.leaves.specs.Frame.{Read, whole, ended, damaged}
 use Rattle.records_rules.specs.Machine.{Rec, says, end, record_at_lem, damage_at, Status, waiting, gone}
 use Rattle.records_rules.specs.View.{rec_in, statuses_of, length_statuses}
 use Rattle.records_rules.specs.Heap.{at}
-use Rattle.records_rules.specs.Holds.{Chosen, ok_chosen, ok_none, holds_moved, holds_kind, holds_drop, but_drop, but_key}
+use Rattle.records_rules.specs.Holds.{Chosen, holds_moved, holds_kind, holds_drop, but_drop, but_key}
+use Rattle.records_rules.proofs.Holds.{ok_chosen, ok_none}
 use Rattle.records_rules.specs.StateLaws.{room_enough, waits_at, stands_at, gone_set, stand_set, wait_set}
 use Rattle.records_rules.specs.Sift.{Sifted}
 use Rattle.feed_rules.specs.Partial.{part, known_at, Turn⁺, replies, needs, next⁺, rest⁺}

@@ -1,8 +1,8 @@
 -- A walk that does not conflict covers exactly the (day, symbol) pairs of both lists.
 -- Assumes nothing.
 use Rattle.std.proofs.Math.Path.{◌≡◌, refl, sym}
-use Rattle.std.proofs.Common.{ap, ◌∙◌}
-use Rattle.std.specs.Prelude.{◌≢◌, ◌⊎◌, ◌↔◌, ℕ, zero, suc, ◌≤◌, ◌<◌, min, max, Bool, true, false, not, ◌&&◌, cond, T, leb, eqb}
+use Rattle.std.proofs.Common.{◌∙◌}
+use Rattle.std.specs.Prelude.{◌⊎◌, ◌↔◌, ℕ, ◌≤◌, ◌<◌, eqb}
 use Rattle.std.proofs.Math.Logic.{inl, inr, ⊎_elim}
 use native.Mathlib.Omega.{arith}
 use Rattle.std.proofs.Math.Decide.{dec_le}
@@ -11,7 +11,7 @@ use Rattle.std.proofs.Math.Facts.{eqb_yes}
 use Rattle.metadata_rules.specs.declared.Interval.{Interval}
 use Rattle.metadata_rules.specs.declared.IntervalOrdering.{IntervalOrdering}
 use Rattle.metadata_rules.specs.declared.IntervalOrdering.TheVariants.{Equal, Less, Greater, Overlap}
-use Rattle.metadata_rules.specs.Walk.{interval, Walked, conflict, laid, same_dates, ordering, joined, out, agreed, heads, against, walk, then_all, walk_all}
+use Rattle.metadata_rules.specs.Walk.{Walked, conflict, laid, same_dates, ordering, joined, out, agreed, heads, against, walk, then_all, walk_all}
 use Rattle.theory.specs.RunsTools.{cond_case, T_fst, T_snd}
 use Rattle.metadata_rules.specs.Cases.{eqb_case, leb_case}
 

@@ -10,7 +10,7 @@ use Rattle.theory.specs.Runs.{Mem}
 use Rattle.metadata_rules.specs.declared.Interval.{Interval}
 use Rattle.metadata_rules.specs.Cases.{Once, eqb_case, cond_eq, cond_ne}
 use Rattle.metadata_rules.specs.Walk.{Walked, conflict, laid, walk_all}
-use Rattle.metadata_rules.specs.Metadata.{Metadata, Mapping, mapping, Merged, conflicting, merged, add_all, once, names_of, enter_all, opened, lists_of, under, in_front, collect, outcome, by_name, Rooms, Given, Outcome, refused, done, together, fits, if_fits, if_merged, agreed_merge, if_same, merge_opened, merge, differs_at, dates_known, names_known, forwards}
+use Rattle.metadata_rules.specs.Metadata.{Metadata, Mapping, mapping, Merged, conflicting, merged, add_all, once, names_of, opened, lists_of, under, in_front, collect, outcome, by_name, Rooms, Given, Outcome, refused, done, together, fits, if_fits, if_merged, agreed_merge, if_same, merge_opened, merge, differs_at, dates_known, names_known, forwards}
 use Rattle.metadata_rules.specs.Names.{add_all_old, add_all_new, add_all_only, add_all_once, once_once, once_same, add_all_append, names_append, enter_all_names, merged_names}
 use Rattle.metadata_rules.proofs.Cover.{Covered, CoveredAny, walk_all_covers}
 

@@ -1,7 +1,5 @@
 -- Tests on numbers by cases, and lists with no entry twice. Assumes nothing.
-use Rattle.std.specs.Prelude.{◌≡◌, refl, ◌≢◌, ◌⊎◌, ℕ, zero, suc, ◌≤◌, ◌<◌, Bool, true, false, not, ◌&&◌, cond, List, [], ◌∷◌, T, leb, ltb, eqb}
-use Rattle.std.proofs.Common.{sym, ap, ◌∙◌, inl, inr, arith, T_not}
-use Rattle.std.proofs.Math.Dec.{eqb_refl}
+use Rattle.std.specs.Prelude.{◌≡◌, refl, ◌≢◌, ℕ, ◌≤◌, ◌<◌, cond, List, [], ◌∷◌, leb, eqb}
 use Rattle.theory.specs.Runs.{Mem}
 use Rattle.theory.specs.RunsTools.{cond_case}
 use Rattle.std.proofs.Math.Facts.{leb_yes, leb_no, eqb_yes, eqb_no}

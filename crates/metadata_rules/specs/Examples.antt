@@ -3,7 +3,7 @@ use Rattle.std.specs.Prelude.{◌≡◌, refl, ℕ, false, List, [], ◌∷◌, 
 use Rattle.theory.specs.Answer.{answer}
 use Rattle.metadata_rules.specs.declared.Interval.{Interval}
 use Rattle.metadata_rules.specs.Walk.{interval, conflict, laid, walk}
-use Rattle.metadata_rules.specs.Metadata.{Mapping, mapping, Metadata, Fields, Rooms, Given, enter_all, by_name, merged, merge, refused, done}
+use Rattle.metadata_rules.specs.Metadata.{Mapping, mapping, Metadata, Given, enter_all, by_name, merged, merge, refused, done}
 
 abbrev i : ℕ → ℕ → ℕ → Interval
 i a b s = interval a b s

@@ -1,6 +1,6 @@
 -- Folding in one mapping after the other gives what the definition by name gives.
 -- Assumes nothing.
-use Rattle.std.specs.Prelude.{◌≡◌, refl, ◌≢◌, ◌⊎◌, ℕ, zero, suc, cond, List, [], ◌∷◌, ◌++◌, eqb}
+use Rattle.std.specs.Prelude.{◌≡◌, refl, ◌≢◌, ◌⊎◌, ℕ, cond, List, [], ◌∷◌, ◌++◌, eqb}
 use Rattle.std.proofs.Common.{sym, ap, ◌∙◌, inl, inr, append_assoc}
 use Rattle.metadata_rules.specs.declared.Interval.{Interval}
 use Rattle.metadata_rules.specs.Walk.{Walked, conflict, laid, walk, then_all, walk_all}
@@ -8,7 +8,7 @@ use Rattle.metadata_rules.specs.Metadata.{Mapping, mapping, add, add_all, once, 
 use Rattle.metadata_rules.specs.Metadata.{fold_one, and_then, fold_in}
 use Rattle.theory.specs.Runs.{Mem}
 use Rattle.metadata_rules.specs.Cases.{Once, eqb_case, cond_eq, cond_ne}
-use Rattle.metadata_rules.specs.Names.{add_new, add_old, add_only, add_once, add_all_old, add_all_once, enter_all_names, names_append}
+use Rattle.metadata_rules.specs.Names.{add_new, add_old, add_once, add_all_old, add_all_once, enter_all_names}
 
 -- the names ns with the list that f has for each
 unfoldable pub table : List ℕ → (ℕ → List Interval) → List Mapping

@@ -1,6 +1,5 @@
 pub mod Cases
 pub mod Walk
-pub mod WalkLaws
 pub mod Metadata
 pub mod Names
 pub mod Fold

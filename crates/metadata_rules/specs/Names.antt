@@ -1,8 +1,7 @@
 -- Sets in the order of first arrival: each entry once, and exactly the entries of both.
 -- Assumes nothing.
-use Rattle.std.specs.Prelude.{◌≡◌, refl, ◌≢◌, ◌⊎◌, ◌↔◌, ℕ, zero, suc, cond, List, [], ◌∷◌, ◌++◌, eqb}
+use Rattle.std.specs.Prelude.{◌≡◌, refl, ◌≢◌, ◌⊎◌, ◌↔◌, ℕ, List, [], ◌∷◌, ◌++◌}
 use Rattle.std.proofs.Common.{sym, ap, ◌∙◌, inl, inr}
-use Rattle.metadata_rules.specs.declared.Interval.{Interval}
 use Rattle.metadata_rules.specs.Walk.{Walked, conflict, laid}
 use Rattle.metadata_rules.specs.Metadata.{Mapping, mapping, add, add_all, once, names_of, enter, enter_all, Merged, conflicting, merged, in_front, under, collect, by_name, outcome}
 use Rattle.theory.specs.Runs.{Mem}

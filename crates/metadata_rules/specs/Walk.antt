@@ -1,5 +1,5 @@
 -- The walk over the intervals of one name by their two heads, a and b (RULES, Merging metadata).
-use Rattle.std.specs.Prelude.{◌≡◌, ℕ, zero, suc, min, max, Bool, true, false, ◌&&◌, cond, List, [], ◌∷◌, leb, eqb}
+use Rattle.std.specs.Prelude.{ℕ, min, max, Bool, ◌&&◌, cond, List, [], ◌∷◌, leb, eqb}
 use Rattle.metadata_rules.specs.declared.Interval.{Interval}
 use Rattle.metadata_rules.specs.declared.IntervalOrdering.{IntervalOrdering}
 use Rattle.metadata_rules.specs.declared.IntervalOrdering.TheVariants.{Equal, Less, Greater, Overlap}

@@ -1,5 +1,5 @@
 -- How many intervals stand before a mapping: one more mapping, and more of them. Assumes nothing.
-use Rattle.std.specs.Prelude.{◌≡◌, ℕ, zero, suc, ◌+◌, ◌-◌, ◌≤◌, ◌<◌, List}
+use Rattle.std.specs.Prelude.{◌≡◌, ℕ, zero, suc, ◌+◌, ◌-◌, ◌≤◌, List}
 use Rattle.std.proofs.Common.{ap, subst, arith, add-one}
 use Rattle.metadata_rules.specs.Words.{count_at, before}
 

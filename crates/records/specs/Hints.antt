@@ -4,7 +4,8 @@ use Rattle.std.specs.Prelude.{ℕ, ◌<◌, List, map, length, get_or}
 use Rattle.metadata_rules.specs.Metadata.{Fields}
 use Rattle.records_rules.specs.Machine.{Stream, own}
 use Rattle.records_rules.specs.Order.{Rising, Sorted}
-use Rattle.records_rules.specs.Whole.{run, run_sorted}
+use Rattle.records_rules.specs.Whole.{run}
+use Rattle.records_rules.proofs.Whole.{run_sorted}
 
 -- a stream's hint, and those of all streams
 abbrev pub hint_of : Fields → ℕ

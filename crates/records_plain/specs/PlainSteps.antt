@@ -8,7 +8,8 @@ use Rattle.records_rules.specs.Machine as machine
 use Rattle.records_rules.specs.View.{rec_in, statuses_of}
 use Rattle.records_rules.specs.Holds.{Chosen}
 use Rattle.records_rules.specs.State.{answer_of, got_of, Small, Room, Arrays, arrays, OpenSays}
-use Rattle.records_rules.specs.StateLaws.{law_end, law_record, law_ended, law_damaged, law_whole, law_small, small_set, small_move}
+use Rattle.records_rules.specs.StateLaws.{small_set, small_move}
+use Rattle.records_rules.proofs.StateLaws.{law_end, law_record, law_ended, law_damaged, law_whole, law_small}
 use Rattle.records_rules.specs.Opening.{arrays_room}
 use Rattle.records_plain.specs.Plain.{plain_fits, PlainRoom, PlainSays, PlainOpens}
 

@@ -17,5 +17,3 @@ pub mod Steps
 pub mod Opening
 pub mod Calls
 pub mod Others
-pub mod OthersLaws
-pub mod Complaint

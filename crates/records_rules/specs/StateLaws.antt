@@ -1,24 +1,19 @@
 -- One law for each way a turn of the code's loop goes, on lists: what the loop's proof cites. Assumes nothing.
+-- What rests on a step of the machine stands in proofs/StateLaws.
 use Rattle.std.proofs.Math.Path.{◌≡◌, refl, sym, ap}
 use Rattle.std.proofs.Common.{◌∙◌, get_or-set_same, get_or-set_other}
 use Rattle.std.specs.Prelude.{◌≢◌, length, set}
-use Prim.Native.Nat.{ℕ, zero, suc, ◌+◌, ◌/◌, ◌%◌, ◌<◌, ◌≤◌, ◌^◌}
+use Prim.Native.Nat.{ℕ, zero, suc, ◌+◌, ◌%◌, ◌<◌, ◌≤◌, ◌^◌}
 use native.Mathlib.Omega.{arith}
 use Rattle.std.proofs.Math.Decide.{ℕ_discrete}
-use Rattle.std.proofs.Math.Option.{none, some}
 use mathlib.Core.List.{List}
 use Rattle.std.proofs.Math.ListN.{get_or}
 use Rattle.std.proofs.lemmas.List.{set-get_or}
-use Rattle.leaves.specs.Frame.{whole, ended, damaged, read_found}
-use Rattle.leaves.specs.FrameLaws.{found_ended, found_damaged, found_whole}
-use Rattle.records_rules.specs.Machine.{Rec, Fits, Stream, record_at_lem, damage_at, Status, waiting, standing, gone, key, turn, says, end}
-use Rattle.records_rules.specs.Machine as machine
-use Rattle.records_rules.specs.Least.{IsFirst}
+use Rattle.leaves.specs.Frame.{whole, read_found}
+use Rattle.records_rules.specs.Machine.{Rec, Status, waiting, standing, gone}
 use Rattle.records_rules.specs.Kept.{waits, waits_less, unread}
-use Rattle.records_rules.specs.Rules.{rule_end, rule_record, rule_ended, rule_damaged, rule_whole}
 use Rattle.records_rules.specs.View.{packed, rec_in, rec_in_packed, status_of, statuses_of, statuses_set, status_at, length_statuses}
 use Rattle.records_rules.specs.State.{got_of, Small}
-use Rattle.records_rules.specs.Holds.{Chosen}
 
 -- arrays that keep their lengths have the room still, and so has the heap where no more of it is in use
 pub room_kept : {held m t c h p size m' t' c' h'' p' : ℕ} → (held ≤ 256) × (256 ≤ m) × (256 ≤ t) × (256 ≤ c) × (256 ≤ h) × (256 ≤ p)
@@ -30,18 +25,6 @@ room_kept (few, m, t, c, h, p) l em et ec eh ep = (omega arith, omega arith, ome
 pub room_enough : {size m t c h p n : ℕ} → (size ≤ 256) × (256 ≤ m) × (256 ≤ t) × (256 ≤ c) × (256 ≤ h) × (256 ≤ p) → n ≤ 256
     → (n ≤ m) × (n ≤ t) × (n ≤ c) × (n ≤ h)
 room_enough (few, m, t, c, h, p) l = (omega arith, omega arith, omega arith, omega arith)
-
-got_ended : (k t l : ℕ) → k ≡ 0 → got_of k t l ≡ ended
-unfolding got_of
-got_ended k t l e = found_ended k (whole (l % 65536) (l / 65536 % 65536) (l / 4294967296) t) e
-
-got_damaged : (k t l : ℕ) → k ≢ 0 → k < 4 → got_of k t l ≡ damaged k
-unfolding got_of
-got_damaged k t l e h = found_damaged k (whole (l % 65536) (l / 65536 % 65536) (l / 4294967296) t) e h
-
-got_whole : (k t l : ℕ) → 4 ≤ k → got_of k t l ≡ whole (l % 65536) (l / 65536 % 65536) (l / 4294967296) t
-unfolding got_of
-got_whole k t l h = found_whole k (whole (l % 65536) (l / 65536 % 65536) (l / 4294967296) t) h
 
 -- what a read says, with its length, kind and instrument in one number
 pub got_packed : (k size kind instrument t : ℕ) → size < 65536 → kind < 65536 → got_of k t (packed size kind instrument) ≡ read_found k (whole size kind instrument t)
@@ -96,53 +79,6 @@ module _ (n : ℕ) (ms ts cs hs : List ℕ) (p : ℕ) where
       unfolding unread
       less_stand t l e =
           rw (stand_set (hk, ht, hc, hl) t l) (waits_less state p (get_or ts p 0) (get_or cs p 0) (standing (get_or cs p 0) (rec_in l t)) (omega (arith, length_statuses n ms ts cs hs)) (waits_at e) refl)
-
-module _ (b : ℕ → Stream) (n : ℕ) (ms ts cs hs : List ℕ) (p : ℕ) (ch : Chosen n ms ts p) where
-  abbrev now : List Status
-  now = statuses_of n ms ts cs hs
-
-  pub law_end : n ≤ p → machine.next b now ≡ turn end now
-  law_end h = rule_end b now (ch.nobody (omega (arith, ch.within)) cs hs)
-
-  module _ (hp : p < n) (long : (n ≤ length ms) × (n ≤ length ts) × (n ≤ length cs) × (n ≤ length hs)) where
-    f : (t : ℕ) × IsFirst now t p
-    f = ch.some hp cs hs
-
-    live : get_or ms p 0 ≢ 0
-    unfolding status_of key
-    live z =
-        let is_gone_lem : key (status_of (get_or ms p 0) (get_or ts p 0) (get_or cs p 0) (get_or hs p 0)) ≡ none = rw z refl in
-        let e : none ≡ some f.0 = sym is_gone_lem ∙ ap key (sym (status_at n ms ts cs hs p hp)) ∙ f.1.has in
-        let y : ◌≡◌ {A = ℕ} 0 1 = cc in
-        omega arith
-
-    pub law_record : get_or ms p 0 ≢ 1
-        → machine.next b now ≡ turn (says p (record_at_lem (get_or cs p 0) (rec_in (get_or hs p 0) (get_or ts p 0)))) (statuses_of n (set ms p 1) ts (set cs p (get_or cs p 0 + get_or hs p 0 % 65536)) (set hs p 0))
-    unfolding rec_in
-    law_record d =
-        rule_record b now f.0 p f.1 (get_or cs p 0) (rec_in (get_or hs p 0) (get_or ts p 0)) (stands_at n ms ts cs hs p hp live d)
-        ∙ ap (turn (says p (record_at_lem (get_or cs p 0) (rec_in (get_or hs p 0) (get_or ts p 0))))) (sym (wait_set n ms ts cs hs p hp long (get_or cs p 0 + get_or hs p 0 % 65536) 0))
-
-    module _ (e : get_or ms p 0 ≡ 1) (k t l : ℕ) (g : got_of k t l ≡ (b p).read (get_or cs p 0)) where
-      pub law_ended : k ≡ 0 → machine.next b (statuses_of n (set ms p 0) ts cs hs) ≡ machine.next b now
-      law_ended d =
-          ap (machine.next b) (gone_set n ms ts cs hs p hp long) ∙ sym (rule_ended b now f.0 p f.1 (get_or ts p 0) (get_or cs p 0) (waits_at n ms ts cs hs p hp e) (sym g ∙ got_ended k t l d))
-
-      pub law_damaged : k ≢ 0 → k < 4 → machine.next b now ≡ turn (says p (damage_at (get_or cs p 0) k)) (statuses_of n (set ms p 0) ts cs hs)
-      law_damaged d h =
-          rule_damaged b now f.0 p f.1 (get_or ts p 0) (get_or cs p 0) k (waits_at n ms ts cs hs p hp e) (sym g ∙ got_damaged k t l d h)
-          ∙ ap (turn (says p (damage_at (get_or cs p 0) k))) (sym (gone_set n ms ts cs hs p hp long))
-
-      pub law_whole : 4 ≤ k → machine.next b (statuses_of n (set ms p 2) (set ts p t) cs (set hs p l)) ≡ machine.next b now
-      unfolding rec_in
-      law_whole h =
-          ap (machine.next b) (stand_set n ms ts cs hs p hp long t l)
-          ∙ sym (rule_whole b now f.0 p f.1 (get_or ts p 0) (get_or cs p 0) (l % 65536) (l / 65536 % 65536) (l / 4294967296) t (waits_at n ms ts cs hs p hp e) (sym g ∙ got_whole k t l h))
-
-      pub law_small : 4 ≤ k → get_or cs p 0 + l % 65536 ≤ (b p).size
-      law_small h =
-          let x : Fits (b p).size (get_or cs p 0) (whole (l % 65536) (l / 65536 % 65536) (l / 4294967296) t) = rw (sym g ∙ got_whole k t l h) at ((b p).fits (get_or cs p 0)) in
-          x.1
 
 pub small_set : (n : ℕ) (cs hs : List ℕ) (p l : ℕ) → p < length hs → Small n cs hs → get_or cs p 0 + l % 65536 < 2 ^ 64 → Small n cs (set hs p l)
 small_set n cs hs p l h k x q i = go (ℕ_discrete q p)

@@ -8,9 +8,10 @@ use Rattle.std.proofs.lemmas.List.{length-map}
 use Rattle.records_rules.specs.Machine.{Stream, Said, record_at_lem, damage_at, Answer, says, end}
 use Rattle.records_rules.specs.Bytes.{bytes_of}
 use Rattle.records_rules.specs.Whole.{run}
-use Rattle.records_rules.specs.Literal.{literal_run, told_run}
+use Rattle.records_rules.specs.Literal.{literal_run}
+use Rattle.records_rules.proofs.Literal.{told_run}
 use Rattle.records_rules.specs.Others.{others, records, reports}
-use Rattle.records_rules.specs.OthersLaws.{complaint, run_counts}
+use Rattle.records_rules.proofs.OthersLaws.{complaint, run_counts}
 use Rattle.lines.specs.Lines.{decimal_f, decimal, blank, newline, damaged_word, record_line, damage_line, end_line}
 use Rattle.lines.specs.Sections.{streams_in}
 use Rattle.replay_text.specs.Replay.{among, line_of, lines_of, text_of, replay_text}

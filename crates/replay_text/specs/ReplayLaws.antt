@@ -13,9 +13,12 @@ use Rattle.leaves.specs.Frame.{Read, whole, ended, damaged, judged, record_at, f
 use Rattle.records_rules.specs.Machine.{Fits, Stream, Said, own_on, own_f, own}
 use Rattle.records_rules.specs.Machine.{Status, Answer, says, end, Turn, turn, next, answer, rest, up_to, start}
 use Rattle.records_rules.specs.Bytes.{bytes_of, frame_fits, streams_of}
-use Rattle.records_rules.specs.Literal.{literal_run, told_run}
-use Rattle.records_rules.specs.Kept.{size, left_of, sum_by, total, TurnOk, next_ok}
-use Rattle.records_rules.specs.Whole.{run, all_from, all_step, run_all}
+use Rattle.records_rules.specs.Literal.{literal_run}
+use Rattle.records_rules.proofs.Literal.{told_run}
+use Rattle.records_rules.specs.Kept.{size, left_of, sum_by, total, TurnOk}
+use Rattle.records_rules.proofs.Kept.{next_ok}
+use Rattle.records_rules.specs.Whole.{run, all_from}
+use Rattle.records_rules.proofs.Whole.{all_step, run_all}
 use Rattle.lines.specs.Sections.{stream_at, cut_out, Cuts, Apart}
 use Rattle.lines.specs.SectionsLaws.{cut_out_same, length_cut_out, get_d_cut_out}
 use Rattle.lines.specs.Lines.{end_line, laid, Lays}

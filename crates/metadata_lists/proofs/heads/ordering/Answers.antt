@@ -1,7 +1,7 @@
 -- `heads::ordering` meets its contract: one rule for each way the tests go. Assumes nothing.
 use mathlib.Core.Path.{sym}
 use native.Mathlib.Omega.{arith}
-use Rattle.metadata_rules.specs.WalkLaws.{ordering_equal, ordering_less, ordering_greater, ordering_overlap}
+use Rattle.metadata_rules.proofs.WalkLaws.{ordering_equal, ordering_less, ordering_greater, ordering_overlap}
 use Rattle.metadata_lists.proofs.heads.ordering.Goals as goal
 use Rattle.metadata_lists.proofs.heads.ordering.Goals.{then-a-b+else-a-b-2, else-a-b}
 

@@ -4,7 +4,8 @@ use native.Mathlib.Omega.{arith}
 use lib.ListN.{length-set}
 use Rattle.records_rules.specs.Bytes.{stream_short}
 use Rattle.records_rules.specs.StateLaws.{less_gone, less_stand}
-use Rattle.records_rules.specs.Steps.{going_start, step_end, step_record, step_ended, step_damaged, step_whole}
+use Rattle.records_rules.specs.Steps.{going_start}
+use Rattle.records_rules.proofs.Steps.{step_end, step_record, step_ended, step_damaged, step_whole}
 use Rattle.records.proofs.merge.turns.Goals as goal
 
 pub loop-size-init : goal.loop-size-init

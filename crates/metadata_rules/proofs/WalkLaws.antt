@@ -1,7 +1,7 @@
 -- How two heads ordering, one rule for each way the code's tests can go. Assumes nothing.
-use Rattle.std.specs.Prelude.{◌≡◌, refl, ◌≢◌, ℕ, zero, suc, ◌≤◌, ◌<◌, Bool, true, false, not, ◌&&◌, cond, T, leb, eqb}
-use Rattle.std.proofs.Common.{sym, ap, ◌∙◌, arith, eq-eqb}
-use Rattle.std.proofs.Math.Facts.{eqb_yes, eqb_no}
+use Rattle.std.specs.Prelude.{◌≡◌, refl, ℕ, ◌≤◌, ◌<◌, Bool, true, false, not, ◌&&◌, T, eqb}
+use Rattle.std.proofs.Common.{arith, eq-eqb}
+use Rattle.std.proofs.Math.Facts.{eqb_yes}
 use Rattle.metadata_rules.specs.declared.Interval.{Interval}
 use Rattle.metadata_rules.specs.declared.IntervalOrdering.{IntervalOrdering}
 use Rattle.metadata_rules.specs.declared.IntervalOrdering.TheVariants.{Equal, Less, Greater, Overlap}

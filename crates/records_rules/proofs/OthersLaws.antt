@@ -1,8 +1,8 @@
 -- One stream leaves the others alone (RULES, Requests, No. 11), of the machine: a run's other answers are those of the run in which the
 -- stream p is gone from the start, and streams that differ in p alone run alike once it is gone. Assumes nothing.
-use Rattle.std.specs.Prelude.{◌≡◌, ◌≢◌, Bool, length, set, eqb}
+use Rattle.std.specs.Prelude.{◌≡◌, ◌≢◌, Bool, length, set}
 use Rattle.std.proofs.Math.Path.{refl, sym, ap}
-use Rattle.std.proofs.Common.{ap₂, ◌∙◌, arith, suc-ne-zero, get_or-set_same, get_or-set_other, set-set, ne_eqb, eq-eqb}
+use Rattle.std.proofs.Common.{ap₂, ◌∙◌, arith, suc-ne-zero, get_or-set_other, set-set, eq-eqb}
 use Prim.Native.Nat.{ℕ, zero, suc, ◌+◌, ◌*◌, ◌≤◌, ◌<◌}
 use Rattle.std.proofs.Math.Decide.{ℕ_discrete}
 use Rattle.std.proofs.Math.Nat.{suc_inj}
@@ -12,14 +12,16 @@ use mathlib.Core.List.{List, [], ◌∷◌}
 use Rattle.std.proofs.Math.ListN.{get_or}
 use Rattle.std.proofs.lemmas.List.{set_comm}
 use Rattle.leaves.specs.Frame.{Read, whole, ended, damaged}
-use Rattle.records_rules.specs.Machine.{Rec, rec, Stream, Said, record_at_lem, damage_at}
+use Rattle.records_rules.specs.Machine.{rec, Stream, Said, record_at_lem, damage_at}
 use Rattle.records_rules.specs.Machine.{Status, waiting, standing, gone, key, First, nobody, first, least}
 use Rattle.records_rules.specs.Machine.{Answer, says, end, Step, done, again, after_read, chosen, step_at, step, Turn, turn, next, answer, rest, up_to, start, next_f, onward, run_f}
 use Rattle.records_rules.specs.Least.{Upto, IsFirst, LeastOk, least_ok, least_is, least_none}
-use Rattle.records_rules.specs.Kept.{inside, total, waits, unread, sum_by, sum_set, size, StepOk, step_ok}
-use Rattle.records_rules.specs.Rules.{next_done, next_again}
+use Rattle.records_rules.specs.Kept.{inside, total, waits, unread, sum_set, size, StepOk}
+use Rattle.records_rules.proofs.Kept.{step_ok}
+use Rattle.records_rules.proofs.Rules.{next_done, next_again}
 use Rattle.records_rules.specs.Others.{without, others, records, reports}
-use Rattle.records_rules.specs.Whole.{all_from, set_gone, all_step, run_same, run, run_all, Ends, run_ends}
+use Rattle.records_rules.specs.Whole.{all_from, set_gone, run, Ends}
+use Rattle.records_rules.proofs.Whole.{all_step, run_same, run_all, run_ends}
 
 -- ---- a run by steps
 

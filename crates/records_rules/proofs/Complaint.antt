@@ -1,7 +1,7 @@
 -- The complaint put to rest (RULES, Requests, No. 11): in two runs that are alike but for the stream p, which may be cut, garbled or empty,
 -- the others' records and damage reports are the same, byte for byte and in their order among each other. Over bytes, and over the
 -- calls of the code. Streams need not be sorted. Assumes nothing.
-use Rattle.std.specs.Prelude.{◌≡◌, refl, ◌≢◌, ℕ, zero, suc, ◌+◌, ◌-◌, ◌≤◌, ◌<◌, Bool, true, false, cond, List, [], ◌∷◌, map, length, get_or, eqb}
+use Rattle.std.specs.Prelude.{◌≡◌, refl, ◌≢◌, ℕ, suc, ◌+◌, ◌-◌, ◌≤◌, ◌<◌, Bool, true, false, cond, List, [], ◌∷◌, map, length, get_or, eqb}
 use Rattle.std.proofs.Common.{sym, ap₂, ◌∙◌, arith, ne_eqb, eq-eqb}
 use Rattle.std.proofs.Math.Path.{ap}
 use Rattle.std.proofs.Math.Decide.{ℕ_discrete, dec_lt}
@@ -10,16 +10,18 @@ use Rattle.std.proofs.Math.ListN.{get_or-eq_default}
 use Rattle.std.proofs.Math.Seq.{slice, drop-nil}
 use Rattle.theory.specs.Answer as theory
 use Rattle.records_rules.specs.Machine.{Stream, Said, record_at_lem, damage_at}
-use Rattle.records_rules.specs.Machine.{Status, Answer, says, end, Turn, turn, next, answer, rest, up_to, start}
+use Rattle.records_rules.specs.Machine.{Status, Answer, says, end, Turn, turn, next, answer, rest, up_to}
 use Rattle.records_rules.specs.Bytes.{bytes_of, streams_of}
-use Rattle.records_rules.specs.Whole.{all_from, all_step, run, run_all}
-use Rattle.records_rules.specs.Literal.{literal_run, told_run}
+use Rattle.records_rules.specs.Whole.{all_from}
+use Rattle.records_rules.proofs.Whole.{all_step, run_all}
+use Rattle.records_rules.specs.Literal.{literal_run}
+use Rattle.records_rules.proofs.Literal.{told_run}
 use Rattle.records_rules.specs.View.{length_tab, get_d_tab}
 use Rattle.records_rules.specs.State.{answer_of, padded}
 use Rattle.records_rules.specs.Calls.{Lent, Calls, stop, call, statuses_in}
 use Rattle.records_rules.specs.Others.{others, records, reports, part_of, handed_out, buffer_run, AlikeBut}
 use Rattle.records_rules.specs.Others.{heard_others, heard_records, heard_reports, heard_bytes, EndsFirst, Trace}
-use Rattle.records_rules.specs.OthersLaws.{complaint, run_counts}
+use Rattle.records_rules.proofs.OthersLaws.{complaint, run_counts}
 
 -- ---- two runs that are alike but for p: the same streams and hints beside p's
 
