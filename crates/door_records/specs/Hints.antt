@@ -6,7 +6,6 @@ use Rattle.theory.specs.Answer.{Answer, answer}
 use Rattle.metadata_form.specs.declared.header.Header.{Header}
 use Rattle.metadata_form.specs.Header.{header_fields}
 use Rattle.records.specs.Hints.{hint_of}
-use Rattle.door_answers.specs.Answers.{number_in, value_in}
 use Rattle.door_answers.specs.Header.{header_fits, header_of}
 
 -- done with the hint of the header that the words are; words that are no header get 15

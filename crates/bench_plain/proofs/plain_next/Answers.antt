@@ -28,16 +28,16 @@ returns-in-End c =
 pub returns-in-Refused : goal.returns-in-Refused
 returns-in-Refused c =
     let x = c.next-answer.ensures in
-    let given = c.answer-in-Refused-1.given in
+    let r = c.in-Refused.refusal in
     let n₁ = c.number.ensures in
     let s₁ = c.stream_in.ensures in
-    let p₁ = c.IsPlace-in.ensures in
+    let p₁ = c.place_in.ensures in
     let r₁ = c.reason_in.ensures in
     record {
-      refused = λ w. (handed_not _ given.0.0 n₁ s₁ p₁ r₁ (answer_same turn_of (x.refused w).0 given.1), (x.refused w).1);
+      refused = λ w. (handed_not _ r n₁ s₁ p₁ r₁ (answer_same turn_of (x.refused w).0 c.in-Refused.is), (x.refused w).1);
       told = λ w s.
           let y = x.told w s in (
-            handed_not _ given.0.0 n₁ s₁ p₁ r₁ (answer_same turn_of y.heard given.1),
+            handed_not _ r n₁ s₁ p₁ r₁ (answer_same turn_of y.heard c.in-Refused.is),
             record { heard = refl; leaves = y.leaves; small = y.small },
           );
     }

@@ -6,7 +6,7 @@ use Rattle.bench_plain.proofs.plain_open.Goals as goal
 
 pub returns-in-Opened : goal.returns-in-Opened
 returns-in-Opened c =
-    let o = c.«open».ensures in
+    let o = c.open-opened.ensures in
     let before = c.args.streams.now in
     let e = answer_same opening_of o.answers c.in-Opened.is in
     record {
@@ -17,7 +17,7 @@ returns-in-Opened c =
 
 pub returns-in-Refused : goal.returns-in-Refused
 returns-in-Refused c =
-    let o = c.«open».ensures in
+    let o = c.open-opened.ensures in
     let before = c.args.streams.now in
     let r = c.in-Refused.refusal in
     let e = answer_same opening_of o.answers c.in-Refused.is in

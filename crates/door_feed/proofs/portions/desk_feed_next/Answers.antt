@@ -43,15 +43,16 @@ returns-in-NeedMore c =
 pub returns-in-Refused : goal.returns-in-Refused
 returns-in-Refused c =
     let o = c.next-turned.ensures in
-    let g = c.answer-in-Refused-1.given in
+    let g = c.in-Refused.is in
+    let r = c.in-Refused.refusal in
     let n₁ = c.number.ensures in
     let s₁ = c.stream_in.ensures in
-    let p₁ = c.IsPlace-in.ensures in
+    let p₁ = c.place_in.ensures in
     let r₁ = c.reason_in.ensures in
     record {
-      refused = λ w. let x = o.refused w in (fed_not _ g.0.0 n₁ s₁ p₁ r₁ (answer_same fed_of x.0 g.1), x.1, x.2);
+      refused = λ w. let x = o.refused w in (fed_not _ r n₁ s₁ p₁ r₁ (answer_same fed_of x.0 g), x.1, x.2);
       says = λ w n h s.
           let t = o.told w in
           let x = t.says n h s in
-          (fed_not _ g.0.0 n₁ s₁ p₁ r₁ (answer_same fed_of x.heard g.1), rw (← x.heard) x, rw (← x.heard) t.needs);
+          (fed_not _ r n₁ s₁ p₁ r₁ (answer_same fed_of x.heard g), rw (← x.heard) x, rw (← x.heard) t.needs);
     }

@@ -6,7 +6,7 @@ use Rattle.door_feed.proofs.portions.desk_feed_open.Goals as goal
 
 pub returns-in-Opened : goal.returns-in-Opened
 returns-in-Opened c =
-    let o = c.«open».ensures in
+    let o = c.open-opened.ensures in
     let e = answer_same opened_of o.answers c.in-Opened.is in
     record {
       returns = done_number e;
@@ -16,7 +16,7 @@ returns-in-Opened c =
 
 pub returns-in-Refused : goal.returns-in-Refused
 returns-in-Refused c =
-    let o = c.«open».ensures in
+    let o = c.open-opened.ensures in
     let e = answer_same opened_of o.answers c.in-Refused.is in
     let r = c.in-Refused.refusal in
     record {

@@ -58,22 +58,21 @@ returns-in-NeedMore c =
 pub returns-in-Refused : goal.returns-in-Refused
 returns-in-Refused c =
     let ran = c.run-made.ensures in
-    let known = c.answer-in-Refused-1.given in
     let k = c.moved.ensures in
     let m = c.moved-in-Refused.ensures in
     let i = c.stream_in.ensures in
-    let p = c.IsPlace-in.ensures in
+    let p = c.place_in.ensures in
     let q = c.reason_in.ensures in
-    let r = known.0.0 in
+    let r = c.in-Refused.refusal in
     record {
       refused = λ w.
           let x = ran.refused w in
-          let e = answer_same last_of x.answers known.1 in
+          let e = answer_same last_of x.answers c.in-Refused.is in
           (ran_not _ x.calls x.written r c.number.ensures k m i p q e, x.held, x.untouched, x.list);
       made = λ w n h s.
           let x = ran.says w n h s in
           let g = x.gives in
-          let e = answer_same last_of g.answers known.1 in
+          let e = answer_same last_of g.answers c.in-Refused.is in
           record {
             hands = record { handed = ran_not _ g.calls g.written r c.number.ensures k m i p q e; list = g.list };
             leaves = x.leaves;

@@ -32,18 +32,18 @@ returns-in-End c =
 pub returns-in-Refused : goal.returns-in-Refused
 returns-in-Refused c =
     let told = c.next-turned.ensures in
-    let given = c.answer-in-Refused-1.given in
+    let r = c.in-Refused.refusal in
     let n₁ = c.number.ensures in
     let s₁ = c.stream_in.ensures in
-    let p₁ = c.IsPlace-in.ensures in
+    let p₁ = c.place_in.ensures in
     let r₁ = c.reason_in.ensures in
     record {
       refused = λ w.
           let x = told.refused w in
-          (handed_not _ given.0.0 n₁ s₁ p₁ r₁ (answer_same turn_of x.0 given.1), x.1, x.2);
+          (handed_not _ r n₁ s₁ p₁ r₁ (answer_same turn_of x.0 c.in-Refused.is), x.1, x.2);
       says = λ w n h s.
           let x = told.says w n h s in (
-            handed_not _ given.0.0 n₁ s₁ p₁ r₁ (answer_same turn_of x.heard given.1),
+            handed_not _ r n₁ s₁ p₁ r₁ (answer_same turn_of x.heard c.in-Refused.is),
             record { heard = refl; leaves = x.leaves; sound = x.sound },
           );
     }

@@ -7,7 +7,7 @@ use Rattle.door_records.proofs.merge.desk_open.Goals as goal
 pub returns-in-Opened : goal.returns-in-Opened
 returns-in-Opened c =
     let a = c.args in
-    let o = c.«open».ensures in
+    let o = c.open-opened.ensures in
     let e = answer_same opening_of o.answers c.in-Opened.is in
     record {
       returns = done_number e;
@@ -19,7 +19,7 @@ returns-in-Opened c =
 pub returns-in-Refused : goal.returns-in-Refused
 returns-in-Refused c =
     let a = c.args in
-    let o = c.«open».ensures in
+    let o = c.open-opened.ensures in
     let e = answer_same opening_of o.answers c.in-Refused.is in
     let r = c.in-Refused.refusal in
     record {
