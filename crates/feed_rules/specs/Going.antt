@@ -1,6 +1,7 @@
 -- The invariant of the loop of the call for the next answer, and what a return has to show. The loop keeps what is known: it speaks of
 -- what was kept at entry, and of each stream that is left the bytes from some place on are kept. Assumes nothing.
-use Rattle.std.specs.Prelude.{◌≡◌, refl, ◌≢◌, ℕ, zero, suc, ◌+◌, ◌-◌, ◌/◌, ◌%◌, ◌≤◌, ◌<◌, Bool, true, false, not, cond, List, [], ◌∷◌, length, get_or, eqb}
+-- What rests on a step of the machine, or on what is known of a stream, stands in proofs/Going.
+use Rattle.std.specs.Prelude.{◌≡◌, refl, ◌≢◌, ℕ, zero, suc, ◌+◌, ◌-◌, ◌/◌, ◌%◌, ◌≤◌, ◌<◌, Bool, true, false, cond, List, [], ◌∷◌, length, get_or, eqb}
 use Rattle.std.proofs.Common.{sym, subst, ◌∙◌, arith, eq-eqb, ne_eqb}
 use Rattle.std.proofs.Math.Path.{ap}
 use Rattle.std.proofs.Math.Decide.{ℕ_discrete}
@@ -15,7 +16,6 @@ use Rattle.records_rules.specs.StateLaws.{room_kept}
 use Rattle.feed_rules.specs.Partial.{Turn⁺, next⁺, rest⁺}
 use Rattle.feed_rules.specs.Windows.{Kept, known_in, from, Feed, counted, kept_by}
 use Rattle.feed_rules.specs.Windows.{turn_in, turn_leaves, next_leaves, turn_answer, next_answer, Alike}
-use Rattle.feed_rules.specs.WindowsLaws.{known_from}
 use Rattle.feed_rules.specs.Spans.{dropped, counts, kept_of, feed_of, got_known}
 use Rattle.feed_rules.specs.Spans.{SlotOk, FeedOk, FeedRoom, feed_arrays, FeedSays, Wanting, FeedNeeds, FedSays}
 use Rattle.feed_rules.specs.SpansLaws.{drop_start, drop_fill, drop_ended, kept_one, from_from}
@@ -37,9 +37,6 @@ later_from {x} {y} l a h {z} e =
   where
     twice : from a y ≡ from a x
     twice = ap (from a) l.is ∙ from_from x y.base a l.on h
-
-pub known_later : {x y : Kept} → Later x y → (a : ℕ) → y.base ≤ a → known_in x a ≡ known_in y a
-known_later {x} {y} l a h = sym (known_from x y.base a l.on h) ∙ ap (λ (z : Kept). known_in z a) (sym l.is)
 
 -- the kept of the stream q, in these arrays
 abbrev pub kept_at : List ℕ → List ℕ → List ℕ → List ℕ → List ℕ → ℕ → Kept

@@ -8,7 +8,6 @@ pub mod Spans
 pub mod SpansLaws
 pub mod Stores
 pub mod Going
-pub mod Steps
 pub mod Adding
 pub mod Laying
 pub mod AddingLaws

@@ -12,7 +12,8 @@ use Rattle.feed_rules.specs.Windows.{Kept, Feed, opened, turn_in, turn_answer, n
 use Rattle.feed_rules.specs.Windows.{Call, portion, word, call, answer_to, leaves, lastly, Alike}
 use Rattle.feed_rules.specs.Spans.{feed_at}
 use Rattle.feed_rules.specs.Adding.{FeedOpenedIn}
-use Rattle.feed_rules.specs.History.{FeedLent, feed_in, Calling, call_answers, same_call, same_left, alike_trans}
+use Rattle.feed_rules.specs.History.{FeedLent, feed_in, Calling, call_answers, alike_trans}
+use Rattle.feed_rules.proofs.History.{same_call, same_left}
 use Rattle.feed_run.specs.Run.{note_of⁺, say⁺, ran_of⁺, FeedRunSays}
 
 -- ---- an answer as a run shows it

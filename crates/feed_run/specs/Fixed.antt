@@ -8,9 +8,10 @@ use Rattle.run_rules.specs.Batch.{Ran, ran, onward}
 use Rattle.run_rules.specs.Rows.{Note, writes, stops, goes_on, run_of}
 use Rattle.records_rules.specs.Machine.{Status, waiting, standing, gone}
 use Rattle.feed_rules.specs.Partial.{Turn⁺, next⁺, rest⁺}
-use Rattle.feed_rules.specs.PartialLaws.{next_agrees}
+use Rattle.feed_rules.proofs.PartialLaws.{next_agrees}
 use Rattle.feed_rules.specs.Windows.{Kept, known_in, from, Feed, known, counted, kept_by, turn_in, turn_leaves, next_leaves, In, Within}
-use Rattle.feed_rules.specs.WindowsLaws.{known_from, turn_in_lem, Counts, counted_in, next_within}
+use Rattle.feed_rules.specs.WindowsLaws.{Counts}
+use Rattle.feed_rules.proofs.WindowsLaws.{known_from, turn_in_lem, counted_in, next_within}
 use Rattle.feed_run.specs.Run.{note_of⁺, say⁺, ran_of⁺}
 
 -- at most k calls of the machine of portions, what is known being fixed

@@ -13,7 +13,8 @@ use Rattle.records_rules.specs.StateLaws.{room_kept}
 use Rattle.feed_rules.specs.Partial.{Turn⁺, replies, needs}
 use Rattle.feed_rules.specs.Windows.{Kept, Feed, turn_answer, next_answer, next_leaves, call, answer_to, leaves, Alike}
 use Rattle.feed_rules.specs.Spans.{FeedRoom, FeedArrays, feed_at, FeedSound, FedSays}
-use Rattle.feed_rules.specs.History.{same_call, same_left, alike_trans}
+use Rattle.feed_rules.specs.History.{alike_trans}
+use Rattle.feed_rules.proofs.History.{same_call, same_left}
 use Rattle.feed_run.specs.Run.{note_of⁺, say⁺, FeedRunSays}
 
 -- ---- a call

@@ -5,7 +5,7 @@ use native.Mathlib.Omega.{arith}
 use lib.ListN.{length-set}
 use Rattle.records_rules.specs.StateLaws.{less_gone, less_stand}
 use Rattle.feed_rules.specs.Going.{going_start⁺}
-use Rattle.feed_rules.specs.Steps.{step_end⁺, step_record⁺, step_wants⁺, step_ended⁺, step_damaged⁺, step_whole⁺}
+use Rattle.feed_rules.proofs.Steps.{step_end⁺, step_record⁺, step_wants⁺, step_ended⁺, step_damaged⁺, step_whole⁺}
 use Rattle.feed.proofs.turns.turns.Goals as goal
 
 pub loop-size-init : goal.loop-size-init

@@ -6,7 +6,8 @@ use Prim.Native.Nat.{ℕ, ◌≤◌, ◌+◌, ◌/◌, ◌%◌}
 use native.Mathlib.Omega.{arith}
 use lib.ListN.{length}
 use Rattle.feed_rules.specs.Adding.{portion_fits, room_for}
-use Rattle.feed_rules.specs.AddingLaws.{PortionRoom, portion_room, room_bounds, shut_far, shut_gone, shut_ended, slot, add_shut, add_done}
+use Rattle.feed_rules.specs.AddingLaws.{PortionRoom, portion_room}
+use Rattle.feed_rules.proofs.AddingLaws.{room_bounds, shut_far, shut_gone, shut_ended, slot, add_shut, add_done}
 use Rattle.feed_window.proofs.portions.add.Goals as goal
 
 -- what is lent has its lengths, where the test was passed

@@ -6,7 +6,8 @@ use Prim.Native.Nat.{ℕ}
 use native.Mathlib.Omega.{arith}
 use lib.ListN.{length}
 use Rattle.feed_rules.specs.Adding.{word_fits}
-use Rattle.feed_rules.specs.AddingLaws.{word_room, shut_far, shut_gone, shut_ended, end_shut, end_done}
+use Rattle.feed_rules.specs.AddingLaws.{word_room}
+use Rattle.feed_rules.proofs.AddingLaws.{shut_far, shut_gone, shut_ended, end_shut, end_done}
 use Rattle.feed_window.proofs.portions.end.Goals as goal
 
 -- what is lent has its lengths, where the test was passed

@@ -5,7 +5,7 @@ use Rattle.leaves.specs.Frame.{head_of, frame_at}
 use Rattle.records_rules.specs.State.{got_of}
 use Rattle.records_rules.specs.StateLaws.{got_packed}
 use Rattle.feed_rules.specs.Spans.{dropped, bytes_in}
-use Rattle.feed_rules.specs.SpansLaws.{known_read}
+use Rattle.feed_rules.proofs.SpansLaws.{known_read}
 use borrow.Author.Rules.{rules}
 use Rattle.feed_window.proofs.spans.read_window.Goals as goal
 

@@ -9,7 +9,7 @@ use Rattle.std.proofs.Math.Option.{Option, none, some}
 use Rattle.std.proofs.Math.ListN.{get_or, set, length-set, length-take, length-drop}
 use Rattle.std.proofs.Math.Seq.{set-get_or, get_or-set_same}
 use Rattle.theory.specs.Answer.{answer}
-use Rattle.leaves.specs.Frame.{Read, whole, ended, damaged}
+use Rattle.leaves.specs.Frame.{Read, whole}
 use Rattle.records_rules.specs.Machine.{Rec, says, end, record_at_lem, damage_at, Status, waiting, gone}
 use Rattle.records_rules.specs.View.{rec_in, statuses_of, length_statuses}
 use Rattle.records_rules.specs.Heap.{at}
@@ -18,13 +18,15 @@ use Rattle.records_rules.proofs.Holds.{ok_chosen, ok_none}
 use Rattle.records_rules.specs.StateLaws.{room_enough, waits_at, stands_at, gone_set, stand_set, wait_set}
 use Rattle.records_rules.specs.Sift.{Sifted}
 use Rattle.feed_rules.specs.Partial.{part, known_at, Turn⁺, replies, needs, next⁺, rest⁺}
-use Rattle.feed_rules.specs.PartialLaws.{rule_end⁺, rule_record⁺, rule_wants⁺, rule_ended⁺, rule_damaged⁺, rule_whole⁺}
+use Rattle.feed_rules.proofs.PartialLaws.{rule_end⁺, rule_record⁺, rule_wants⁺, rule_ended⁺, rule_damaged⁺, rule_whole⁺}
 use Rattle.feed_rules.specs.Windows.{Kept, known_in, from, counted, turn_leaves, turn_answer}
-use Rattle.feed_rules.specs.WindowsLaws.{known_from, known_here, known_fits}
+use Rattle.feed_rules.specs.WindowsLaws.{known_here}
+use Rattle.feed_rules.proofs.WindowsLaws.{known_from, known_fits}
 use Rattle.feed_rules.specs.Spans.{dropped, counts, bytes_in, kept_of, feed_of, got_known, handed_out, SlotOk, FeedOk, FeedRoom, FeedArrays, feed_arrays, Wanting}
 use Rattle.feed_rules.specs.SpansLaws.{dropped_zero, kept_dropped}
 use Rattle.feed_rules.specs.Stores.{put_set, put_none, slots_put, unused_put, head_set}
-use Rattle.feed_rules.specs.Going.{Later, later_from, known_later, kept_at, Keeps⁺, Going⁺, going_room, counts_none, counts_zero}
+use Rattle.feed_rules.specs.Going.{Later, later_from, kept_at, Keeps⁺, Going⁺, going_room, counts_none, counts_zero}
+use Rattle.feed_rules.proofs.Going.{known_later}
 use Rattle.feed_rules.specs.Going.{says_by, kept_handed, slot_handed, slot_dropped}
 use Rattle.feed_rules.specs.Going.{got_none, got_five, got_ended, got_damaged, got_whole, Done⁺, needs_not}
 
