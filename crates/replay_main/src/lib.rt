@@ -32,7 +32,12 @@ fn status_of(text: &[u8]) -> u8
 fn put(rt: &(impl Print + Eprint), text: &[u8]) -> u8
     ensures { Ends (text_status text.now) result }
 {
-    standard::ended(rt, text, status_of(text), b"replay: writing standard output")
+    standard::ended(
+        rt,
+        text,
+        status_of(text),
+        b"replay: writing standard output",
+    )
 }
 
 // Writes a bundle's replay, which the lent bytes have room for, and answers the status.

@@ -5,4 +5,3 @@ use Rattle.replay_main.proofs.replayed_by.Goals as goal
 
 pub slice_bounds-input-end : goal.slice_bounds-input-end
 slice_bounds-input-end g c = search (rules, bytes_within c.in-Bytes.is c.read_input.ensures)
-

@@ -23,7 +23,7 @@ pub find_name-number-requires : goal.find_name-number-requires
 find_name-number-requires c =
     record {
       ordered = ordered (memory _ _ _ _ (sym c.list_fits.ensures ∙ c.if-not-list_fits.false))
-      (formed _ _ _ _ (sym c.is_list.ensures ∙ c.if-not-is_list.false));
+          (formed _ _ _ _ (sym c.is_list.ensures ∙ c.if-not-is_list.false));
       from_le_to = c.requires;
     }
 
