@@ -3,7 +3,7 @@
 use Rattle.std.specs.Prelude.{◌≡◌, Bool, false, not, ◌&&◌, ◌||◌, cond, ltb, leb, eqb}
 use Rattle.std.proofs.Math.Path.{refl, ap, subst}
 use Rattle.std.proofs.Common.{sym, ◌∙◌, arith, le-leb}
-use Prim.Native.Nat.{ℕ, ◌*◌, ◌/◌, ◌%◌, ◌≤◌, ◌<◌}
+use Prim.Native.Nat.{ℕ, ◌/◌, ◌%◌, ◌≤◌, ◌<◌}
 use Rattle.std.proofs.Math.Bool.{true, and-eq-true_iff}
 use mathlib.Core.List.{List, [], ◌∷◌}
 use Rattle.std.proofs.Math.ListN.{length, replicate, length-replicate}
@@ -25,7 +25,7 @@ use Rattle.build_rules.specs.declared.reading.Direction.{Direction}
 use Rattle.build_rules.specs.Reading.{value, day_in, direction_of}
 use Rattle.build_rules.specs.OverTime.{Build, stopped, built, build_answer}
 use Rattle.build_rules.specs.PointInTime.{point_in_time}
-use Rattle.build_rules.specs.PointInTimeLaws.{AllNarrow, Sorted, Sound, point_sound}
+use Rattle.build_rules.specs.PointInTimeLaws.{AllNarrow, Sorted, point_sound}
 use Rattle.build_rules.specs.PointInTimeLatest.{settings, point_latest}
 use Rattle.build_rules.specs.Call.{build_fits}
 use Rattle.build_rules.specs.CallLaws.{fits_facts}

@@ -1,7 +1,6 @@
 -- The test of the lent memory, one law a way, and what it shows. Assumes nothing.
-use Rattle.std.specs.Prelude.{◌≡◌, ℕ, Bool, true, false, not, ◌&&◌, List}
+use Rattle.std.specs.Prelude.{◌≡◌, ℕ, Bool, true, false, not, List}
 use Rattle.std.proofs.Math.Path.{refl}
-use Rattle.std.proofs.Common.{◌∙◌}
 use Rattle.theory.specs.Bools.{both, fails, holds}
 use Rattle.leaves_names.specs.Names.{list_fits}
 use Rattle.metadata_form.specs.declared.header.Header.{Header}

@@ -1,22 +1,22 @@
 -- The rows of a table built over time fit their bytes, so that they are read back from them: an interval that stands is one of the inserts
 -- asked for wherever it covers a moment, and those have instruments and times that were read. Assumes nothing.
-use Rattle.std.specs.Prelude.{◌≡◌, refl, ℕ, ◌+◌, ◌-◌, ◌*◌, ◌≤◌, ◌<◌, Bool, ◌&&◌, ◌↔◌, List, [], ◌∷◌, length, T, leb, ltb, eqb}
+use Rattle.std.specs.Prelude.{◌≡◌, refl, ℕ, ◌+◌, ◌-◌, ◌*◌, ◌≤◌, ◌<◌, ◌&&◌, List, [], ◌∷◌}
 use Rattle.std.proofs.Common.{sym, ap, ◌∙◌, subst, arith, inl, inr}
 use Rattle.std.proofs.Math.Decide.{ℕ_discrete}
-use Rattle.std.proofs.Math.Option.{Option, none, some}
+use Rattle.std.proofs.Math.Option.{none, some}
 use Rattle.std.proofs.Math.Facts.{ltb_yes}
-use Rattle.theory.specs.Answer.{Answer, answer}
+use Rattle.theory.specs.Answer.{Answer}
 use Rattle.theory.specs.Runs.{Interval, answer_at, Mem, IsRun, All}
 use Rattle.theory.specs.RunsTools.{cond_case, cond_yes, none_some, Place, early, within, late, place, answer_early, answer_late}
 use Rattle.leaves_days.specs.Calendar.{is_date, day_number}
 use Rattle.leaves_days.specs.Days.{day_of, in_range}
 use Rattle.leaves_days.specs.DaysLaws.{day_limit}
-use Rattle.map_rules.specs.Table.{Row, interval_of, picked, group, answer_for, well_formed}
+use Rattle.map_rules.specs.Table.{Row, interval_of, group, answer_for}
 use Rattle.map_rules.specs.Tests.{formed_parts, known_iff}
 use Rattle.map_rules.specs.Groups.{picked_own, picked_other}
 use Rattle.map_rules.specs.Memory.{same_value, known_value, Fit}
 use Rattle.map_rules.specs.Pieces.{symbols}
-use Rattle.map_rules.specs.History.{after, accepted, stored_runs}
+use Rattle.map_rules.specs.History.{stored_runs}
 use Rattle.map_rules.specs.Trace.{events, Comes}
 use Rattle.metadata_rules.specs.declared.Interval as days
 use Rattle.metadata_rules.specs.Metadata.{Mapping, Metadata}

@@ -1,6 +1,6 @@
 -- The build over time (RULES, The map over time): mappings and intervals in order, each interval an insert into a table that was empty;
 -- the first fault met decides.
-use Rattle.std.specs.Prelude.{ℕ, ◌+◌, ◌*◌, cond, List, [], ◌∷◌, length}
+use Rattle.std.specs.Prelude.{ℕ, ◌+◌, cond, List, [], ◌∷◌, length}
 use Rattle.theory.specs.Answer.{Answer, answer}
 use Rattle.map_rules.specs.Table.{Row, Outcome, refused_by, stored, entered}
 use Rattle.map_rules.specs.Memory.{same_value, known_value}

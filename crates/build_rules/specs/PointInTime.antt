@@ -1,12 +1,12 @@
 -- The point-in-time build (RULES, The map over time): of each mapping the first interval that covers the asked day counts; a later entry
 -- for one instrument replaces the earlier one.
-use Rattle.std.specs.Prelude.{ℕ, ◌+◌, ◌*◌, ◌/◌, Bool, not, ◌&&◌, ◌||◌, cond, List, [], ◌∷◌, leb, ltb, eqb, length}
+use Rattle.std.specs.Prelude.{ℕ, ◌+◌, ◌*◌, ◌/◌, Bool, not, ◌&&◌, ◌||◌, cond, List, [], ◌∷◌, leb, ltb, eqb}
 use Rattle.map_point.specs.declared.entries.Entry.{Entry}
 use Rattle.map_point.specs.Points.{set_entry}
 use Rattle.map_rules.specs.Table.{Outcome, refused_by, stored, if_room}
 use Rattle.metadata_rules.specs.declared.Interval.{Interval}
 use Rattle.metadata_rules.specs.Metadata.{Fields, Mapping, Metadata}
-use Rattle.build_rules.specs.Reading.{Read, fault, value, and_then, text_of, number_in, day_in, day_length, direction_of}
+use Rattle.build_rules.specs.Reading.{Read, fault, value, text_of, number_in, day_in, day_length, direction_of}
 use Rattle.build_rules.specs.declared.reading.Direction.{Direction}
 use Rattle.build_rules.specs.declared.reading.Direction.TheVariants.{Forward, Inverse}
 use Rattle.build_rules.specs.OverTime.{Step, stop, skip, give, reading, unless_empty, Build, stopped, built, onward}

@@ -1,10 +1,10 @@
 -- What each reading comes to, by what its test or its leaf answered. Assumes nothing.
-use Rattle.std.specs.Prelude.{◌≡◌, ◌≢◌, ℕ, ◌+◌, ◌-◌, ◌*◌, ◌≤◌, ◌<◌, true, false, cond, List, [], ◌∷◌, ltb, eqb, length, get_or}
+use Rattle.std.specs.Prelude.{◌≡◌, ◌≢◌, ℕ, ◌*◌, ◌≤◌, ◌<◌, List, [], ◌∷◌, length, get_or}
 use Rattle.std.proofs.Math.Path.{refl, sym, ap}
 use Rattle.std.proofs.Common.{◌∙◌, arith}
 use Rattle.std.proofs.Math.Seq.{slice, slice_empty, slice-cons}
-use borrow.Author.Tests.{lt-ltb, le-ltb, eq-eqb, ne_eqb}
-use Rattle.theory.specs.Answer.{Answer, answer}
+use borrow.Author.Tests.{lt-ltb, le-ltb, ne_eqb}
+use Rattle.theory.specs.Answer.{answer}
 use Rattle.leaves.specs.Refusal.{number_of, values_of, refused}
 use Rattle.leaves.specs.declared.refusal.Refusal.{Refusal}
 use Rattle.leaves.specs.RefusalLaws.{refused_not_done}

@@ -22,8 +22,6 @@ use Rattle.map_rules.specs.Tests.{formed_parts}
 use Rattle.map_rules.specs.Pieces.{symbols}
 use Rattle.map_rules.specs.History.{Accepted, entered_ok}
 use Rattle.leaves_names.specs.Names.{names_of}
-use Rattle.theory.specs.Bools.{holds}
-use Rattle.leaves_names.specs.NamesLaws.{memory}
 use Rattle.leaves_names.specs.NamesList.{names_length}
 use Rattle.leaves_days.specs.declared.days.Moment.{Moment}
 use Rattle.leaves_days.specs.declared.days.Moment.TheVariants as moment

@@ -2,14 +2,14 @@
 -- nothing.
 use Rattle.std.proofs.Math.Path.{◌≡◌, refl, sym, ap, subst}
 use Rattle.std.proofs.Common.{◌∙◌}
-use Rattle.std.specs.Prelude.{ℕ, ◌+◌, ◌-◌, ◌*◌, ◌/◌, ◌≤◌, ◌<◌, Bool, not, ◌&&◌, cond}
+use Rattle.std.specs.Prelude.{ℕ, ◌+◌, ◌-◌, ◌*◌, ◌/◌, ◌≤◌, ◌<◌, Bool, not, cond}
 use native.Mathlib.Omega.{arith}
 use Rattle.std.proofs.Math.Bool.{true, false}
 use mathlib.Core.List.{List, [], ◌∷◌}
 use Rattle.std.proofs.Math.ListN.{length, replicate}
 use Rattle.std.proofs.lemmas.List.{length-replicate}
 use Rattle.theory.specs.Answer.{answer}
-use Rattle.leaves.specs.Refusal.{number_of, refused}
+use Rattle.leaves.specs.Refusal.{number_of}
 use Rattle.leaves.specs.declared.refusal.Refusal.{Refusal}
 use Rattle.leaves.specs.declared.refusal.Refusal.TheVariants.{IllFormed, BadMemory}
 use Rattle.map_rules.specs.Table.{Row, ordered, all_known, well_formed}

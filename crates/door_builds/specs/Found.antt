@@ -16,7 +16,7 @@ use Rattle.leaves_names.specs.Names.{names_of, well_formed}
 use Rattle.map_rules.specs.Table.{Row, Outcome, refused_by, stored, if_room, insert_rows, entered, answer_for, ordered}
 use Rattle.map_rules.specs.Tests.{ordered_iff}
 use Rattle.map_rules.specs.Pieces.{symbols}
-use Rattle.map_rules.specs.Memory.{same_value, known_value, rows, room_of, table_fits}
+use Rattle.map_rules.specs.Memory.{same_value, rows, room_of, table_fits}
 use Rattle.map_rules.specs.Looks.{said_answer, lookup_answer, lookup_hint}
 use Rattle.map_rules.specs.Trace.{Trace, demanded}
 use Rattle.map_point.specs.declared.entries.Entry.{Entry}

@@ -1,7 +1,6 @@
 -- The metadata merge at the C door: the header as words, what each call answers, and what the lent words then hold.
-use Rattle.std.specs.Prelude.{ℕ, zero, suc, ◌≡◌, Bool, true, false, ◌&&◌, cond, List, [], ◌∷◌, leb, eqb, get_or}
+use Rattle.std.specs.Prelude.{ℕ, ◌≡◌, ◌&&◌, cond, List, [], eqb, get_or}
 use Rattle.theory.specs.Answer.{Answer, answer}
-use Rattle.metadata_form.specs.declared.header.Header.{Header}
 use Rattle.metadata_form.specs.Header.{Lists}
 use Rattle.metadata_open.specs.Opening.{open_answer, open_lists, finish_answer}
 use Rattle.metadata_merge.specs.Merger.{merge_answer, merge_lists}

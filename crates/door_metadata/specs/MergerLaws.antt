@@ -1,12 +1,9 @@
 -- A header's words, and each way that a call of the metadata merge goes at the door, one law a way. Assumes nothing.
-use Rattle.std.specs.Prelude.{ℕ, zero, suc, ◌+◌, ◌≤◌, ◌<◌, ◌≡◌, ◌≢◌, Bool, true, false, ◌&&◌, cond, List, [], ◌∷◌, leb, eqb, length, get_or, drop}
-use Rattle.std.proofs.Common.{arith, ◌∙◌, subst, append-nil, drop_of_length-le, take_all, add-one, leb-true, le-leb}
+use Rattle.std.specs.Prelude.{ℕ, ◌≡◌, Bool, true, false, ◌&&◌, List}
+use Rattle.std.proofs.Common.{◌∙◌, subst}
 use Rattle.std.proofs.Math.Path.{refl, sym, ap}
-use Rattle.std.proofs.Math.Seq.{paste}
-use Rattle.std.proofs.lemmas.Bool.{lt-leb}
 use Rattle.leaves.specs.Refusal.{number_of, refused}
 use Rattle.leaves.specs.declared.refusal.Refusal.{Refusal}
-use Rattle.leaves.specs.declared.refusal.Refusal.TheVariants.{Reversed, NoRoom, UnknownSymbol, BadName, NoNameRoom, Differ, Conflict, NotNumber, NoInstrumentId, OutsideQuery, NoDate, BadStreams, Damaged, IllFormed, BadMemory}
 use Rattle.metadata_form.specs.declared.header.Header.{Header}
 use Rattle.metadata_form.specs.declared.header.MetadataAnswer.{MetadataAnswer}
 use Rattle.metadata_form.specs.declared.header.MetadataAnswer.TheVariants as answers
@@ -15,7 +12,7 @@ use Rattle.metadata_open.specs.Opening.{finish_answer, Open}
 use Rattle.metadata_merge.specs.Merger.{Merge}
 use Rattle.door_answers.specs.Answers.{number_in}
 use Rattle.door_answers.specs.HeaderLaws.{refused_words}
-use Rattle.door_answers.specs.Header.{widths, within, header_fits, header_of, words_in}
+use Rattle.door_answers.specs.Header.{header_fits, header_of, words_in}
 use Rattle.door_metadata.specs.Merger.{field_in, opening_answer, opening_lists, Opening, merging_answer, merging_lists, Merging, finishing_answer}
 
 -- ---- open

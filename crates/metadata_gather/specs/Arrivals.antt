@@ -1,7 +1,7 @@
 -- The place of a number among the arrivals, the marks that find it, and adding one more. Assumes nothing.
-use Rattle.std.specs.Prelude.{◌≡◌, refl, ◌≢◌, ◌⊎◌, Bool, true, false, cond, set, take, drop, replicate, eqb, ltb}
+use Rattle.std.specs.Prelude.{◌≡◌, refl, ◌≢◌, cond, set, take, replicate, eqb, ltb}
 use Rattle.std.proofs.Math.Path.{sym, ap}
-use Rattle.std.proofs.Common.{◌∙◌, subst, inl, inr, arith, length-append, length-take, lt-ltb, le-ltb}
+use Rattle.std.proofs.Common.{◌∙◌, subst, arith, length-append, lt-ltb, le-ltb}
 use Prim.Native.Nat.{ℕ, zero, suc, ◌+◌, ◌-◌, ◌≤◌, ◌<◌}
 use Rattle.std.proofs.Math.Decide.{dec_le, ℕ_discrete}
 use Rattle.std.proofs.Math.Numerals.{add-one}

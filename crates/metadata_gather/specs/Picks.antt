@@ -1,15 +1,14 @@
 -- Losing repeats by places: the places of the mappings that count. Assumes nothing.
-use Rattle.std.specs.Prelude.{◌≡◌, refl, ◌≢◌, ℕ, zero, suc, ◌+◌, ◌-◌, ◌*◌, ◌≤◌, ◌<◌, cond, length, get_or, set, take, eqb}
+use Rattle.std.specs.Prelude.{◌≡◌, refl, ℕ, zero, suc, ◌+◌, ◌≤◌, ◌<◌, cond, length, set, take, eqb}
 use Rattle.std.proofs.Math.Path.{sym, ap}
-use Rattle.std.proofs.Common.{◌∙◌, subst, arith, add-one, length-set, length-append, take-suc-set, length-take-le}
+use Rattle.std.proofs.Common.{◌∙◌, subst, arith, add-one, length-set, length-append, take-suc-set}
 use Rattle.std.proofs.Math.Decide.{dec_le}
 use mathlib.Core.List.{List, [], ◌∷◌, ◌++◌}
 use Rattle.std.proofs.Math.Seq.{take-set-lt}
 use Rattle.metadata_rules.specs.Cases.{eqb_case, cond_eq, cond_ne}
-use Rattle.metadata_rules.specs.Metadata.{Mapping, mapping, add, enter, enter_all, count_intervals}
-use Rattle.metadata_rules.specs.Words.{name_at, count_at, mappings_from}
-use Rattle.metadata_lists.specs.Flat.{list_at, placed_from, placed_to}
-use Rattle.metadata_gather.specs.Arrivals.{index_of, IsAdded, AllAdded, Marked, add_present, add_absent, index_le}
+use Rattle.metadata_rules.specs.Metadata.{add}
+use Rattle.metadata_rules.specs.Words.{name_at}
+use Rattle.metadata_gather.specs.Arrivals.{index_of, IsAdded, AllAdded, Marked, index_le}
 
 -- the place t takes the place of the one with its name, or goes to the end
 unfoldable pub enter_place : List ℕ → List ℕ → ℕ → List ℕ

@@ -1,8 +1,8 @@
 -- A set of both sides in scratch. Assumes nothing.
-use Rattle.std.specs.Prelude.{◌≡◌, refl, ℕ, ◌+◌, ◌≤◌, ◌<◌, Bool, List, [], ◌∷◌, length, take}
-use Rattle.std.proofs.Common.{sym, ap, ◌∙◌, subst, arith, length-take-le}
+use Rattle.std.specs.Prelude.{◌≡◌, ℕ, ◌+◌, ◌≤◌, Bool, List, [], length, take}
+use Rattle.std.proofs.Common.{ap, ◌∙◌, arith}
 use Rattle.metadata_rules.specs.Metadata.{every, once, add_all}
-use Rattle.metadata_gather.specs.Arrivals.{AllAdded, Marked, add_all_small}
+use Rattle.metadata_gather.specs.Arrivals.{AllAdded, add_all_small}
 use Rattle.metadata_gather.specs.Judge.{below, spaced, spaced_front}
 
 -- the entries of a and then of b, each once, stand at the front of t

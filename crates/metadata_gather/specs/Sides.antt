@@ -1,19 +1,18 @@
 -- Mappings laid by their places: the words that a place asks for, and what is laid. Assumes nothing.
-use Rattle.std.specs.Prelude.{◌≡◌, ◌≢◌, cond, get_or, set, take, drop, eqb}
+use Rattle.std.specs.Prelude.{◌≡◌, get_or, set, take, drop}
 use Rattle.std.proofs.Math.Path.{refl, sym, ap}
-use Rattle.std.proofs.Common.{◌∙◌, subst, add-one, length-set, length-append, length-take, get_or-set_same, get_or-set_other, get_or-take, drop-cons, length-take-le, take_all}
+use Rattle.std.proofs.Common.{◌∙◌, subst, get_or-set_same, get_or-set_other, get_or-take, drop-cons, length-take-le}
 use Prim.Native.Nat.{ℕ, zero, suc, ◌+◌, ◌-◌, ◌*◌, ◌≤◌, ◌<◌}
 use native.Mathlib.Omega.{arith}
-use Rattle.std.proofs.Math.Decide.{dec_le, ℕ_discrete}
+use Rattle.std.proofs.Math.Decide.{ℕ_discrete}
 use mathlib.Core.List.{List, [], ◌∷◌, ◌++◌}
 use Rattle.std.proofs.Math.ListN.{length}
 use Rattle.theory.specs.Runs.{All}
-use Rattle.metadata_rules.specs.declared.Interval.{Interval}
 use Rattle.metadata_rules.specs.Cases.{eqb_case, cond_eq, cond_ne}
 use Rattle.metadata_rules.specs.Metadata.{Mapping, mapping, enter, enter_all, count_intervals}
-use Rattle.metadata_rules.specs.Words.{name_at, count_at, stretch, mappings_from, before, stretch_length}
+use Rattle.metadata_rules.specs.Words.{name_at, count_at, mappings_from, before, stretch_length}
 use Rattle.metadata_words.specs.Words.{put_mapping, lay_intervals}
-use Rattle.metadata_lists.specs.Flat.{list_at, placed_from, placed_to}
+use Rattle.metadata_lists.specs.Flat.{list_at, placed_from}
 use Rattle.metadata_rules.specs.WordsLaws.{before_next, before_up}
 use Rattle.metadata_lists.specs.Link.{flat_same}
 use Rattle.metadata_lists.specs.Name.{list_length}

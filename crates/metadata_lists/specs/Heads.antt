@@ -1,6 +1,6 @@
 -- What the two heads of a walk give, and what a walk leaves in `out`: the interval that goes out, then the rest of the walk.
 -- Assumes nothing.
-use Rattle.std.specs.Prelude.{◌≡◌, ℕ, zero, suc, ◌+◌, ◌-◌, ◌*◌, ◌≤◌, ◌<◌, Bool, cond, length, eqb}
+use Rattle.std.specs.Prelude.{◌≡◌, ℕ, ◌+◌, ◌-◌, ◌≤◌, ◌<◌, Bool, cond, length, eqb}
 use Rattle.std.proofs.Math.Path.{refl, sym, ap}
 use Rattle.std.proofs.Common.{◌∙◌, subst}
 use native.Mathlib.Omega.{arith}
@@ -12,7 +12,7 @@ use Rattle.metadata_rules.specs.declared.IntervalOrdering.TheVariants.{Equal, Le
 use Rattle.metadata_rules.specs.Walk.{Walked, conflict, laid, ordering, joined, out, agreed, heads, against, walk}
 use Rattle.metadata_rules.specs.Words.{interval_at}
 use Rattle.metadata_rules.specs.Cases.{eqb_case}
-use Rattle.metadata_words.specs.Words.{put_at, rest, lay_intervals, length_put, rest_cons, rest_nil, rest_length, lay_length}
+use Rattle.metadata_words.specs.Words.{put_at, rest, lay_intervals, rest_cons, rest_nil, rest_length}
 use Rattle.metadata_lists.specs.declared.heads.WalkStep.{WalkStep}
 use Rattle.metadata_lists.specs.declared.heads.WalkStep.TheVariants as step
 use Rattle.metadata_lists.specs.declared.heads.WalkLaid.{WalkLaid}

@@ -1,17 +1,16 @@
 -- What laying one name needs, and what holds at each turn. Assumes nothing.
-use Rattle.std.specs.Prelude.{◌≡◌, ◌≢◌, ◌⊎◌, ℕ, zero, suc, ◌+◌, ◌-◌, ◌*◌, ◌≤◌, ◌<◌, length, get_or}
+use Rattle.std.specs.Prelude.{◌≡◌, ℕ, ◌+◌, ◌-◌, ◌*◌, ◌≤◌, ◌<◌, length, get_or}
 use Rattle.std.proofs.Math.Path.{refl, sym, ap}
-use Rattle.std.proofs.Common.{◌∙◌, subst, inl, inr, arith}
+use Rattle.std.proofs.Common.{◌∙◌, subst, arith}
 use mathlib.Core.List.{List, [], ◌∷◌}
 use Rattle.metadata_rules.specs.declared.Interval.{Interval}
-use Rattle.metadata_rules.specs.Walk.{Walked, conflict, laid, walk, walk_all}
+use Rattle.metadata_rules.specs.Walk.{Walked, walk, walk_all}
 use Rattle.metadata_lists.specs.declared.heads.WalkLaid.TheVariants as walk_laid
-use Rattle.metadata_rules.specs.Words.{stretch}
-use Rattle.metadata_words.specs.Words.{rest, rest_length, lay_intervals, laid_length}
+use Rattle.metadata_words.specs.Words.{rest, rest_length, lay_intervals}
 use Rattle.metadata_lists.specs.Heads.{finish, ended_of, held, conflicted}
 use Rattle.metadata_rules.specs.Words.{name_at, count_at}
 use Rattle.metadata_lists.specs.Flat.{list_at, lists_from, First, Linked, sum_len, lists_here, lists_first, lists_end}
-use Rattle.metadata_lists.specs.NameHeld.{Gathered, first_list, more_conflict, more_laid, gathered_end}
+use Rattle.metadata_lists.specs.NameHeld.{Gathered, more_conflict, more_laid, gathered_end}
 
 unfoldable pub outcome_at : List ℕ → List ℕ → List ℕ → ℕ → ℕ → Walked
 outcome_at m v off e i = walk_all [] (lists_from m v off (name_at m i) i e)

@@ -1,7 +1,7 @@
 -- One name's lists, gathered one after the other in `out` from the place k on. Assumes nothing.
-use Rattle.std.specs.Prelude.{◌≡◌, refl, ◌≢◌, ◌⊎◌, ℕ, zero, suc, ◌+◌, ◌-◌, ◌*◌, ◌≤◌, ◌<◌, get_or, set}
+use Rattle.std.specs.Prelude.{◌≡◌, refl, ◌≢◌, ℕ, suc, ◌+◌, ◌-◌, ◌*◌, ◌≤◌, ◌<◌, get_or, set}
 use Rattle.std.proofs.Math.Path.{sym, ap}
-use Rattle.std.proofs.Common.{◌∙◌, subst, inl, inr, arith, add-one, set-set}
+use Rattle.std.proofs.Common.{◌∙◌, subst, arith, set-set}
 use mathlib.Core.List.{List, [], ◌∷◌}
 use Rattle.std.proofs.Math.ListN.{length, length-set}
 use Rattle.std.proofs.Math.Seq.{get_or-set_same, get_or-set_other}
@@ -13,9 +13,8 @@ use Rattle.metadata_rules.specs.Walk.{Walked, conflict, laid, walk, walk_all, th
 use Rattle.metadata_rules.specs.Cases.{eqb_case}
 use Rattle.metadata_lists.specs.declared.heads.WalkLaid.TheVariants as walk_laid
 use Rattle.metadata_rules.specs.Words.{interval_at, stretch}
-use Rattle.metadata_words.specs.Words.{put_at, rest, lay_intervals, length_put, lay_length}
-use Rattle.metadata_lists.specs.Heads.{Ended, conflicted, held, finish, ended_of}
-use Rattle.metadata_lists.specs.Flat.{sum_len}
+use Rattle.metadata_words.specs.Words.{put_at, rest, lay_intervals, length_put}
+use Rattle.metadata_lists.specs.Heads.{conflicted, held, finish, ended_of}
 
 -- ---- a walk's length: at least the longer list's, at most both together
 

@@ -1,21 +1,21 @@
 -- One name after the other: the mappings' words and the intervals of each. Assumes nothing.
-use Rattle.std.specs.Prelude.{◌≡◌, Bool, cond, List, [], ◌∷◌, length, get_or, set, eqb}
+use Rattle.std.specs.Prelude.{◌≡◌, Bool, cond, List, [], ◌∷◌, length, get_or, eqb}
 use Rattle.std.proofs.Math.Path.{refl, ap}
-use Rattle.std.proofs.Common.{sym, ◌∙◌, subst, length-set}
-use Prim.Native.Nat.{ℕ, zero, suc, ◌+◌, ◌-◌, ◌*◌, ◌≤◌, ◌<◌}
+use Rattle.std.proofs.Common.{sym, ◌∙◌}
+use Prim.Native.Nat.{ℕ, zero, suc, ◌+◌, ◌-◌, ◌≤◌, ◌<◌}
 use native.Mathlib.Omega.{arith}
 use Rattle.std.proofs.Math.Bool.{true, false}
 use Rattle.metadata_rules.specs.declared.Interval.{Interval}
 use Rattle.metadata_rules.specs.Walk.{Walked, conflict, laid, walk, walk_all, then_all}
-use Rattle.metadata_rules.specs.Metadata.{Mapping, mapping, Merged, conflicting, merged, under, in_front}
+use Rattle.metadata_rules.specs.Metadata.{Mapping, Merged, conflicting, merged, under, in_front}
 use Rattle.metadata_rules.specs.Cases.{cond_eq, cond_ne}
 use Rattle.metadata_lists.specs.declared.heads.WalkLaid.TheVariants as walk_laid
-use Rattle.metadata_words.specs.Words.{put_mapping, lay_intervals, lay_length}
-use Rattle.metadata_lists.specs.Heads.{finish, ended_of, held, conflicted}
+use Rattle.metadata_words.specs.Words.{put_mapping, lay_intervals}
+use Rattle.metadata_lists.specs.Heads.{finish, ended_of}
 use Rattle.metadata_rules.specs.Words.{name_at}
 use Rattle.metadata_lists.specs.Flat.{lists_from, sum_len}
 use Rattle.metadata_lists.specs.NameHeld.{walk_length, held_finish, conflict_finish}
-use Rattle.metadata_lists.specs.Name.{outcome_at, Ready}
+use Rattle.metadata_lists.specs.Name.{outcome_at}
 use Rattle.metadata_lists.specs.declared.names.NamesLaid.{NamesLaid}
 use Rattle.metadata_lists.specs.declared.names.NamesLaid.TheVariants as names_laid
 

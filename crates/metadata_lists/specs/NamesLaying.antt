@@ -1,17 +1,15 @@
 -- What the loop over all places needs, and what holds at each turn. Assumes nothing.
 use Rattle.std.proofs.Math.Path.{◌≡◌, refl, ap}
-use Rattle.std.proofs.Common.{sym, ◌∙◌, subst}
-use Rattle.std.specs.Prelude.{ℕ, zero, suc, ◌+◌, ◌-◌, ◌*◌, ◌≤◌, ◌<◌, Bool, true, false, cond, get_or}
+use Rattle.std.proofs.Common.{◌∙◌}
+use Rattle.std.specs.Prelude.{ℕ, ◌+◌, ◌*◌, ◌≤◌, ◌<◌, get_or}
 use native.Mathlib.Omega.{arith}
-use mathlib.Core.List.{List, [], ◌∷◌}
+use mathlib.Core.List.{List, []}
 use Rattle.std.proofs.Math.ListN.{length}
-use Rattle.metadata_rules.specs.declared.Interval.{Interval}
-use Rattle.metadata_rules.specs.Walk.{Walked, conflict, laid, walk_all}
-use Rattle.metadata_rules.specs.Cases.{eqb_case, cond_ne}
+use Rattle.metadata_rules.specs.Walk.{Walked, conflict, laid}
+use Rattle.metadata_rules.specs.Cases.{eqb_case}
 use Rattle.metadata_rules.specs.Words.{name_at, count_at}
-use Rattle.metadata_lists.specs.Flat.{lists_from, sum_len, Linked}
+use Rattle.metadata_lists.specs.Flat.{lists_from, Linked}
 use Rattle.metadata_lists.specs.Name.{outcome_at, Ready}
-use Rattle.metadata_lists.specs.declared.names.NamesLaid.{NamesLaid}
 use Rattle.metadata_lists.specs.declared.names.NamesLaid.TheVariants as names_laid
 use Rattle.metadata_lists.specs.Names.{Final, failed, placed, end_names, finish_one, step_at, collect_to, sums_to, finish_names, onward, walk_all_length, collect_end, sums_first, sums_skip, step_onward}
 

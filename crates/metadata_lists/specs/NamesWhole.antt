@@ -1,19 +1,19 @@
 -- What the loop over the places gathers is the merge by name, and it fits the room of all intervals together. Assumes nothing.
-use Rattle.std.specs.Prelude.{◌≡◌, ◌≢◌, ◌⊎◌, Bool, true, false, cond, length, get_or, eqb}
+use Rattle.std.specs.Prelude.{◌≡◌, ◌≢◌, ◌⊎◌, cond, length, get_or, eqb}
 use Rattle.std.proofs.Math.Path.{refl, sym, ap, subst}
 use Rattle.std.proofs.Common.{◌∙◌, inl, inr}
-use Prim.Native.Nat.{ℕ, zero, suc, ◌+◌, ◌-◌, ◌*◌, ◌≤◌, ◌<◌}
+use Prim.Native.Nat.{ℕ, zero, suc, ◌+◌, ◌-◌, ◌≤◌, ◌<◌}
 use native.Mathlib.Omega.{arith}
 use Rattle.std.proofs.Math.Decide.{dec_le}
 use mathlib.Core.List.{List, [], ◌∷◌, ◌++◌, append_assoc}
 use Rattle.metadata_rules.specs.declared.Interval.{Interval}
-use Rattle.metadata_rules.specs.Walk.{Walked, walk_all}
-use Rattle.metadata_rules.specs.Metadata.{Mapping, mapping, Merged, merged, under, collect, once, add, add_all, names_of, by_name, outcome, lists_of, count_intervals}
+use Rattle.metadata_rules.specs.Walk.{walk_all}
+use Rattle.metadata_rules.specs.Metadata.{Mapping, under, collect, once, add, add_all, names_of, by_name, outcome, lists_of, count_intervals}
 use Rattle.theory.specs.Runs.{Mem}
 use Rattle.metadata_rules.specs.Cases.{Once, eqb_case, cond_eq, cond_ne}
 use Rattle.metadata_rules.specs.Names.{once_once}
 use Rattle.metadata_rules.specs.Words.{name_at}
-use Rattle.metadata_lists.specs.Flat.{list_at, placed_from, placed_to, lists_from, First, sum_len, lists_first}
+use Rattle.metadata_lists.specs.Flat.{placed_from, placed_to, lists_from, First, sum_len, lists_first}
 use Rattle.metadata_lists.specs.Name.{outcome_at}
 use Rattle.metadata_lists.specs.Names.{collect_from, collect_to, sums_from, sums_to}
 

@@ -1,14 +1,13 @@
 -- What is laid, as words: the mappings' words and the intervals' words in place of as many, and the rest as it was.
 -- Assumes nothing.
-use Rattle.std.specs.Prelude.{◌≡◌, refl, ℕ, zero, suc, ◌+◌, ◌-◌, ◌*◌, ◌≤◌, ◌<◌, List, [], ◌∷◌, ◌++◌}
+use Rattle.std.specs.Prelude.{◌≡◌, ℕ, suc, ◌+◌, ◌*◌, ◌≤◌, List, [], ◌∷◌, ◌++◌}
 use Rattle.std.proofs.Common.{sym, ap, ◌∙◌, arith, append_assoc, take_at, length-take-le}
 use lib.ListN.{length, set, take, drop, length-append, take-append-drop}
 use Rattle.std.proofs.lemmas.List.{set_at}
-use Rattle.metadata_rules.specs.declared.Interval.{Interval}
 use Rattle.metadata_rules.specs.Metadata.{Mapping, count_intervals}
 use Rattle.metadata_rules.specs.Words.{words_of, mapping_words, interval_words, words_length, interval_length, mapping_length}
 use Rattle.metadata_words.specs.Words.{put_mapping, lay_intervals, lay_words}
-use Rattle.metadata_lists.specs.Names.{Final, placed, lay_all}
+use Rattle.metadata_lists.specs.Names.{placed, lay_all}
 
 put_words : (p r : List ℕ) (a b q n c : ℕ) → length p ≡ 2 * q → put_mapping (p ++ a ∷ b ∷ r) q n c ≡ p ++ n ∷ c ∷ r
 unfolding put_mapping

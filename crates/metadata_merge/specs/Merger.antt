@@ -9,14 +9,14 @@ use Rattle.theory.specs.Answer.{Answer, answer}
 use Rattle.leaves.specs.Refusal.{refused}
 use Rattle.leaves.specs.declared.refusal.Refusal.{Refusal}
 use Rattle.leaves.specs.declared.refusal.Refusal.TheVariants.{Differ, BadMemory}
-use Rattle.metadata_rules.specs.Metadata.{Metadata, opened, merge, merge_opened, if_same, agreed_merge, differs_at, fields_of, Outcome, done}
+use Rattle.metadata_rules.specs.Metadata.{opened, merge, merge_opened, if_same, agreed_merge, differs_at, fields_of, Outcome, done}
 use Rattle.metadata_rules.specs.Metadata.{refused as stopped}
 use Rattle.metadata_form.specs.declared.header.Header.{Header}
 use Rattle.metadata_form.specs.declared.header.MetadataAnswer.{MetadataAnswer}
 use Rattle.metadata_form.specs.declared.header.MetadataAnswer.TheVariants.{Done, Refused}
 use Rattle.metadata_form.specs.declared.header.Lengths.{Lengths}
 use Rattle.metadata_form.specs.declared.header.Counts.{Counts}
-use Rattle.metadata_form.specs.Header.{Lists, lists, lengths_of, header_fields, metadata_of, metadata_fits, merged_header, MetadataFitting, metadata_fitting, outcome_fits, numbers_of, metadata_answer_of}
+use Rattle.metadata_form.specs.Header.{Lists, lengths_of, header_fields, metadata_of, metadata_fits, merged_header, MetadataFitting, metadata_fitting, outcome_fits, numbers_of, metadata_answer_of}
 use Rattle.metadata_open.specs.Commit.{laid_over, Commit, committed, committed_laid, may_commit}
 use Rattle.metadata_open.specs.Opening.{values_of, numbers_values}
 use Rattle.metadata_merge.specs.Outcome.{given, Deciding, Decided, Fitted}

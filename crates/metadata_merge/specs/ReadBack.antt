@@ -1,13 +1,13 @@
 -- Gather, merge, build: header and lists that `open` and `merge` leave read back as the outcome, so that the next call takes exactly it;
 -- and opening what was opened changes nothing. Assumes nothing.
-use Rattle.std.specs.Prelude.{◌≡◌, refl, ◌≢◌, ◌⊎◌, ℕ, zero, suc, ◌+◌, ◌-◌, ◌*◌, max, Bool, true, false, ◌&&◌, cond, List, [], ◌∷◌, ◌++◌, length, get_or, drop, replicate, eqb}
+use Rattle.std.specs.Prelude.{◌≡◌, refl, ◌≢◌, ◌⊎◌, ℕ, zero, suc, ◌+◌, ◌-◌, ◌*◌, max, Bool, true, false, ◌&&◌, cond, List, [], ◌∷◌, ◌++◌, length, get_or, drop, replicate}
 use Rattle.std.proofs.Common.{sym, ap, ◌∙◌, inl, inr, arith, append_assoc, append-nil}
 use Rattle.std.proofs.Math.Seq.{drop-append_seam}
 use Rattle.theory.specs.Answer.{Answer, answer, bit}
 use Rattle.theory.specs.Runs.{Mem}
 use Rattle.theory.specs.RunsTools.{cond_case}
 use Rattle.metadata_rules.specs.Cases.{Once, eqb_case}
-use Rattle.metadata_rules.specs.Metadata.{Metadata, Fields, Mapping, add, add_all, once, names_of, enter, enter_all, opened, count_intervals, Merged, conflicting, merged, by_name, dates_known, names_known, forwards, fits, Given, Outcome, done, together, if_fits, if_merged, agreed_merge, differs_at, if_same, merge_opened, merge}
+use Rattle.metadata_rules.specs.Metadata.{Metadata, Mapping, add, add_all, once, names_of, enter, enter_all, opened, count_intervals, Merged, conflicting, merged, by_name, dates_known, names_known, forwards, fits, Given, Outcome, done, together, if_fits, if_merged, agreed_merge, differs_at, if_same, merge_opened, merge}
 use Rattle.metadata_rules.specs.Metadata.{refused as stopped}
 use Rattle.metadata_rules.specs.Words.{before, count_at, mapping_words, interval_words, mapping_length, interval_length}
 use Rattle.metadata_rules.specs.Names.{add_only, once_once, enter_all_names}
@@ -15,7 +15,7 @@ use Rattle.metadata_rules.specs.Fold.{opened_once}
 use Rattle.metadata_form.specs.declared.header.Header.{Header}
 use Rattle.metadata_form.specs.declared.header.MetadataAnswer.{MetadataAnswer}
 use Rattle.metadata_form.specs.declared.header.MetadataAnswer.TheVariants.{Done}
-use Rattle.metadata_form.specs.Header.{Lists, lengths_of, header_fields, metadata_of, metadata_fits, numbers_of}
+use Rattle.metadata_form.specs.Header.{Lists, lengths_of, metadata_of, metadata_fits, numbers_of}
 use Rattle.metadata_words.specs.Over.{over}
 use Rattle.metadata_merge.specs.Outcome.{given}
 use Rattle.metadata_open.specs.Commit.{laid_over, laid_read}

@@ -1,7 +1,7 @@
 -- A metadata in scratch, and laid over the lent lists: its words, 0 in the places that are freed, the rest as it was. Assumes nothing.
-use Rattle.std.specs.Prelude.{◌≡◌, ℕ, ◌*◌, ◌/◌, ◌≤◌, min, List, length, take}
+use Rattle.std.specs.Prelude.{◌≡◌, ℕ, ◌*◌, ◌/◌, ◌≤◌, List, length, take}
 use Rattle.std.proofs.Math.Path.{refl}
-use Rattle.std.proofs.Common.{sym, ap, ◌∙◌, arith, length-take}
+use Rattle.std.proofs.Common.{ap, arith, length-take}
 use Rattle.std.proofs.Math.Seq.{take-append_seam}
 use Rattle.leaves_limits.specs.Limits.{most_mappings}
 use Rattle.metadata_rules.specs.Metadata.{Metadata, count_intervals}

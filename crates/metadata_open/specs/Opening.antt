@@ -1,5 +1,5 @@
 -- Opening and finishing: what each answers, and what each lent list then holds (RULES, Merging metadata).
-use Rattle.std.specs.Prelude.{◌≡◌, ℕ, ◌+◌, ◌*◌, ◌/◌, ◌≤◌, ◌<◌, Bool, true, false, cond, length, take}
+use Rattle.std.specs.Prelude.{◌≡◌, ℕ, ◌≤◌, ◌<◌, Bool, true, false, cond, length, take}
 use Rattle.std.proofs.Math.Path.{refl, ap}
 use Rattle.std.proofs.Common.{sym, ◌∙◌}
 use native.Mathlib.Omega.{arith}
@@ -10,7 +10,7 @@ use Rattle.leaves.specs.declared.refusal.Refusal.TheVariants.{BadMemory}
 use Rattle.metadata_rules.specs.Metadata.{Metadata, opened, once, add_all, enter_all}
 use Rattle.metadata_rules.specs.Words.{mappings_from}
 use Rattle.metadata_lists.specs.Names.{placed, lay_all}
-use Rattle.metadata_lists.specs.NamesWords.{Stands, stands, front_maps, front_spans}
+use Rattle.metadata_lists.specs.NamesWords.{stands, front_maps, front_spans}
 use Rattle.metadata_gather.specs.Arrivals.{add_all_small}
 use Rattle.metadata_gather.specs.Sets.{AllUnited}
 use Rattle.metadata_gather.specs.Sides.{Sound, flat_length, kept_count, kept_few}

@@ -1,7 +1,7 @@
 -- What the mappings of a merge come to: a refusal, or the words of the mappings merged by name. Assumes nothing.
 use Rattle.std.proofs.Math.Path.{◌≡◌, refl, ap, subst}
 use Rattle.std.proofs.Common.{sym, ◌∙◌, ltb-true}
-use Rattle.std.specs.Prelude.{◌≢◌, ℕ, zero, suc, ◌+◌, ◌-◌, ◌*◌, ◌≤◌, ◌<◌, Bool, ◌&&◌, cond, length, get_or, replicate, ltb}
+use Rattle.std.specs.Prelude.{ℕ, zero, suc, ◌+◌, ◌-◌, ◌*◌, ◌≤◌, ◌<◌, Bool, ◌&&◌, length, get_or, replicate, ltb}
 use native.Mathlib.Omega.{arith}
 use Rattle.std.proofs.Math.Bool.{true, false}
 use mathlib.Core.List.{List, [], ◌∷◌, ◌++◌}
@@ -10,10 +10,9 @@ use Rattle.std.proofs.Math.ListN.{length-append}
 use Rattle.metadata_rules.specs.declared.Interval.{Interval}
 use Rattle.leaves.specs.declared.refusal.Refusal.{Refusal}
 use Rattle.leaves.specs.declared.refusal.Refusal.TheVariants.{Conflict}
-use Rattle.metadata_rules.specs.Metadata.{Mapping, Merged, conflicting, merged, enter, enter_all, by_name, every, every_interval, dates_known, mappings_known, count_intervals}
+use Rattle.metadata_rules.specs.Metadata.{Mapping, Merged, conflicting, merged, enter_all, by_name, every, every_interval, dates_known, mappings_known, count_intervals}
 use Rattle.metadata_rules.specs.Metadata.{forwards as forwardsOf}
-use Rattle.metadata_rules.specs.Cases.{eqb_case}
-use Rattle.metadata_rules.specs.Words.{name_at, count_at, mappings_from, before, mapping_words, interval_words, names_from, read_back, intervals_test, names_test, mapping_length, interval_length}
+use Rattle.metadata_rules.specs.Words.{name_at, mappings_from, before, mapping_words, interval_words, names_from, read_back, intervals_test, names_test, mapping_length, interval_length}
 use Rattle.metadata_words.specs.Words.{rest}
 use Rattle.metadata_lists.specs.Flat.{placed_from, placed_to}
 use Rattle.metadata_lists.specs.Link.{Chained, chained_linked, chained_heads}

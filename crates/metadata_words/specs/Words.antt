@@ -1,5 +1,5 @@
 -- Intervals and mappings laid in words. Assumes nothing.
-use Rattle.std.specs.Prelude.{◌≡◌, refl, ℕ, zero, suc, ◌+◌, ◌-◌, ◌*◌, ◌≤◌, ◌<◌, List, [], ◌∷◌, ◌++◌, length, set}
+use Rattle.std.specs.Prelude.{◌≡◌, refl, ℕ, suc, ◌+◌, ◌-◌, ◌*◌, ◌≤◌, ◌<◌, List, [], ◌∷◌, ◌++◌, length, set}
 use Rattle.std.proofs.Common.{sym, ap, ◌∙◌, arith, append_assoc, length-set, length-append}
 use Rattle.std.proofs.lemmas.List.{set_at}
 use Rattle.metadata_rules.specs.declared.Interval.{Interval}

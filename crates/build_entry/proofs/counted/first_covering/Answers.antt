@@ -1,5 +1,4 @@
 -- The invariant: the search from here on finds what the whole search does. Assumes nothing.
-use Prim.Native.Nat.{◌-◌}
 use borrow.Author.Rules.{rules}
 use Rattle.build_entry.specs.Counted.{passed_none, passed_all, passed_bad, passed_found, passed_one}
 use Rattle.build_entry.proofs.counted.first_covering.Goals as goal

@@ -1,5 +1,4 @@
 -- The invariant: from here on the build comes to what it comes to in all. Assumes nothing.
-use Prim.Native.Nat.{◌-◌}
 use native.Mathlib.Omega.{arith}
 use borrow.Author.Rules.{rules}
 use Rattle.build_point.specs.Mappings.{clean_own, going_start, going_room, going_refused, going_on, going_end}

@@ -1,10 +1,8 @@
 -- The invariant: what is left of the intervals, on the table as it stands, is the whole. Assumes nothing.
 use mathlib.Core.Path.{sym}
 use mathlib.Core.Path.{◌∙◌}
-use Prim.Native.Nat.{◌-◌}
 use native.Mathlib.Omega.{arith}
 use Rattle.leaves_names.specs.Names.{names_of}
-use Rattle.theory.specs.Bools.{holds}
 use Rattle.build_time.specs.OverTimeLaws.{laying_start, laying_turn, laying_stop, laying_end}
 use Rattle.build_time.proofs.over_time.lay_intervals.Goals as goal
 

@@ -1,10 +1,8 @@
 -- The invariant: what is left of the mappings, on the table as it stands, is the whole. Assumes nothing.
 use mathlib.Core.Path.{sym}
 use mathlib.Core.Path.{◌∙◌}
-use Prim.Native.Nat.{◌-◌}
 use native.Mathlib.Omega.{arith}
 use Rattle.leaves_names.specs.Names.{names_of}
-use Rattle.theory.specs.Bools.{holds}
 use Rattle.build_time.specs.OverTimeMappings.{mapping_start_lem, mapping_within, mapping_turn, mapping_stop, mapping_end}
 use Rattle.build_time.proofs.over_time.lay_mappings.Goals as goal
 

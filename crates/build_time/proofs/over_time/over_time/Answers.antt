@@ -1,4 +1,5 @@
 -- Each way through the tests is one law, and then the build. Assumes nothing.
+use mathlib.Core.Bool.{not}
 use mathlib.Core.Path.{ap}
 use Rattle.metadata_form.specs.declared.header.Lengths.{Lengths}
 use Rattle.metadata_form.specs.Header.{lists}
@@ -13,7 +14,7 @@ returns-then-not-build_fits c =
     let a = c.args in
     let p = over_15 a.table.now a.header (lists a.symbols.now a.partial.now a.not_found.now a.mappings.now a.intervals.now) a.bytes.now
     a.ends.now a.names a.name_bytes c.clear.ensures c.lengths_by-l.ensures
-    c.table_fits-of_form.ensures c.build_fits.ensures c.if-not-build_fits.true-raw in
+    c.table_fits-of_form.ensures c.build_fits.ensures (ap not c.if-not-build_fits.true) in
     record {
       result_value = p.0;
       table_after = p.1.0;
@@ -25,15 +26,15 @@ is_list-requires c =
     let a = c.args in
     over_list a.table.now a.header (lists a.symbols.now a.partial.now a.not_found.now a.mappings.now a.intervals.now) a.bytes.now
     a.ends.now a.names a.name_bytes c.clear.ensures c.lengths_by-l.ensures
-    c.table_fits-of_form.ensures c.build_fits.ensures c.if-not-build_fits.false-raw
+    c.table_fits-of_form.ensures c.build_fits.ensures (ap not c.if-not-build_fits.false)
 
 pub returns-then-not-is_list : goal.returns-then-not-is_list
 returns-then-not-is_list c =
     let a = c.args in
     let p = over_14 a.table.now a.header (lists a.symbols.now a.partial.now a.not_found.now a.mappings.now a.intervals.now) a.bytes.now
     a.ends.now a.names a.name_bytes c.clear.ensures
-    c.lengths_by-l.ensures c.table_fits-of_form.ensures c.build_fits.ensures c.if-not-build_fits.false-raw
-    c.is_list.ensures c.if-not-is_list.true-raw in
+    c.lengths_by-l.ensures c.table_fits-of_form.ensures c.build_fits.ensures (ap not c.if-not-build_fits.false)
+    c.is_list.ensures (ap not c.if-not-is_list.true) in
     record {
       result_value = p.0;
       table_after = p.1.0;
@@ -46,7 +47,7 @@ build-requires c =
     over_ready a.table.now a.header (lists a.symbols.now a.partial.now a.not_found.now a.mappings.now a.intervals.now)
     a.bytes.now a.ends.now a.names a.name_bytes c.clear.ensures
     c.lengths_by-l.ensures c.table_fits-of_form.ensures c.build_fits.ensures
-    c.if-not-build_fits.false-raw c.is_list.ensures c.if-not-is_list.false-raw
+    (ap not c.if-not-build_fits.false) c.is_list.ensures (ap not c.if-not-is_list.false)
 
 pub returns : goal.returns
 returns c =
@@ -55,8 +56,8 @@ returns c =
     a.bytes.now a.ends.now a.names a.name_bytes
     c.clear.ensures
     c.lengths_by-l.ensures
-    c.table_fits-of_form.ensures c.build_fits.ensures c.if-not-build_fits.false-raw
-    c.is_list.ensures c.if-not-is_list.false-raw c.build.result
+    c.table_fits-of_form.ensures c.build_fits.ensures (ap not c.if-not-build_fits.false)
+    c.is_list.ensures (ap not c.if-not-is_list.false) c.build.result
     c.build.new.table c.build.ensures in
     record {
       result_value = p.0;

@@ -1,6 +1,6 @@
 -- `header::differs` meets its contract: the six in their order. Assumes nothing.
 use mathlib.Core.Path.{refl, sym, ◌∙◌}
-use borrow.Author.Tests.{eq-eqb, ne_eqb, not-false}
+use borrow.Author.Tests.{eq-eqb, ne_eqb}
 use Rattle.metadata_rules.specs.Metadata.{differs_at}
 use Rattle.metadata_form.proofs.header.differs.Goals as goal
 
@@ -65,8 +65,7 @@ returns-then-header-added-5 c =
           a.added.stype_in c.if-header-added-3.false,
       eq-eqb a.header.stype_out
           a.added.stype_out c.if-header-added-4.false,
-      sym c.same.ensures ∙ not-false _
-          c.if-not-same.false-raw,
+      sym c.same.ensures ∙ c.if-not-same.false,
       ne_eqb a.header.symbol_cstr_len a.added.symbol_cstr_len c.if-header-added-5.true,
     ) refl
 
@@ -82,7 +81,6 @@ returns c =
           a.added.stype_in c.if-header-added-3.false,
       eq-eqb a.header.stype_out
           a.added.stype_out c.if-header-added-4.false,
-      sym c.same.ensures ∙ not-false _
-          c.if-not-same.false-raw,
+      sym c.same.ensures ∙ c.if-not-same.false,
       eq-eqb a.header.symbol_cstr_len a.added.symbol_cstr_len c.if-header-added-5.false,
     ) refl

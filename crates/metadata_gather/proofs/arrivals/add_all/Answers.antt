@@ -1,6 +1,6 @@
 -- `arrivals::add_all` meets its contract. The invariant: the arrivals so far are those of the entries passed. Assumes nothing.
 use mathlib.Core.Path.{◌≡◌, refl, sym, ◌∙◌, subst}
-use Prim.Native.Nat.{ℕ, ◌-◌}
+use Prim.Native.Nat.{ℕ}
 use lib.ListN.{take}
 use lib.Seq.{length-take-le}
 use Rattle.metadata_rules.specs.Metadata.{add_all}

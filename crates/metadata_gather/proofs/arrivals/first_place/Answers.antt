@@ -1,5 +1,4 @@
 -- `arrivals::first_place` meets its contract. The invariant: none of the places passed holds x. Assumes nothing.
-use Prim.Native.Nat.{◌-◌}
 use Rattle.metadata_gather.specs.Arrivals.{not_yet_none, not_yet_more, found_at, found_none}
 use native.Mathlib.Omega.{arith}
 use Rattle.metadata_gather.proofs.arrivals.first_place.Goals as goal

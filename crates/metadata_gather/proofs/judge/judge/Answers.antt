@@ -1,8 +1,6 @@
 -- `judge` meets its contract. The invariant: what is left to test, with what was found so far, decides as the whole does. Assumes nothing.
 use mathlib.Core.Path.{◌≡◌, refl, sym, ◌∙◌}
-use mathlib.Core.Bool.{true, false}
-use Prim.Native.Nat.{◌-◌}
-use borrow.Author.Tests.{not-true, not-false}
+use mathlib.Core.Bool.{true}
 use Rattle.leaves.specs.declared.refusal.Refusal.TheVariants.{UnknownSymbol, Reversed}
 use Rattle.metadata_gather.specs.declared.judge.Judged.TheVariants.{Passed, Refused}
 use Rattle.metadata_gather.specs.Judge.{known, forward, judged_of, judge_turn, judge_stop, judge_end}
@@ -32,7 +30,7 @@ unfolding judged_of
 returns-then-not-all_known c =
     let a = c.args in
     let l = c.loop-i in
-    let e : judged_of true l.all_known l.all_forward ≡ Refused UnknownSymbol = rw (not-true l.all_known c.if-not-all_known.true-raw) refl in
+    let e : judged_of true l.all_known l.all_forward ≡ Refused UnknownSymbol = rw c.if-not-all_known.true refl in
     sym e ∙ judge_end a.names a.intervals.now l.i a.count _ _ (omega arith) ∙ l.invariant.1
 
 pub returns-then-not-all_forward : goal.returns-then-not-all_forward
@@ -41,7 +39,7 @@ returns-then-not-all_forward c =
     let a = c.args in
     let l = c.loop-i in
     let e : judged_of true l.all_known l.all_forward ≡ Refused Reversed =
-    rw (not-false l.all_known c.if-not-all_known.false-raw, not-true l.all_forward c.if-not-all_forward.true-raw) refl in
+    rw (c.if-not-all_known.false, c.if-not-all_forward.true) refl in
     sym e ∙ judge_end a.names a.intervals.now l.i a.count _ _ (omega arith) ∙ l.invariant.1
 
 pub returns : goal.returns
@@ -50,5 +48,5 @@ returns c =
     let a = c.args in
     let l = c.loop-i in
     let e : judged_of true l.all_known l.all_forward ≡ Passed =
-    rw (not-false l.all_known c.if-not-all_known.false-raw, not-false l.all_forward c.if-not-all_forward.false-raw) refl in
+    rw (c.if-not-all_known.false, c.if-not-all_forward.false) refl in
     sym e ∙ judge_end a.names a.intervals.now l.i a.count _ _ (omega arith) ∙ l.invariant.1

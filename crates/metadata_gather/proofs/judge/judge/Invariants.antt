@@ -3,7 +3,7 @@ use mathlib.Core.Path.{◌≡◌}
 use mathlib.Core.Bool.{true}
 use Prim.Native.Nat.{◌≤◌, ◌-◌}
 use Rattle.metadata_words.specs.Words.{rest}
-use Rattle.metadata_gather.specs.Judge.{known, judged_by}
+use Rattle.metadata_gather.specs.Judge.{judged_by}
 use Rattle.metadata_gather.proofs.judge.judge.Given as goal
 
 abbrev pub invariant-loop-i : goal.invariant-loop-i

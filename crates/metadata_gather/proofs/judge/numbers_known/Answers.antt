@@ -1,6 +1,5 @@
 -- `numbers_known` meets its contract. The invariant: what is left to test lies within the words, and decides as the whole does. Assumes nothing.
 use mathlib.Core.Path.{ap, ◌∙◌}
-use Prim.Native.Nat.{◌-◌}
 use Rattle.metadata_rules.specs.Metadata.{every}
 use Rattle.metadata_gather.specs.Judge.{below, spaced_turn, spaced_stop, spaced_end, spaced_room, spaced_in, spaced_all}
 use borrow.Author.Rules.{rules}

@@ -1,7 +1,6 @@
 -- `picks::picks` meets its contract. The invariant: what is picked so far are the places that count among the mappings passed.
 -- Assumes nothing.
 use mathlib.Core.Path.{◌≡◌, refl, sym, ap, ◌∙◌, subst}
-use Prim.Native.Nat.{◌-◌}
 use lib.ListN.{length-set}
 use Rattle.metadata_gather.specs.Arrivals.{Marked}
 use Rattle.metadata_gather.specs.Picks.{picks_of, picking_start, picking_turn, place_low}

@@ -1,6 +1,5 @@
 -- `sets::unite` meets its contract: the arrivals of one side, then those of the other, then the test of all that arrived. Assumes nothing.
 use mathlib.Core.Path.{sym, subst}
-use Prim.Native.Nat.{◌-◌}
 use lib.Seq.{length-take-le}
 use Rattle.metadata_gather.specs.Arrivals.{Marked, marked_none}
 use Rattle.metadata_gather.specs.Sets.{first_few, all_united, united_few, is_united}

@@ -1,6 +1,5 @@
 -- `sides::count_up` meets its contract. The invariant: the places passed hold their own numbers. Assumes nothing.
 use mathlib.Core.Path.{refl}
-use Prim.Native.Nat.{◌-◌}
 use lib.ListN.{length-set}
 use Rattle.metadata_gather.specs.Sides.{Counted, counted_none, counted_more}
 use native.Mathlib.Omega.{arith}

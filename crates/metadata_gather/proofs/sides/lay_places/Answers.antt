@@ -1,6 +1,5 @@
 -- `sides::lay_places` meets its contract. The invariant: what is left to lay from here is what was to lay at the start. Assumes nothing.
 use mathlib.Core.Path.{refl}
-use Prim.Native.Nat.{◌-◌}
 use Rattle.metadata_gather.specs.Sides.{following_start, turn_room, following_turn, following_end}
 use native.Mathlib.Omega.{arith}
 use Rattle.metadata_gather.proofs.sides.lay_places.Goals as goal

@@ -1,9 +1,8 @@
 -- `heads::merge_intervals` meets its contract. The invariant: what is left of the walk from here leaves what the whole walk leaves;
 -- a turn is one step of the definition. Assumes nothing.
 use mathlib.Core.Path.{◌≡◌, refl, sym, ◌∙◌}
-use Prim.Native.Nat.{◌-◌}
 use native.Mathlib.Omega.{arith}
-use borrow.Author.Tests.{ltb-true, ltb-false}
+use borrow.Author.Tests.{ltb-true}
 use lib.ListN.{length}
 use Rattle.metadata_words.specs.Words.{put_length}
 use Rattle.metadata_lists.specs.Heads.{ended_of, step_counts, turn_conflict, turn_out, end_left, end_right}

@@ -1,6 +1,6 @@
 -- What each turn keeps, and what gets less.
 use mathlib.Core.Path.{◌≡◌}
-use Prim.Native.Nat.{◌≤◌, ◌-◌}
+use Prim.Native.Nat.{◌≤◌}
 use lib.ListN.{length}
 use Rattle.metadata_lists.specs.Link.{Chained}
 use Rattle.metadata_lists.proofs.link.link.Given as goal

@@ -1,6 +1,6 @@
 -- `link::offsets` meets its contract. The invariant: the places passed hold how many intervals stand before them. Assumes nothing.
 use mathlib.Core.Path.{◌≡◌, refl, ap, ◌∙◌}
-use Prim.Native.Nat.{◌≤◌, ◌+◌, ◌-◌}
+use Prim.Native.Nat.{◌≤◌, ◌+◌}
 use native.Mathlib.Omega.{arith}
 use lib.ListN.{length-set}
 use Rattle.metadata_rules.specs.Words.{before}

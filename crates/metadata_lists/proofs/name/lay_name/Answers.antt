@@ -1,7 +1,6 @@
 -- `name::lay_name` meets its contract. The invariant: what is laid so far, walked on with the lists still to come, gives the name's
 -- outcome. Assumes nothing.
 use mathlib.Core.Path.{refl, sym, ap, ◌∙◌}
-use Prim.Native.Nat.{◌-◌}
 use native.Mathlib.Omega.{arith}
 use Rattle.metadata_lists.specs.declared.heads.WalkLaid.{WalkLaid}
 use Rattle.metadata_words.specs.Words.{laid_length}

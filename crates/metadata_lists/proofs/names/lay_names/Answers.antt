@@ -1,7 +1,6 @@
 -- `names::lay_names` meets its contract. The invariant: what is laid, with the outcome of the places still to come, is the whole
 -- outcome. Assumes nothing.
 use mathlib.Core.Path.{refl, sym, ap, ◌∙◌}
-use Prim.Native.Nat.{◌-◌}
 use native.Mathlib.Omega.{arith}
 use Rattle.metadata_lists.specs.declared.names.NamesLaid.{NamesLaid}
 use Rattle.metadata_lists.specs.Names.{end_names}

@@ -1,6 +1,6 @@
 -- `names::lay_place` meets its contract: not the first of its name, a conflict, or laid. Assumes nothing.
 use mathlib.Core.Path.{refl, sym, ap, ◌∙◌}
-use Prim.Native.Nat.{ℕ, ◌-◌}
+use Prim.Native.Nat.{ℕ}
 use native.Mathlib.Omega.{arith}
 use lib.ListN.{get_or}
 use Rattle.metadata_lists.specs.declared.heads.WalkLaid.{WalkLaid}

@@ -1,6 +1,5 @@
 -- `merger::merge` meets its contract: 15, 6, or the merge of two that agree. Assumes nothing.
 use mathlib.Core.Path.{sym, ap, ◌∙◌}
-use borrow.Author.Tests.{not-false}
 use Rattle.metadata_form.specs.declared.header.Lengths.{Lengths}
 use Rattle.metadata_form.specs.Header.{lists}
 use Rattle.metadata_merge.specs.Merger.{both_tested, merge_unfit, merge_differs}
@@ -25,8 +24,8 @@ returns-then-field-ne0 c =
     let l = lists a.symbols.now a.partial.now a.not_found.now a.mappings.now a.intervals.now in
     let r = lists a.added_symbols.now a.added_partial.now a.added_not_found.now a.added_mappings.now a.added_intervals.now in
     merge_differs a.names a.header l a.added r
-    (both_tested a.names a.header l a.added r c.both_fit.ensures c.lengths_by-lengths.ensures c.lengths_by-added_lengths.ensures (not-false _
-    c.if-not-both_fit.false-raw)) _ c.differs-field.ensures c.if-field-ne0.true
+    (both_tested a.names a.header l a.added r c.both_fit.ensures c.lengths_by-lengths.ensures c.lengths_by-added_lengths.ensures
+    c.if-not-both_fit.false) _ c.differs-field.ensures c.if-field-ne0.true
 
 pub merge_agreed-requires : goal.merge_agreed-requires
 merge_agreed-requires c =

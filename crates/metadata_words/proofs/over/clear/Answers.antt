@@ -1,6 +1,5 @@
 -- `over::clear` meets its contract. The invariant: the places passed hold 0. Assumes nothing.
 use mathlib.Core.Path.{◌≡◌, refl, ap, ◌∙◌}
-use Prim.Native.Nat.{◌-◌}
 use lib.ListN.{length-set, replicate}
 use lib.Seq.{paste, paste-zero}
 use Rattle.metadata_words.specs.Over.{clear_turn}

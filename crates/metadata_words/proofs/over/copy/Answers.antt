@@ -1,6 +1,5 @@
 -- `over::copy` meets its contract. The invariant: the words passed are laid. Assumes nothing.
 use mathlib.Core.Path.{◌≡◌, refl, ap, ◌∙◌}
-use Prim.Native.Nat.{◌-◌}
 use lib.ListN.{length-set}
 use lib.Seq.{paste, paste-zero}
 use Rattle.metadata_words.specs.Over.{copy_turn}

@@ -1,6 +1,5 @@
 -- `words::copy_intervals` meets its contract. The invariant: what is left to lay from here is what was to lay at the start. Assumes nothing.
 use mathlib.Core.Path.{◌≡◌, refl, sym, ◌∙◌}
-use Prim.Native.Nat.{◌-◌}
 use native.Mathlib.Omega.{arith}
 use lib.ListN.{length}
 use Rattle.metadata_words.specs.Words.{put_length, lay_turn, lay_end}
