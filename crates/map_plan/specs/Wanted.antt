@@ -34,12 +34,12 @@ numbered instrument start end (NotNamed r) = refuses (refused r)
 -- nothing
 unfoldable pub wanted : Bool → List ℕ → List ℕ → ℕ → ℕ → List ℕ → Mapped → Wanted
 unfolding numbering_in
-wanted over_time_lem bytes ends names name_bytes name other = nothing
-wanted over_time_lem bytes ends names name_bytes name (not_one reason) = refuses (refused (Damaged 0 0 reason))
-wanted over_time_lem bytes ends names name_bytes name (symbol instrument start end) =
+wanted over_time bytes ends names name_bytes name other = nothing
+wanted over_time bytes ends names name_bytes name (not_one reason) = refuses (refused (Damaged 0 0 reason))
+wanted over_time bytes ends names name_bytes name (symbol instrument start end) =
     cond (is_name name)
-    (cond (over_time_lem && ltb end start) (refuses (refused Reversed))
-    (cond (over_time_lem && eqb start end) nothing (numbered instrument start end (numbering_in bytes ends names name_bytes name))))
+    (cond (over_time && ltb end start) (refuses (refused Reversed))
+    (cond (over_time && eqb start end) nothing (numbered instrument start end (numbering_in bytes ends names name_bytes name))))
     (refuses (refused BadName))
 
 -- a call: 15 for all lent memory, 14 for table and list, then what the record asks
@@ -83,9 +83,9 @@ Placed bytes ends names name_bytes rec (Store instrument start end number new fr
 
 -- over time it stores a stretch that is not empty
 abbrev pub Forward : Bool → Plan → Type 0
-Forward over_time_lem Nothing = Unit {0}
-Forward over_time_lem (Refuse r) = Unit {0}
-Forward over_time_lem (Store instrument start end number new from to) = over_time_lem ≡ true → start < end
+Forward over_time Nothing = Unit {0}
+Forward over_time (Refuse r) = Unit {0}
+Forward over_time (Store instrument start end number new from to) = over_time ≡ true → start < end
 
 -- the table's own check was done
 abbrev pub Formed : Answer → Plan → Type 0
@@ -93,7 +93,7 @@ Formed checked Nothing = Unit {0}
 Formed checked (Refuse r) = Unit {0}
 Formed checked (Store instrument start end number new from to) = checked ≡ answer 0 []
 
-pub record Ready (over_time_lem : Bool) (checked : Answer) (bytes ends : List ℕ) (names name_bytes : ℕ) (rec : List ℕ) (p : Plan) : Type 0 where
+pub record Ready (over_time : Bool) (checked : Answer) (bytes ends : List ℕ) (names name_bytes : ℕ) (rec : List ℕ) (p : Plan) : Type 0 where
   pub placed : Placed bytes ends names name_bytes rec p
-  pub forward : Forward over_time_lem p
+  pub forward : Forward over_time p
   pub formed : Formed checked p

@@ -29,8 +29,8 @@ use Rattle.map_plan.specs.Wanted.{Wanted, nothing, refuses, stores, numbering_in
 use Rattle.map_plan.specs.declared.planning.Plan.{Plan}
 use Rattle.map_plan.specs.declared.planning.Plan.TheVariants.{Nothing, Store, Refuse}
 
-pub ready_refused : {over_time_lem : Bool} {checked : Answer} {bytes ends : List ℕ} {names name_bytes : ℕ} {rec : List ℕ} {r : Refusal}
-    → Ready over_time_lem checked bytes ends names name_bytes rec (Refuse r)
+pub ready_refused : {over_time : Bool} {checked : Answer} {bytes ends : List ℕ} {names name_bytes : ℕ} {rec : List ℕ} {r : Refusal}
+    → Ready over_time checked bytes ends names name_bytes rec (Refuse r)
 ready_refused = record { placed = tt; forward = tt; formed = tt }
 
 checked_done : (p : Plan) {checked : Answer} → checked ≡ answer 0 [] → Formed checked p
@@ -38,9 +38,9 @@ checked_done Nothing e = tt
 checked_done (Refuse r) e = tt
 checked_done (Store i s e n new from to) q = q
 
-pub ready_planned : (over_time_lem : Bool) (bytes ends : List ℕ) (names name_bytes : ℕ) (rec : List ℕ) (p : Plan) {checked : Answer}
-    → answer 0 [] ≡ checked → Placed bytes ends names name_bytes rec p → Forward over_time_lem p → Ready over_time_lem checked bytes ends names name_bytes rec p
-ready_planned over_time_lem bytes ends names name_bytes rec p e h f = record { placed = h; forward = f; formed = checked_done p (sym e) }
+pub ready_planned : (over_time : Bool) (bytes ends : List ℕ) (names name_bytes : ℕ) (rec : List ℕ) (p : Plan) {checked : Answer}
+    → answer 0 [] ≡ checked → Placed bytes ends names name_bytes rec p → Forward over_time p → Ready over_time checked bytes ends names name_bytes rec p
+ready_planned over_time bytes ends names name_bytes rec p e h f = record { placed = h; forward = f; formed = checked_done p (sym e) }
 
 -- ---- the number of a valid name
 
@@ -139,33 +139,33 @@ symbol_one b (whole size kind instrument time) {i} {s} {e} h =
     go (inr p) = let f = p.1 in let z : ◌≡◌ {A = ℕ} 0 1 = cc in absurd (omega arith)
 
 -- a plan by a name's number stores from the start to the end that were read
-forward_named : (over_time_lem : Bool) (p : Plan) (i s e : ℕ) (x : Naming) → (over_time_lem ≡ true → s < e) → plan_of p ≡ numbered i s e x → Forward over_time_lem p
-forward_named over_time_lem Nothing i s e x h q = tt
-forward_named over_time_lem (Refuse r) i s e x h q = tt
-forward_named over_time_lem (Store i' s' e' n new from to) i s e (Old k) h q =
+forward_named : (over_time : Bool) (p : Plan) (i s e : ℕ) (x : Naming) → (over_time ≡ true → s < e) → plan_of p ≡ numbered i s e x → Forward over_time p
+forward_named over_time Nothing i s e x h q = tt
+forward_named over_time (Refuse r) i s e x h q = tt
+forward_named over_time (Store i' s' e' n new from to) i s e (Old k) h q =
     let a : s' ≡ s = cc in
     let b : e' ≡ e = cc in
     λ o. omega (arith, h o)
-forward_named over_time_lem (Store i' s' e' n new from to) i s e (New k) h q =
+forward_named over_time (Store i' s' e' n new from to) i s e (New k) h q =
     let a : s' ≡ s = cc in
     let b : e' ≡ e = cc in
     λ o. omega (arith, h o)
-forward_named over_time_lem (Store i' s' e' n new from to) i s e (NotNamed r) h q = let z : ◌≡◌ {A = ℕ} 0 1 = cc in absurd (omega arith)
+forward_named over_time (Store i' s' e' n new from to) i s e (NotNamed r) h q = let z : ◌≡◌ {A = ℕ} 0 1 = cc in absurd (omega arith)
 
 abbrev asking : Bool → List ℕ → List ℕ → List ℕ → ℕ → ℕ → Mapped → Wanted
-asking over_time_lem bytes ends rec names name_bytes m = wanted over_time_lem bytes ends names name_bytes (name_in rec) m
+asking over_time bytes ends rec names name_bytes m = wanted over_time bytes ends names name_bytes (name_in rec) m
 
-module _ (over_time_lem : Bool) (bytes ends rec : List ℕ) (names name_bytes : ℕ) {a : Mapping} (e : mapping_of a ≡ mapped_of (length rec) (mapped_in rec)) where
-  pub asked_other : a ≡ Other → nothing ≡ asking over_time_lem bytes ends rec names name_bytes (mapped_in rec)
+module _ (over_time : Bool) (bytes ends rec : List ℕ) (names name_bytes : ℕ) {a : Mapping} (e : mapping_of a ≡ mapped_of (length rec) (mapped_in rec)) where
+  pub asked_other : a ≡ Other → nothing ≡ asking over_time bytes ends rec names name_bytes (mapped_in rec)
   unfolding wanted
-  asked_other f = ap (asking over_time_lem bytes ends rec names name_bytes) (sym (mapped_other (length rec) (mapped_in rec) (sym (ap mapping_of f) ∙ e)))
+  asked_other f = ap (asking over_time bytes ends rec names name_bytes) (sym (mapped_other (length rec) (mapped_in rec) (sym (ap mapping_of f) ∙ e)))
 
-  pub asked_refused : {r : Refusal} → a ≡ NotRead r → refuses (refused r) ≡ asking over_time_lem bytes ends rec names name_bytes (mapped_in rec)
+  pub asked_refused : {r : Refusal} → a ≡ NotRead r → refuses (refused r) ≡ asking over_time bytes ends rec names name_bytes (mapped_in rec)
   unfolding wanted
   asked_refused {r} f =
       let g : refused r ≡ mapped_of (length rec) (mapped_in rec) = sym (ap mapping_of f) ∙ e in
       let m = mapped_refused (length rec) (mapped_in rec) r g in
-      ap refuses (g ∙ ap (mapped_of (length rec)) m.1) ∙ ap (asking over_time_lem bytes ends rec names name_bytes) (sym m.1)
+      ap refuses (g ∙ ap (mapped_of (length rec)) m.1) ∙ ap (asking over_time bytes ends rec names name_bytes) (sym m.1)
 
   module _ {i s t from to : ℕ} (f : a ≡ Symbol i s t from to) where
     asked : (mapped_in rec ≡ symbol i s t) × (from ≡ 32) × (to ≡ length rec)
@@ -181,39 +181,39 @@ module _ (over_time_lem : Bool) (bytes ends rec : List ℕ) (names name_bytes : 
       named : {v : Bool} → is_name (slice from to rec) ≡ v → is_name (name_in rec) ≡ v
       named h = ap is_name (sym asked_part.2) ∙ h
 
-      pub asked_bad : not b ≡ true → refuses (refused BadName) ≡ asking over_time_lem bytes ends rec names name_bytes (mapped_in rec)
+      pub asked_bad : not b ≡ true → refuses (refused BadName) ≡ asking over_time bytes ends rec names name_bytes (mapped_in rec)
       unfolding wanted
-      asked_bad h = sym (ap (asking over_time_lem bytes ends rec names name_bytes) asked.0 ∙ rw (named (fails g h)) refl)
+      asked_bad h = sym (ap (asking over_time bytes ends rec names name_bytes) asked.0 ∙ rw (named (fails g h)) refl)
 
       module _ (h : not b ≡ false) where
-        pub asked_point : not over_time_lem ≡ true → {w : Wanted} → w ≡ numbered i s t (numbering_in bytes ends names name_bytes (name_in rec)) → w ≡ asking over_time_lem bytes ends rec names name_bytes (mapped_in rec)
+        pub asked_point : not over_time ≡ true → {w : Wanted} → w ≡ numbered i s t (numbering_in bytes ends names name_bytes (name_in rec)) → w ≡ asking over_time bytes ends rec names name_bytes (mapped_in rec)
         unfolding wanted
-        asked_point o v = v ∙ sym (ap (asking over_time_lem bytes ends rec names name_bytes) asked.0 ∙ rw (named (holds g h), fails {f = over_time_lem} refl o) refl)
+        asked_point o v = v ∙ sym (ap (asking over_time bytes ends rec names name_bytes) asked.0 ∙ rw (named (holds g h), fails {f = over_time} refl o) refl)
 
-        module _ (o : not over_time_lem ≡ false) where
-          pub asked_reversed : t < s → refuses (refused Reversed) ≡ asking over_time_lem bytes ends rec names name_bytes (mapped_in rec)
+        module _ (o : not over_time ≡ false) where
+          pub asked_reversed : t < s → refuses (refused Reversed) ≡ asking over_time bytes ends rec names name_bytes (mapped_in rec)
           unfolding wanted
-          asked_reversed l = sym (ap (asking over_time_lem bytes ends rec names name_bytes) asked.0 ∙ rw (named (holds g h), holds {f = over_time_lem} refl o, lt-ltb t s l) refl)
+          asked_reversed l = sym (ap (asking over_time bytes ends rec names name_bytes) asked.0 ∙ rw (named (holds g h), holds {f = over_time} refl o, lt-ltb t s l) refl)
 
-          pub asked_empty : s ≤ t → t ≤ s → nothing ≡ asking over_time_lem bytes ends rec names name_bytes (mapped_in rec)
+          pub asked_empty : s ≤ t → t ≤ s → nothing ≡ asking over_time bytes ends rec names name_bytes (mapped_in rec)
           unfolding wanted
           asked_empty l m =
               let same : s ≡ t = omega arith in
-              sym (ap (asking over_time_lem bytes ends rec names name_bytes) asked.0 ∙ rw (named (holds g h), holds {f = over_time_lem} refl o, le-ltb t s l, eq-eqb s t same) refl)
+              sym (ap (asking over_time bytes ends rec names name_bytes) asked.0 ∙ rw (named (holds g h), holds {f = over_time} refl o, le-ltb t s l, eq-eqb s t same) refl)
 
-          pub asked_symbol : s < t → {w : Wanted} → w ≡ numbered i s t (numbering_in bytes ends names name_bytes (name_in rec)) → w ≡ asking over_time_lem bytes ends rec names name_bytes (mapped_in rec)
+          pub asked_symbol : s < t → {w : Wanted} → w ≡ numbered i s t (numbering_in bytes ends names name_bytes (name_in rec)) → w ≡ asking over_time bytes ends rec names name_bytes (mapped_in rec)
           unfolding wanted
           asked_symbol l v =
               let apart : s ≢ t = omega arith in
-              v ∙ sym (ap (asking over_time_lem bytes ends rec names name_bytes) asked.0 ∙ rw (named (holds g h), holds {f = over_time_lem} refl o, le-ltb t s (omega arith), ne_eqb s t apart) refl)
+              v ∙ sym (ap (asking over_time bytes ends rec names name_bytes) asked.0 ∙ rw (named (holds g h), holds {f = over_time} refl o, le-ltb t s (omega arith), ne_eqb s t apart) refl)
 
     module _ (p : Plan) (q : plan_of p ≡ numbered i s t (numbering_in bytes ends names name_bytes (name_in rec))) where
-      pub point_forward : not over_time_lem ≡ true → Forward over_time_lem p
+      pub point_forward : not over_time ≡ true → Forward over_time p
       point_forward o =
-          forward_named over_time_lem p i s t (numbering_in bytes ends names name_bytes (name_in rec)) (λ y. absurd (false≢true (sym (fails {f = over_time_lem} refl o) ∙ y))) q
+          forward_named over_time p i s t (numbering_in bytes ends names name_bytes (name_in rec)) (λ y. absurd (false≢true (sym (fails {f = over_time} refl o) ∙ y))) q
 
-      pub time_forward : s < t → Forward over_time_lem p
-      time_forward l = forward_named over_time_lem p i s t (numbering_in bytes ends names name_bytes (name_in rec)) (λ y. l) q
+      pub time_forward : s < t → Forward over_time p
+      time_forward l = forward_named over_time p i s t (numbering_in bytes ends names name_bytes (name_in rec)) (λ y. l) q
 
 -- ---- the tests of memory, table and list
 

@@ -1,12 +1,12 @@
 -- Entries and bytes determine each other: stores at different places commute, what is stored is read back, and storing what
 -- stands there changes nothing. Assumes nothing.
 use Rattle.std.specs.Prelude.{◌≡◌, refl, ◌≢◌, ℕ, zero, suc, ◌+◌, ◌-◌, ◌*◌, ◌/◌, ◌%◌, ◌^◌, ◌≤◌, ◌<◌, List, [], ◌∷◌, ◌++◌, length, get_or, set, take, drop}
-use Rattle.std.proofs.Common.{sym, ap, ◌∙◌, not-suc-le-zero, add-zero, add-one, arith, length-append}
+use Rattle.std.proofs.Common.{sym, ap, ◌∙◌, not-suc-le-zero, add-zero, add-one, arith}
 use Rattle.std.proofs.Math.Nat.{sub-zero}
 use Rattle.std.proofs.lemmas.List.{set_comm, set-get_or}
-use Rattle.theory.specs.Fields.{field, put_field, Agree, Bytes, field_same, length_put, put_byte, put_same, put_other, field_below}
+use Rattle.theory.specs.Fields.{field, put_field, Bytes, field_same, length_put, put_byte, put_same, put_other, field_below}
 use Rattle.map_point.specs.declared.entries.Entry.{Entry}
-use Rattle.map_point.specs.Entries.{entry_at, entries_from, entries, put_entry, put_entries}
+use Rattle.map_point.specs.Entries.{entry_at, entries_from, put_entry, put_entries}
 
 -- ---- fields
 

@@ -1,14 +1,13 @@
 -- Point-in-time tables as lists of entries: setting an entry keeps them well-formed, the latest entry of an instrument decides,
 -- other instruments' entries stay; and the same by places, as a binary search finds them. Assumes nothing.
-use Rattle.std.specs.Prelude.{◌≡◌, refl, ◌≢◌, ℕ, zero, suc, ◌+◌, ◌-◌, ◌*◌, ◌/◌, ◌%◌, ◌≤◌, ◌<◌, Bool, true, false, not, ◌&&◌, cond, List, [], ◌∷◌, ◌++◌, length, get_or, set, take, drop, T, ltb, leb, eqb}
-use Rattle.std.proofs.Common.{sym, ap, subst, ◌∙◌, arith, lt→ltb, le-leb, leb-true, eq-eqb, ne_eqb}
+use Rattle.std.specs.Prelude.{◌≡◌, refl, ◌≢◌, ℕ, zero, suc, ◌+◌, ◌≤◌, ◌<◌, true, cond, List, [], ◌∷◌, ◌++◌, length, get_or, set, take, drop, T, ltb, eqb}
+use Rattle.std.proofs.Common.{sym, ap, subst, ◌∙◌, arith, lt→ltb}
 use Rattle.std.proofs.Math.Option.{Option, none, some}
 use Rattle.std.proofs.Math.Dec.{eqb_refl, not_T}
 use Rattle.std.proofs.Math.Facts.{ltb_yes, eqb_yes}
-use Rattle.std.proofs.lemmas.Bool.{lt-leb}
 use Rattle.theory.specs.RunsTools.{cond_yes, cond_no, cond_lt, cond_ge, T_and, T_fst, T_snd, Order, less, equal, more, order}
 use Rattle.map_point.specs.declared.entries.Entry.{Entry}
-use Rattle.map_point.specs.Points.{ahead, rising, all_known, well_formed, symbol_for, set_entry, points_fit}
+use Rattle.map_point.specs.Points.{ahead, rising, all_known, symbol_for, set_entry}
 
 -- ---- the three ways of setting an entry
 

@@ -1,5 +1,5 @@
 -- Mapping calls computed: the smallest inputs at each border of the rules' order. Assumes nothing.
-use Rattle.std.specs.Prelude.{◌≡◌, refl, ℕ, ◌+◌, ◌*◌, ◌/◌, true, false, List, [], ◌∷◌, ◌++◌, length, replicate}
+use Rattle.std.specs.Prelude.{◌≡◌, refl, ℕ, ◌+◌, ◌*◌, ◌/◌, true, List, [], ◌∷◌, ◌++◌, length, replicate}
 use Rattle.theory.specs.Answer.{answer}
 use Rattle.theory.specs.Fields.{field, put_field}
 use Rattle.leaves.specs.Frame.{mapped_in}
@@ -23,13 +23,13 @@ mapping start end name =
 
 -- on an empty table over time with room for no interval, and a list with room for one name of 4 bytes: stored; start = end and
 -- a missing start with end 0 are done; reversed gets 1, with a name that is not UTF-8 4
-over_time_lem : (time_judged [] 0 (replicate 4 0) (0 ∷ []) 0 0 (mapping 5 9 (65 ∷ [])) ≡ stores 7 5 9 0 true)
+over_time : (time_judged [] 0 (replicate 4 0) (0 ∷ []) 0 0 (mapping 5 9 (65 ∷ [])) ≡ stores 7 5 9 0 true)
     × (time_judged [] 0 (replicate 4 0) (0 ∷ []) 0 0 (mapping 5 5 (65 ∷ [])) ≡ nothing)
     × (time_judged [] 0 (replicate 4 0) (0 ∷ []) 0 0 (mapping 255 0 (65 ∷ [])) ≡ nothing)
     × (time_judged [] 0 (replicate 4 0) (0 ∷ []) 0 0 (mapping 9 5 (65 ∷ [])) ≡ refuses (answer 1 []))
     × (time_judged [] 0 (replicate 4 0) (0 ∷ []) 0 0 (mapping 9 5 (255 ∷ [])) ≡ refuses (answer 4 []))
 unfolding time_judged wanted judged table_fits room_fits list_fits wellFormedRows ordered allKnownRows rows_from wellFormedNames stand_from name_start mapped_in field is_name is_utf8 from_2 within utf8_2 numbering least names_of names_from name_of same hasNameRoom mapping
-over_time_lem = (refl, refl, refl, refl, refl)
+over_time = (refl, refl, refl, refl, refl)
 
 -- with no room for a name: 1 comes before 5
 over_time_full : (time_judged [] 0 [] [] 0 0 (mapping 9 5 (65 ∷ [])) ≡ refuses (answer 1 []))

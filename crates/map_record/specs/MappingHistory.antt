@@ -39,10 +39,10 @@ named new n = cond new (New n) (Old n)
 
 -- the table fits and is well-formed, over time the stretch is not empty, the name's number is known once it has joined, and is
 -- what naming says
-pub record Passed (over_time_lem lent well : Bool) (bytes ends : List ℕ) (names name_bytes : ℕ) (name : List ℕ) (s e n : ℕ) (new : Bool) : Type 0 where
+pub record Passed (over_time lent well : Bool) (bytes ends : List ℕ) (names name_bytes : ℕ) (name : List ℕ) (s e n : ℕ) (new : Bool) : Type 0 where
   pub fits : lent ≡ true
   pub formed : well ≡ true
-  pub forward : over_time_lem ≡ true → s < e
+  pub forward : over_time ≡ true → s < e
   pub known : n < names_then new names
   pub few : names_then new names ≤ 4096
   pub naming_is : naming bytes ends names name_bytes name ≡ named new n
@@ -105,20 +105,20 @@ named_so : (bytes ends : List ℕ) (names name_bytes : ℕ) (name : List ℕ) �
 unfolding naming numbering_in
 named_so bytes ends names name_bytes name m w v = rw (m, w, v) refl
 
-wanted_known : (over_time_lem : Bool) (bytes ends : List ℕ) (names name_bytes : ℕ) (name : List ℕ) (m : Mapped) {i s e n : ℕ} {new : Bool} → names ≤ 4096
-    → wanted over_time_lem bytes ends names name_bytes name m ≡ stores i s e n new
-    → (over_time_lem ≡ true → s < e) × (n < names_then new names) × (names_then new names ≤ 4096) × (is_name name ≡ true) × (numbering_in bytes ends names name_bytes name ≡ named new n)
+wanted_known : (over_time : Bool) (bytes ends : List ℕ) (names name_bytes : ℕ) (name : List ℕ) (m : Mapped) {i s e n : ℕ} {new : Bool} → names ≤ 4096
+    → wanted over_time bytes ends names name_bytes name m ≡ stores i s e n new
+    → (over_time ≡ true → s < e) × (n < names_then new names) × (names_then new names ≤ 4096) × (is_name name ≡ true) × (numbering_in bytes ends names name_bytes name ≡ named new n)
 unfolding wanted numbering_in
-wanted_known over_time_lem bytes ends names name_bytes name other few h = let z : ◌≡◌ {A = ℕ} 0 1 = cc in absurd (omega arith)
-wanted_known over_time_lem bytes ends names name_bytes name (not_one reason) few h = let z : ◌≡◌ {A = ℕ} 0 1 = cc in absurd (omega arith)
-wanted_known over_time_lem bytes ends names name_bytes name (symbol j a b) {s = s} {e = e} few h =
+wanted_known over_time bytes ends names name_bytes name other few h = let z : ◌≡◌ {A = ℕ} 0 1 = cc in absurd (omega arith)
+wanted_known over_time bytes ends names name_bytes name (not_one reason) few h = let z : ◌≡◌ {A = ℕ} 0 1 = cc in absurd (omega arith)
+wanted_known over_time bytes ends names name_bytes name (symbol j a b) {s = s} {e = e} few h =
     let number = numbered j a b (numbering_in bytes ends names name_bytes name) in
-    let rest = cond (over_time_lem && eqb a b) nothing number in
-    let p = chosen (is_name name) (cond (over_time_lem && ltb b a) (refuses (refused Reversed)) rest) (refused BadName) h in
-    let q = past (over_time_lem && ltb b a) (refused Reversed) rest p.1 in
-    let r = nonempty (over_time_lem && eqb a b) number q.1 in
+    let rest = cond (over_time && eqb a b) nothing number in
+    let p = chosen (is_name name) (cond (over_time && ltb b a) (refuses (refused Reversed)) rest) (refused BadName) h in
+    let q = past (over_time && ltb b a) (refused Reversed) rest p.1 in
+    let r = nonempty (over_time && eqb a b) number q.1 in
     let k = numbered_known (length bytes) (length ends) names name_bytes (length name) _ j a b few r.1 in
-    let forward : over_time_lem ≡ true → s < e = λ o.
+    let forward : over_time ≡ true → s < e = λ o.
     let le : a ≤ b = ltb-false b a (rw o at q.0) in
     let ne : a ≢ b = eqb-false a b (rw o at r.0) in
     omega (arith, k.2, k.3)
@@ -126,18 +126,18 @@ wanted_known over_time_lem bytes ends names name_bytes name (symbol j a b) {s = 
     (forward, k.0, k.1, p.0, numbered_is (numbering_in bytes ends names name_bytes name) j a b r.1)
 
 -- a call that stores has passed every test
-pub passed : (over_time_lem fits well : Bool) (bytes ends : List ℕ) (names name_bytes : ℕ) (name : List ℕ) (m : Mapped) {i s e n : ℕ} {new : Bool}
-    → judged fits well bytes ends names name_bytes (wanted over_time_lem bytes ends names name_bytes name m) ≡ stores i s e n new
-    → Passed over_time_lem fits well bytes ends names name_bytes name s e n new
+pub passed : (over_time fits well : Bool) (bytes ends : List ℕ) (names name_bytes : ℕ) (name : List ℕ) (m : Mapped) {i s e n : ℕ} {new : Bool}
+    → judged fits well bytes ends names name_bytes (wanted over_time bytes ends names name_bytes name m) ≡ stores i s e n new
+    → Passed over_time fits well bytes ends names name_bytes name s e n new
 unfolding judged
-passed over_time_lem fits well bytes ends names name_bytes name m h =
-    let w = wanted over_time_lem bytes ends names name_bytes name m in
+passed over_time fits well bytes ends names name_bytes name m h =
+    let w = wanted over_time bytes ends names name_bytes name m in
     let lent = list_fits (length bytes) (length ends) names name_bytes in
     let list_ok = wellFormedNames bytes ends names name_bytes in
     let p = chosen (fits && lent) (cond (well && list_ok) w (refuses (refused IllFormed))) (refused BadMemory) h in
     let q = chosen (well && list_ok) w (refused IllFormed) p.1 in
     let l : Memory (length bytes) (length ends) names name_bytes = memory _ _ _ _ (and_right fits lent p.0) in
-    let k = wanted_known over_time_lem bytes ends names name_bytes name m (omega (arith, l.held, l.few)) q.1 in
+    let k = wanted_known over_time bytes ends names name_bytes name m (omega (arith, l.held, l.few)) q.1 in
     record {
       fits = and_left fits lent p.0;
       formed = and_left well list_ok q.0;

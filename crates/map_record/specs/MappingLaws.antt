@@ -24,7 +24,7 @@ use Rattle.map_point.specs.EntriesLaws.{length_entries}
 use Rattle.map_point.specs.Points.{rising, all_known, well_formed, set_entry, points_fit, points_checked, has_room, stored_answer, stored_bytes, used_then, entries_then}
 use Rattle.map_point.specs.PointsReads.{fit_bytes}
 use Rattle.map_point.specs.PointsSteps.{Stores}
-use Rattle.map_plan.specs.Wanted.{Wanted, wanted, judged_by, plan_of, Lies, Placed, Forward, Formed}
+use Rattle.map_plan.specs.Wanted.{wanted, judged_by, plan_of, Lies, Placed, Forward, Formed}
 use Rattle.map_plan.specs.WantedLaws.{judged_same}
 use Rattle.map_plan.specs.declared.planning.Plan.{Plan}
 use Rattle.map_plan.specs.declared.planning.Plan.TheVariants.{Nothing, Store, Refuse}

@@ -1,6 +1,6 @@
 -- How many streams the heap holds is fixed by the streams' marks, so that `next` answers one number: both heaps hold the streams
 -- that are not gone, each once. Assumes nothing.
-use Rattle.std.specs.Prelude.{◌≡◌, refl, ◌≢◌, ℕ, zero, suc, ◌≤◌, ◌<◌, List, get_or}
+use Rattle.std.specs.Prelude.{◌≡◌, ◌≢◌, ℕ, zero, suc, ◌≤◌, ◌<◌, List}
 use Rattle.std.proofs.Common.{sym, ap, ◌∙◌, zero-le, arith}
 use Rattle.std.proofs.Math.Decide.{dec_lt, ℕ_discrete}
 use Rattle.records_rules.specs.Heap.{at}

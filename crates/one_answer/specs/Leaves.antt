@@ -1,6 +1,6 @@
 -- The answers of `leaves`: two that say the same number and the same values are one answer. (Frames and mapping records: leaves,
 -- FrameLaws.) Assumes nothing.
-use Rattle.std.specs.Prelude.{◌≡◌, refl, ℕ, List, [], ◌∷◌}
+use Rattle.std.specs.Prelude.{◌≡◌, refl, ℕ, List}
 use Rattle.std.proofs.Common.{sym, ap, arith}
 use Rattle.theory.specs.Answer.{answer}
 use Rattle.leaves.specs.Refusal.{number_of, refused}

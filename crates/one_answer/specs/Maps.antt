@@ -1,6 +1,6 @@
 -- The answers of `map_time`, of the comparison and of the mapping call: two that say the same number and the same values are one answer. Assumes nothing.
 use Rattle.std.specs.Prelude.{◌≡◌, refl, ℕ}
-use Rattle.std.proofs.Common.{sym, ap, ap₂, ◌∙◌, arith}
+use Rattle.std.proofs.Common.{sym, ap, arith}
 use Rattle.leaves.specs.RefusalLaws.{refused_one}
 use Rattle.map_table.specs.Table.{checked_of}
 use Rattle.map_time.specs.Insert.{inserted_of}

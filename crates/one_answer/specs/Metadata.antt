@@ -1,5 +1,5 @@
 -- The answers of the metadata merge: a header is its numbers, so that two answers that say the same are one. Assumes nothing.
-use Rattle.std.specs.Prelude.{◌≡◌, refl, ℕ, Bool, true, false, List, [], ◌∷◌, eqb, get_or}
+use Rattle.std.specs.Prelude.{◌≡◌, refl, ℕ, Bool, true, false, List, eqb, get_or}
 use Rattle.std.proofs.Common.{sym, ap, ◌∙◌}
 use Rattle.theory.specs.Answer.{answer}
 use Rattle.leaves.specs.RefusalLaws.{refused_one}

@@ -1,7 +1,6 @@
 -- Loop: the words passed are laid, and the length stays. Assumes nothing.
 use native.Mathlib.Omega.{arith}
 use mathlib.Core.Path.{refl, ◌∙◌}
-use Prim.Native.Nat.{◌-◌}
 use lib.ListN.{length, length-set}
 use lib.Seq.{paste-zero}
 use Rattle.metadata_words.specs.Over.{copy_turn}

@@ -1,7 +1,6 @@
 -- Loop: what is left from a place on decides. Assumes nothing.
 use native.Mathlib.Omega.{arith}
 use mathlib.Core.Path.{refl, ◌∙◌}
-use Prim.Native.Nat.{◌-◌}
 use Rattle.door_answers.specs.HeaderLaws.{within_unequal, within_over, within_on, within_end}
 use Rattle.door_answers.proofs.header.is_within.Goals as goal
 

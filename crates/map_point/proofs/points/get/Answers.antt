@@ -1,5 +1,6 @@
 -- In a sorted table the search gives the instrument's place, and the entry there is its only one. Assumes nothing.
-use mathlib.Core.Path.{refl}
+use mathlib.Core.Bool.{not}
+use mathlib.Core.Path.{refl, ap}
 use Rattle.map_point.specs.PointsReads.{fit_in_lem, get_memory, get_unfit, get_within, get_nothing, get_symbol}
 use borrow.Author.Rules.{rules}
 use Rattle.map_point.proofs.points.get.Goals as goal
@@ -9,7 +10,7 @@ returns-then-not-points_fit c =
     let a = c.args in
     record {
       right = search (rules, get_memory);
-      accepted = get_unfit a.table.now a.used c.points_fit.ensures c.if-not-points_fit.true-raw;
+      accepted = get_unfit a.table.now a.used c.points_fit.ensures (ap not c.if-not-points_fit.true);
     }
 
 pub place_of-place-requires : goal.place_of-place-requires

@@ -1,5 +1,4 @@
 -- The invariant: the entry before the lower end is below the instrument, the one at the upper end is not. Assumes nothing.
-use Prim.Native.Nat.{◌-◌}
 use Rattle.theory.specs.Bracket.{bracket_all, bracket_up, bracket_down}
 use Rattle.map_point.specs.PointsReads.{instrument_at_lem, bracket_placed}
 use borrow.Author.Rules.{rules}

@@ -1,5 +1,4 @@
 -- The invariant: the check from the place on is the whole check. Assumes nothing.
-use Prim.Native.Nat.{◌-◌}
 use Rattle.map_point.specs.PointsReads.{left_start, left_on, left_fault, left_end}
 use borrow.Author.Rules.{rules}
 use Rattle.map_point.proofs.points.well_formed.Goals as goal
