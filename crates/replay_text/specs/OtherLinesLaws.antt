@@ -1,14 +1,13 @@
 -- The complaint put to rest in the replay's text (RULES, Requests, No. 11): where two bundles are alike but for the stream p, the lines
 -- that are not p's are the same, in order. A number's digits hold no blank and no newline and say one number. Assumes nothing.
-use Rattle.std.specs.Prelude.{◌≡◌, refl, ◌≢◌, ℕ, zero, suc, ◌+◌, ◌-◌, ◌*◌, ◌/◌, ◌%◌, ◌≤◌, ◌<◌, Bool, true, false, ◌&&◌, cond, List, [], ◌∷◌, ◌++◌, map, length, get_or, replicate, eqb}
+use Rattle.std.specs.Prelude.{◌≡◌, refl, ◌≢◌, ℕ, zero, suc, ◌+◌, ◌-◌, ◌*◌, ◌/◌, ◌%◌, ◌≤◌, ◌<◌, Bool, true, false, ◌&&◌, cond, List, [], ◌∷◌, ◌++◌, map, length, replicate, eqb}
 use Rattle.std.proofs.Common.{sym, ap, ◌∙◌, arith, append_assoc, eq-eqb, ne_eqb, eqb-true, lt-ltb, le-ltb}
 use Rattle.std.proofs.Math.Decide.{ℕ_discrete, dec_lt}
 use Rattle.std.proofs.Math.Option.{some}
 use Rattle.std.proofs.lemmas.List.{length-map}
-use Rattle.records_rules.specs.Machine.{Stream, Said, record_at_lem, damage_at, Answer, says, end}
+use Rattle.records_rules.specs.Machine.{Said, record_at_lem, damage_at, Answer, says, end}
 use Rattle.records_rules.specs.Bytes.{bytes_of}
 use Rattle.records_rules.specs.Whole.{run}
-use Rattle.records_rules.specs.Literal.{literal_run}
 use Rattle.records_rules.proofs.Literal.{told_run}
 use Rattle.records_rules.specs.Others.{others, records, reports}
 use Rattle.records_rules.proofs.OthersLaws.{complaint, run_counts}

@@ -1,6 +1,6 @@
 -- The whole text of a bundle's replay (RULES, Merging records): a line for each answer of the merge, "No hints are given",
 -- and for a bad bundle "only the line `bad bundle`".
-use Rattle.std.specs.Prelude.{ℕ, ◌*◌, ◌+◌, cond, List, [], ◌∷◌, ◌++◌, length, get_or, replicate, ltb}
+use Rattle.std.specs.Prelude.{ℕ, ◌*◌, cond, List, [], ◌∷◌, ◌++◌, length, get_or, replicate, ltb}
 use Rattle.std.proofs.Math.Option.{Option, none, some}
 use Rattle.theory.specs.Answer as theory
 use Rattle.leaves.specs.Refusal.{refused}

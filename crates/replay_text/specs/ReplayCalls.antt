@@ -5,7 +5,7 @@ use Rattle.std.proofs.Math.ListN.{take}
 use borrow.Author.Tests.{le-leb, eq-eqb, lt-ltb, le-ltb}
 use Rattle.std.proofs.Math.Option.{none}
 use Rattle.theory.specs.Answer as theory
-use Rattle.records_rules.specs.Machine.{answer, start}
+use Rattle.records_rules.specs.Machine.{start}
 use Rattle.records_rules.specs.Bytes.{streams_of}
 use Rattle.records_rules.specs.State.{rise_to, right_streams}
 use Rattle.lines.specs.Sections.{streams_in, Apart}

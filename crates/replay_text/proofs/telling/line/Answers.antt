@@ -1,15 +1,11 @@
 -- Each answer of the code that is the machine's has that answer's line; no refusal but damage is one. Assumes nothing.
 use native.Mathlib.Omega.{arith}
 use mathlib.Core.Path.{◌≡◌, sym, ap, ◌∙◌}
-use mathlib.Core.List.{List, [], ◌∷◌}
 use Prim.Native.Nat.{ℕ}
-use types.Run.{OneOf, miss}
-use denote.Enum.Declared.{tag_of}
 use Rattle.leaves.specs.Refusal.{refused}
 use Rattle.leaves.specs.RefusalLaws.{refused_not_done, refused_one}
 use Rattle.leaves.specs.declared.refusal.Refusal.{Refusal}
 use Rattle.leaves.specs.declared.refusal.Refusal.TheVariants.{Damaged}
-use Rattle.leaves.specs.contracts.refusal.Refusal.{the_type}
 use Rattle.records_rules.specs.Machine.{Answer, says, end, record_at_lem, damage_at}
 use Rattle.records_rules.specs.State.{answer_of}
 use Rattle.records.specs.Merge.{turn_of}
@@ -17,14 +13,11 @@ use Rattle.lines.specs.Lines.{end_line}
 use Rattle.replay_text.specs.Telling.{line_record, line_end, line_damage}
 use Rattle.replay_text.proofs.telling.line.Goals as goal
 
--- the tags of the refusals that are no damage
-abbrev others : List ℕ
-others = 0 ∷ 1 ∷ 2 ∷ 3 ∷ 4 ∷ 5 ∷ 6 ∷ 7 ∷ 8 ∷ 9 ∷ 10 ∷ 11 ∷ 13 ∷ 14 ∷ []
-
 -- no refusal but damage is an answer of the machine
-never : (x : Answer) (r : Refusal) → OneOf others (tag_of the_type r) → refused r ≡ answer_of x → ⊥
+never : (x : Answer) (r : Refusal)
+    → ((p a k : ℕ) → r ≡ Damaged p a k → ⊥) → refused r ≡ answer_of x → ⊥
 never (says p (record_at_lem a c)) r o e = refused_not_done r (cc)
-never (says p (damage_at a k)) r o e = miss others 12 tt (rw (refused_one r (Damaged p a k) e) at o)
+never (says p (damage_at a k)) r o e = o p a k (refused_one r (Damaged p a k) e)
 never end r o e = refused_not_done r (cc)
 
 pub returns-in-Record : goal.returns-in-Record
@@ -49,5 +42,4 @@ returns-in-Damaged c =
 pub returns-in_default : goal.returns-in_default
 returns-in_default c =
     λ x e.
-    let a = c.answer-in-Refused-1.given in
-    absurd (never x a.0.0 c.in-Damaged.keys2 (ap turn_of (sym a.1) ∙ e))
+    absurd (never x c.in-Refused.refusal c.in_default.not-Damaged (ap turn_of (sym c.in-Refused.is) ∙ e))

@@ -2,7 +2,6 @@
 -- Assumes nothing.
 use native.Mathlib.Omega.{arith}
 use mathlib.Core.Path.{◌∙◌}
-use Prim.Native.Nat.{◌-◌}
 use Rattle.replay_text.specs.Telling.{stepping_start, stepping_more, stepping_last}
 use Rattle.replay_text.proofs.telling.steps.Goals as goal
 

@@ -8,14 +8,13 @@ use Rattle.replay_text.proofs.telling.tell_opened.Goals as goal
 pub steps-requires : goal.steps-requires
 steps-requires c =
     let o = c.open_by-opening in
-    let m = c.pre in
+    let m = c.requires in
     let e = opening_held m (ap opening_of (sym c.in-Opened.is) ∙ o.ensures.answers) in
-    opened_ready m (o.ensures.opened m.right) e o.kept.1.1.1.1.0 o.kept.1.1.1.1.1.0 o.kept.1.1.1.1.1.1.0
-    o.kept.1.1.1.1.1.1.1.0 o.kept.1.1.1.1.1.1.1.1.0
+    opened_ready m (o.ensures.opened m.right) e o.auto.marks o.auto.times o.auto.places o.auto.heads o.auto.heap
 
 pub returns-in-Opened : goal.returns-in-Opened
 returns-in-Opened c =
-    let m = c.pre in
+    let m = c.requires in
     rw (sym (opened_starts m (c.open_by-opening.ensures.opened m.right))) c.steps.ensures
 
 pub returns-in-Refused : goal.returns-in-Refused
