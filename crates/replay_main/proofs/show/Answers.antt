@@ -2,8 +2,6 @@
 -- status. Assumes nothing.
 use lib.Seq.{length-take-le}
 use mathlib.Core.Path.{refl, sym, ap, ◌∙◌}
-use Prim.Native.Nat.{◌≤◌}
-use lib.ListN.{length}
 use Rattle.replay_text.specs.Replay.{replayed_of}
 use Rattle.replay_text.specs.ReplayCalls.{text_taken}
 use Rattle.replay_main.specs.Status.{text_status}
