@@ -291,7 +291,7 @@ pub fn over_time(
     ensures table_after { table.new ≡ over_time_memory table.old header
         (lists symbols.now partial.now not_found.now mappings.now intervals.now) bytes.now
         ends.now names name_bytes }
-    ensures name_bytes_after { rows table.new (length (over_time_rows table.old header
+    ensures rows_after { rows table.new (length (over_time_rows table.old header
         (lists symbols.now partial.now not_found.now mappings.now intervals.now) bytes.now
         ends.now names name_bytes)) ≡ over_time_rows table.old header
         (lists symbols.now partial.now not_found.now mappings.now intervals.now) bytes.now

@@ -18,7 +18,7 @@ returns-then-not-build_fits c =
     record {
       result_value = p.0;
       table_after = p.1.0;
-      name_bytes_after = p.1.1;
+      rows_after = p.1.1;
     }
 
 pub is_list-requires : goal.is_list-requires
@@ -38,7 +38,7 @@ returns-then-not-is_list c =
     record {
       result_value = p.0;
       table_after = p.1.0;
-      name_bytes_after = p.1.1;
+      rows_after = p.1.1;
     }
 
 pub build-requires : goal.build-requires
@@ -62,5 +62,5 @@ returns c =
     record {
       result_value = p.0;
       table_after = p.1.0;
-      name_bytes_after = p.1.1;
+      rows_after = p.1.1;
     }
