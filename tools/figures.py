@@ -1,11 +1,9 @@
 #!/usr/bin/env python3
-"""Prints docs/FIGURES.md's table: .ci/run > gate.log; python3 tools/figures.py gate.log
+"""Prints a table of what each crate holds: python3 tools/figures.py
 
-A line counts if it is neither blank nor a comment. Seconds are those that rt ci prints for a crate's check.
+A line counts if it is neither blank nor a comment.
 """
 import glob
-import re
-import sys
 
 
 def lines(pattern, comment):
@@ -17,15 +15,12 @@ def lines(pattern, comment):
     return count
 
 
-log = open(sys.argv[1], encoding="utf-8", errors="replace").read()
-crates = [line.split(":")[0] for line in open("crates.txt", encoding="utf-8") if ":" in line.split("#")[0]]
-print("| crate | seconds | code | definitions and laws | proofs | must-fail edits |")
-print("|---|---|---|---|---|---|")
-total = [0, 0, 0, 0, 0]
+crates = [line.replace(":", " ").split()[0] for line in open("crates.txt", encoding="utf-8") if ":" in line.split("#")[0]]
+print("| crate | code | definitions and laws | proofs | must-fail edits |")
+print("|---|---|---|---|---|")
+total = [0, 0, 0, 0]
 for crate in crates:
-    seconds = re.search(rf"^rt: {crate} proved \((\d+) s\)", log, re.M)
     row = [
-        int(seconds.group(1)) if seconds else 0,
         lines(f"crates/{crate}/src/**/*.rt", "//"),
         lines(f"crates/{crate}/specs/**/*.antt", "--"),
         lines(f"crates/{crate}/proofs/**/*.antt", "--"),
