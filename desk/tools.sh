@@ -6,7 +6,8 @@
 
 kit=$(dirname "$(rt doc)")
 toolchain=$kit/toolchain
-archive=crates/desk/out/libdesk.a
+archive=target/desk/libdesk.a
+parts=(desk desk_runs desk_feed_runs)
 archives=("$archive") # what a C program is linked with
 strict=(-O2 -Wall -Wextra -pedantic -Werror -Iinclude)
 if [ -n "${DESK_CC:-}" ]; then how=$DESK_CC; elif command -v cc >/dev/null; then how=cc; else how=kit; fi
@@ -20,7 +21,13 @@ make_archive() {
         if command -v flock >/dev/null; then flock 9; fi
         if is_newer "$archive"; then exit; fi
         if [ -t 2 ]; then echo 'desk: proving and building the library' >&2; fi
-        tools/library desk >target/desk/library.log 2>&1 || { cat target/desk/library.log; echo 'desk: the library failed'; exit 1; }
+        for part in "${parts[@]}"; do
+            tools/library "$part" >target/desk/library.log 2>&1 || { cat target/desk/library.log; echo "desk: the library $part failed"; exit 1; }
+        done
+        rm -f "$archive"
+        { echo "create $archive"; for part in "${parts[@]}"; do echo "addlib crates/$part/out/lib$part.a"; done; echo save; echo end; } |
+            "$toolchain/bin/llvm-ar" -M ||
+            { echo 'desk: the parts were not joined'; exit 1; }
     ) 9>target/desk/lock
 }
 
