@@ -4,8 +4,8 @@
 #![tactic(auto)]
 
 mod builds;
-mod feed;
 mod map;
+mod merge;
 mod metadata;
 mod names;
-mod records;
+mod portions;
