@@ -6,9 +6,8 @@ ghost use Rattle.door_records.specs.Merge.{numbers};
 ghost use Rattle.bench_plain.specs.Exports.{PlainOpenHands, PlainNextHands};
 
 use door_answers::DONE;
-use door_answers::damage::{place_in, reason_in, stream_in};
-use leaves::refusal::number;
-use records::merge::{Opening, Turn};
+use door_records::merge::hand_turn;
+use records_state::state::State;
 
 // Opens the streams of a buffer between its cuts, each at its hint: 0, 15 or 12; `streams` becomes the streams.
 #[unsafe(no_mangle)]
@@ -26,16 +25,12 @@ pub extern "C" fn plain_open(
         marks.old times.old places.old heads.old streams.old result streams.new
         marks.new times.new places.new heads.new }
 {
-    let opened = records_plain::plain::open(buffer, cuts, hints, marks, times, places, heads);
-    match opened {
-        Opening::Opened {
-            streams: count,
-            held: _,
-        } => {
+    match records_plain::plain::open(buffer, cuts, hints, marks, times, places, heads) {
+        Ok(count) => {
             *streams = count;
             DONE
         }
-        Opening::Refused(refusal) => number(refusal),
+        Err(refusal) => refusal.number(),
     }
 }
 
@@ -65,40 +60,16 @@ pub extern "C" fn plain_next(
         marks.new times.new places.new heads.new
         (numbers found.new stream.new place.new long.new kind.new instrument.new time.new reason.new) }
 {
-    let answer = records_plain::plain::next(buffer, cuts, streams, marks, times, places, heads);
-    match answer {
-        Turn::Record {
-            stream: s,
-            place: p,
-            length: l,
-            kind: k,
-            instrument: i,
-            time: t,
-        } => {
-            *found = 1;
-            *stream = s;
-            *place = p;
-            *long = l;
-            *kind = k;
-            *instrument = i;
-            *time = t;
-            DONE
-        }
-        Turn::End => {
-            *found = 0;
-            *stream = 0;
-            *place = 0;
-            *long = 0;
-            *kind = 0;
-            *instrument = 0;
-            *time = 0;
-            DONE
-        }
-        Turn::Refused(refusal) => {
-            *stream = stream_in(refusal, *stream);
-            *place = place_in(refusal, *place);
-            *reason = reason_in(refusal, *reason);
-            number(refusal)
-        }
-    }
+    let mut state = State {
+        held: streams,
+        marks,
+        times,
+        places,
+        heads,
+        heap: &mut [],
+    };
+    let answer = records_plain::plain::next(buffer, cuts, &mut state);
+    hand_turn(
+        answer, found, stream, place, long, kind, instrument, time, reason,
+    )
 }

@@ -1,145 +1,126 @@
--- How an interval lies to a day, and the search for the one that counts. Assumes nothing.
-use Rattle.std.specs.Prelude.{◌≡◌, refl, Bool, ◌&&◌, cond, List, ◌∷◌, leb, ltb}
+-- Whether an interval covers a day, and the search for the one that counts. Assumes nothing.
+use Rattle.std.specs.Prelude.{◌≡◌, refl, Bool, true, false, ◌&&◌, cond, List, [], ◌∷◌, leb, ltb, length, Option, Some, None, Result, Ok, Err}
 use Rattle.std.proofs.Math.Path.{sym, ap}
-use Rattle.std.proofs.Common.{◌∙◌, le-leb, lt-ltb, le-ltb}
-use Prim.Native.Nat.{ℕ, suc, ◌+◌, ◌-◌, ◌≤◌, ◌<◌}
-use native.Mathlib.Omega.{arith}
-use Rattle.std.proofs.Math.Decide.{dec_le, dec_lt}
+use Rattle.std.proofs.Common.{◌∙◌, le-leb}
 use Rattle.std.proofs.lemmas.Bool.{lt-leb}
-use Rattle.leaves.specs.Refusal.{number_of}
-use Rattle.leaves_days.specs.Days.{day_of, day_answer_of}
+use Prim.Native.Nat.{ℕ, suc, ◌+◌, ◌-◌, ◌/◌, ◌≤◌, ◌<◌}
+use native.Mathlib.Omega.{arith}
+use Rattle.theory.specs.Answer.{answer}
+use Rattle.leaves.specs.Refusal.{number_of, refused}
 use Rattle.leaves.specs.declared.refusal.Refusal.{Refusal}
-use Rattle.leaves_days.specs.declared.days.Day.{Day}
-use Rattle.leaves_days.specs.declared.days.Day.TheVariants as day-is
+use Rattle.leaves_days.specs.Days.{day_of}
 use Rattle.metadata_rules.specs.declared.Interval.{Interval}
 use Rattle.metadata_rules.specs.Words.{interval_at, stretch}
-use Rattle.build_rules.specs.Reading.{Read, fault, value, day_in}
+use Rattle.build_rules.specs.Reading.{Read, fault, value, and_then, day_in, intervals_in}
 use Rattle.build_rules.specs.ReadingLaws.{day_value, day_fault}
-use Rattle.build_rules.specs.PointInTime.{Counted, undated, none, counts, counting}
-use Rattle.build_rules.specs.PointInTimeLaws.{counting_bad_start, counting_bad_end, counting_covers, counting_early, counting_late, counting_end}
-use Rattle.build_entry.specs.declared.counted.Cover.{Cover}
-use Rattle.build_entry.specs.declared.counted.Cover.TheVariants.{Undated, Covers, Misses}
-use Rattle.build_entry.specs.declared.counted.Covering.{Covering}
-use Rattle.build_entry.specs.declared.counted.Covering.TheVariants as covering
+use Rattle.build_rules.specs.PointInTime.{Counted, undated, none, counts, counts_from, counting}
 
--- what the search answers
-abbrev pub counted_of : Covering → Counted
-counted_of (covering.Undated k) = undated k
-counted_of covering.Nothing = none
-counted_of (covering.Is k x) = counts k x
+-- whether an interval covers a day, by what the reading of its dates came to
+unfoldable pub covered : ℕ → Read ℕ → Read ℕ → Read Bool
+unfolding and_then
+covered day s e = and_then s (λ a. and_then e (λ b. value (leb a day && ltb day b)))
 
--- an interval whose dates were read
-unfoldable pub cover_of : ℕ → Read ℕ → Read ℕ → Cover
-cover_of day (fault c) b = Undated
-cover_of day (value a) (fault c) = Undated
-cover_of day (value a) (value b) = cond (leb a day && ltb day b) Covers Misses
+-- what the search finds: a date that is none (11), nothing, or an interval; with the interval's number
+abbrev pub counted_of : Result (Option (ℕ × Interval)) ℕ → Counted
+counted_of (Err k) = undated k
+counted_of (Ok None) = none
+counted_of (Ok (Some p)) = counts p.0 p.1
 
 -- ---- one interval, by what the reading of its dates answered
 
-module _ (day s e : ℕ) (x : Day) (p : day_answer_of x ≡ day_of s) where
-  pub lies_bad_start : {r : Refusal} → x ≡ day-is.Refused r → Undated ≡ cover_of day (day_in s) (day_in e)
-  unfolding cover_of
-  lies_bad_start {r} h = ap (λ (d : Read ℕ). cover_of day d (day_in e)) (day_fault s r (ap day_answer_of (sym h) ∙ p))
+module _ (day s e : ℕ) where
+  pub covered_bad_start : (r : Refusal) → refused r ≡ day_of s → fault (number_of r) ≡ covered day (day_in s) (day_in e)
+  unfolding covered and_then
+  covered_bad_start r p = ap (λ (d : Read ℕ). covered day d (day_in e)) (day_fault s r p)
 
-  module _ {a : ℕ} (h : x ≡ day-is.Number a) (y : Day) (q : day_answer_of y ≡ day_of e) where
-    started : (d : Read ℕ) → d ≡ day_in e → cover_of day (value a) d ≡ cover_of day (day_in s) (day_in e)
-    started d w = ap (cover_of day (value a)) w ∙ ap (λ (d : Read ℕ). cover_of day d (day_in e)) (day_value s (ap day_answer_of (sym h) ∙ p))
+  module _ (a : ℕ) (p : answer 0 (a ∷ []) ≡ day_of s) where
+    pub covered_bad_end : (r : Refusal) → refused r ≡ day_of e → fault (number_of r) ≡ covered day (day_in s) (day_in e)
+    unfolding covered and_then
+    covered_bad_end r q = λ i. covered day (day_value s p i) (day_fault e r q i)
 
-    pub lies_bad_end : {r : Refusal} → y ≡ day-is.Refused r → Undated ≡ cover_of day (day_in s) (day_in e)
-    unfolding cover_of
-    lies_bad_end {r} k = started (fault (number_of r)) (day_fault e r (ap day_answer_of (sym k) ∙ q))
+    covered_dated : (b : ℕ) → answer 0 (b ∷ []) ≡ day_of e → value (leb a day && ltb day b) ≡ covered day (day_in s) (day_in e)
+    unfolding covered and_then
+    covered_dated b q = λ i. covered day (day_value s p i) (day_value e q i)
 
-    module _ {b : ℕ} (k : y ≡ day-is.Number b) where
-      dated : cond (leb a day && ltb day b) Covers Misses ≡ cover_of day (day_in s) (day_in e)
-      unfolding cover_of
-      dated = started (value b) (day_value e (ap day_answer_of (sym k) ∙ q))
+    module _ (b : ℕ) (q : answer 0 (b ∷ []) ≡ day_of e) where
+      pub covered_early : day < a → value (leb a day) ≡ covered day (day_in s) (day_in e)
+      covered_early l = rw (lt-leb a day l) (rw (lt-leb a day l) at (covered_dated b q))
 
-      pub lies_early : day < a → Misses ≡ cover_of day (day_in s) (day_in e)
-      lies_early l = sym (ap (λ (t : Bool). cond (t && ltb day b) Covers Misses) (lt-leb a day l)) ∙ dated
-
-      pub lies_over : a ≤ day → day < b → Covers ≡ cover_of day (day_in s) (day_in e)
-      lies_over l u = (rw (le-leb a day l, lt-ltb day b u) at dated)
-
-      pub lies_late : a ≤ day → b ≤ day → Misses ≡ cover_of day (day_in s) (day_in e)
-      lies_late l u = (rw (le-leb a day l, le-ltb day b u) at dated)
+      pub covered_from : a ≤ day → value (ltb day b) ≡ covered day (day_in s) (day_in e)
+      covered_from l = sym (ap (λ (t : Bool). value (t && ltb day b)) (le-leb a day l)) ∙ covered_dated b q
 
 -- ---- the search
 
 -- what a cover makes of the interval of number k, where the later ones come to this
-unfoldable pub by_cover : ℕ → Interval → Cover → Counted → Counted
-by_cover k x Undated later = undated k
-by_cover k x Covers later = counts k x
-by_cover k x Misses later = later
+abbrev pub by_cover : ℕ → Interval → Read Bool → Counted → Counted
+by_cover k x (fault c) later = undated k
+by_cover k x (value true) later = counts k x
+by_cover k x (value false) later = later
 
 -- one interval's cover decides, or the later ones do
-counting_cover : (day k : ℕ) (x : Interval) (xs : List Interval) → counting day k (x ∷ xs) ≡ by_cover k x (cover_of day (day_in x.start) (day_in x.end)) (counting day (k + 1) xs)
-unfolding by_cover cover_of
-counting_cover day k x xs = go (day_in x.start) (day_in x.end) refl refl
+counting_cover : (day k : ℕ) (x : Interval) (xs : List Interval)
+    → counting day k (x ∷ xs) ≡ by_cover k x (covered day (day_in x.start) (day_in x.end)) (counting day (k + 1) xs)
+unfolding counting counts_from covered and_then
+counting_cover day k x xs = go (day_in x.start) (day_in x.end)
   where
-    by : Cover → Counted
-    by c = by_cover k x c (counting day (k + 1) xs)
+    later : Counted
+    later = counting day (k + 1) xs
 
-    go : (a b : Read ℕ) → a ≡ day_in x.start → b ≡ day_in x.end → counting day k (x ∷ xs) ≡ by (cover_of day a b)
-    go (fault c) b p q = counting_bad_start day k x xs p
-    go (value a) (fault c) p q = counting_bad_end day k x xs p q
-    go (value a) (value b) p q = first (dec_le a day)
-      where
-        last : a ≤ day → Dec (day < b) → counting day k (x ∷ xs) ≡ by (cover_of day (value a) (value b))
-        last l (yes u) = rw (le-leb a day l, lt-ltb day b u) (counting_covers day k x xs p q l u)
-        last l (no u) =
-            let u' : b ≤ day = omega arith in
-            rw (le-leb a day l, le-ltb day b u') (counting_late day k x xs p q l u')
+    dated : (b : Bool) → cond b (counts k x) later ≡ by_cover k x (value b) later
+    dated true = refl
+    dated false = refl
 
-        first : Dec (a ≤ day) → counting day k (x ∷ xs) ≡ by (cover_of day (value a) (value b))
-        first (yes l) = last l (dec_lt day b)
-        first (no l) =
-            let l' : day < a = omega arith in
-            rw (lt-leb a day l') (counting_early day k x xs p q l')
+    go : (a b : Read ℕ) → counts_from day k x a b later ≡ by_cover k x (covered day a b) later
+    go (fault c) b = refl
+    go (value a) (fault c) = refl
+    go (value a) (value b) = dated (leb a day && ltb day b)
 
 -- the search from the interval k on finds what the whole search does
-pub record Passed (v : List ℕ) (from count day k : ℕ) : Type 0 where
-  pub within : k ≤ count
-  pub same : counting day k (stretch v (from + k) (count - k)) ≡ counting day 0 (stretch v from count)
+pub record Passed (v : List ℕ) (day k : ℕ) : Type 0 where
+  pub within : k ≤ length v / 3
+  pub same : counting day k (stretch v k (length v / 3 - k)) ≡ counting day 0 (intervals_in v)
 
-module _ (v : List ℕ) (from count day : ℕ) where
-  pub passed_none : Passed v from count day 0
+module _ (v : List ℕ) (day : ℕ) where
+  pub passed_none : Passed v day 0
   passed_none =
-      let a : from + 0 ≡ from = omega arith in
-      let b : count - 0 ≡ count = omega arith in
-      record { within = omega arith; same = rw (a, b) refl }
+      let b : length v / 3 - 0 ≡ length v / 3 = omega arith in
+      record { within = omega arith; same = rw b refl }
 
-  module _ {k : ℕ} (w : Passed v from count day k) where
-    pub passed_all : count ≤ k → none ≡ counting day 0 (stretch v from count)
-    unfolding stretch
+  module _ (k : ℕ) (w : Passed v day k) where
+    pub passed_all : length v / 3 ≤ k → none ≡ counting day 0 (intervals_in v)
+    unfolding stretch counting
     passed_all h =
-        let e : count - k ≡ 0 = omega arith in
-        sym (counting_end day k) ∙ sym (ap (λ (n : ℕ). counting day k (stretch v (from + k) n)) e) ∙ w.same
+        let e : length v / 3 - k ≡ 0 = omega arith in
+        sym (ap (λ (n : ℕ). counting day k (stretch v k n)) e) ∙ w.same
 
-    module _ (h : k < count) {x : Interval} (r : x ≡ interval_at v (from + k)) {c : Cover} (q : c ≡ cover_of day (day_in x.start) (day_in x.end)) where
-      covered : by_cover k x c (counting day (k + 1) (stretch v (from + (k + 1)) (count - (k + 1)))) ≡ counting day 0 (stretch v from count)
-      unfolding stretch
-      covered =
-          let n : count - k ≡ suc (count - (k + 1)) = omega arith in
-          let m : from + k + 1 ≡ from + (k + 1) = omega arith in
-          let rest = stretch v (from + (k + 1)) (count - (k + 1)) in
-          ap (λ (c : Cover). by_cover k x c (counting day (k + 1) rest)) q
+    module _ (h : k < length v / 3) (x : Interval) (r : x ≡ interval_at v k) (c : Read Bool) (q : c ≡ covered day (day_in x.start) (day_in x.end)) where
+      abbrev rest : List Interval
+      rest = stretch v (k + 1) (length v / 3 - (k + 1))
+
+      here : by_cover k x c (counting day (k + 1) rest) ≡ counting day 0 (intervals_in v)
+      unfolding stretch counting
+      here =
+          let n : length v / 3 - k ≡ suc (length v / 3 - (k + 1)) = omega arith in
+          ap (λ (c : Read Bool). by_cover k x c (counting day (k + 1) rest)) q
           ∙ sym (counting_cover day k x rest)
           ∙ ap (λ (y : Interval). counting day k (y ∷ rest)) r
-          ∙ ap (λ (i : ℕ). counting day k (interval_at v (from + k) ∷ stretch v i (count - (k + 1)))) (sym m)
-          ∙ sym (ap (λ (j : ℕ). counting day k (stretch v (from + k) j)) n)
+          ∙ sym (ap (λ (j : ℕ). counting day k (stretch v k j)) n)
           ∙ w.same
 
-      pub passed_bad : c ≡ Undated → undated k ≡ counting day 0 (stretch v from count)
-      unfolding by_cover
-      passed_bad e = sym (ap (λ (c : Cover). by_cover k x c (counting day (k + 1) (stretch v (from + (k + 1)) (count - (k + 1))))) e) ∙ covered
+      pub passed_found : c ≡ value true → counts k x ≡ counting day 0 (intervals_in v)
+      passed_found e = sym (ap (λ (c : Read Bool). by_cover k x c (counting day (k + 1) rest)) e) ∙ here
 
-      pub passed_found : c ≡ Covers → counts k x ≡ counting day 0 (stretch v from count)
-      unfolding by_cover
-      passed_found e = sym (ap (λ (c : Cover). by_cover k x c (counting day (k + 1) (stretch v (from + (k + 1)) (count - (k + 1))))) e) ∙ covered
-
-      pub passed_one : c ≡ Misses → Passed v from count day (k + 1)
-      unfolding by_cover
+      pub passed_one : c ≡ value false → Passed v day (k + 1)
       passed_one e = record {
         within = omega arith;
-        same = sym (ap (λ (c : Cover). by_cover k x c (counting day (k + 1) (stretch v (from + (k + 1)) (count - (k + 1))))) e) ∙ covered;
+        same = sym (ap (λ (c : Read Bool). by_cover k x c (counting day (k + 1) rest)) e) ∙ here;
       }
+
+    pub passed_bad : k < length v / 3 → (x : Interval) → x ≡ interval_at v k → (n : ℕ) → fault n ≡ covered day (day_in x.start) (day_in x.end)
+        → undated k ≡ counting day 0 (intervals_in v)
+    passed_bad h x r n q = here h x r (fault n) q
+
+-- what a cover and a turn of the search come to
+pub ruleset covering = (covered_bad_start, covered_bad_end, covered_early)
+
+pub ruleset searching = (passed_none, passed_all, passed_found, passed_one)

@@ -1,100 +1,80 @@
 -- What a mapping asks of the table, by what its parts answered. Assumes nothing.
-use Rattle.std.specs.Prelude.{◌≡◌, ℕ, ◌≤◌, ◌<◌, List, [], get_or}
+use Rattle.std.specs.Prelude.{◌≡◌, ◌≢◌, ℕ, List, length}
 use Rattle.std.proofs.Math.Path.{sym, ap}
 use Rattle.std.proofs.Common.{◌∙◌}
-use Rattle.leaves.specs.Refusal.{number_of}
-use Rattle.leaves_names.specs.Names.{names_of}
-use Rattle.leaves_names.specs.NamesList.{names_length}
-use Rattle.leaves.specs.declared.refusal.Refusal.{Refusal}
 use Rattle.map_point.specs.declared.entries.Entry.{Entry}
 use Rattle.metadata_rules.specs.declared.Interval.{Interval}
 use Rattle.build_rules.specs.declared.reading.Direction.{Direction}
 use Rattle.build_rules.specs.declared.reading.Direction.TheVariants.{Forward, Inverse}
-use Rattle.build_rules.specs.declared.reading.Instrument.{Instrument}
-use Rattle.build_rules.specs.declared.reading.Instrument.TheVariants as instrument
-use Rattle.build_rules.specs.declared.reading.Symbol.{Symbol}
-use Rattle.build_rules.specs.declared.reading.Symbol.TheVariants.{Unknown, Empty, Filled}
-use Rattle.build_rules.specs.Reading.{number_in, symbol_in, instrument_read}
-use Rattle.build_rules.specs.ReadingLaws.{text_unknown, text_known}
+use Rattle.build_rules.specs.Reading.{Read, fault, value, text_of, number_in}
 use Rattle.build_rules.specs.OverTime.{Step, stop, skip, give, reading}
-use Rattle.build_rules.specs.PointInTime.{Counted, counts, point_step, numbered, number_step, name_step}
-use Rattle.build_rules.specs.PointInTimeLaws.{filled_text, step_unknown, step_empty, step_filled, name_unknown, name_known, forward_step_lem, inverse_step_lem}
-use Rattle.build_entry.specs.declared.counted.Covering.{Covering}
-use Rattle.build_entry.specs.declared.counted.Covering.TheVariants as covering
-use Rattle.build_entry.specs.declared.entry.Wanted.{Wanted}
-use Rattle.build_entry.specs.declared.entry.Wanted.TheVariants.{Refuse, Skip, Set}
-use Rattle.build_entry.specs.Counted.{counted_of}
+use Rattle.build_rules.specs.OverTimeLaws.{text_stops, text_skips, text_reads}
+use Rattle.build_rules.specs.PointInTime.{Counted, undated, none, counts, point_step, number_step, name_step, number_side, entry_of}
+use Rattle.build_rules.specs.PointInTimeLaws.{stepped, name_read}
 
--- the step that it is
-abbrev pub wanted_of : Wanted → Step Entry
-wanted_of (Refuse r) = stop (number_of r)
-wanted_of Skip = skip
-wanted_of (Set x) = give x
+-- ---- the mapping's name, then the number
 
--- ---- a number that was read
+module _ (texts : List (List ℕ)) (d : Direction) (name n : ℕ) (symbol : List ℕ) where
+  pub name_stops : (c : ℕ) → fault c ≡ text_of texts name → stop c ≡ name_step texts d name n symbol
+  unfolding reading
+  name_stops c e = name_read texts d name n symbol e
 
-module _ (symbol : ℕ) (x : Instrument) where
-  pub by_number : {i : ℕ} → x ≡ instrument.Number i → give (record { instrument = i; symbol = symbol }) ≡ numbered symbol (instrument_read x)
-  unfolding numbered reading
-  by_number h = sym (ap (λ (x : Instrument). numbered symbol (instrument_read x)) h)
+  module _ (mapped : List ℕ) (e : value mapped ≡ text_of texts name) where
+    -- the number as its side says
+    numbered : {r : Read ℕ} → r ≡ number_in (number_side d symbol mapped) → reading r (λ i. give (entry_of d i n name)) ≡ name_step texts d name n symbol
+    unfolding reading number_step
+    numbered p = ap (λ (r : Read ℕ). reading r (λ i. give (entry_of d i n name))) p ∙ name_read texts d name n symbol e
 
-  pub by_refused : {r : Refusal} → x ≡ instrument.Refused r → stop (number_of r) ≡ numbered symbol (instrument_read x)
-  unfolding numbered reading
-  by_refused h = sym (ap (λ (x : Instrument). numbered symbol (instrument_read x)) h)
+    pub forward_stops : (c : ℕ) → d ≡ Forward → fault c ≡ number_in symbol → stop c ≡ name_step texts d name n symbol
+    unfolding reading number_side
+    forward_stops c f p = numbered (p ∙ ap (λ (d : Direction). number_in (number_side d symbol mapped)) (sym f))
 
--- ---- names, of a list with so many
+    pub forward_gives : (i : ℕ) → d ≡ Forward → value i ≡ number_in symbol → give (record { instrument = i; symbol = name }) ≡ name_step texts d name n symbol
+    unfolding reading number_side entry_of
+    forward_gives i f p =
+        ap (λ (d : Direction). give (entry_of d i n name)) (sym f) ∙ numbered (p ∙ ap (λ (d : Direction). number_in (number_side d symbol mapped)) (sym f))
 
-module _ (bytes ends : List ℕ) (names : ℕ) (d : Direction) (name : ℕ) where
-  abbrev texts : List (List ℕ)
-  texts = names_of bytes ends names
+    pub inverse_stops : (c : ℕ) → d ≡ Inverse → fault c ≡ number_in mapped → stop c ≡ name_step texts d name n symbol
+    unfolding reading number_side
+    inverse_stops c f p = numbered (p ∙ ap (λ (d : Direction). number_in (number_side d symbol mapped)) (sym f))
 
-  module _ (n : ℕ) where
-    abbrev symbol : List ℕ
-    symbol = get_or texts n []
+    pub inverse_gives : (i : ℕ) → d ≡ Inverse → value i ≡ number_in mapped → give (record { instrument = i; symbol = n }) ≡ name_step texts d name n symbol
+    unfolding reading number_side entry_of
+    inverse_gives i f p =
+        ap (λ (d : Direction). give (entry_of d i n name)) (sym f) ∙ numbered (p ∙ ap (λ (d : Direction). number_in (number_side d symbol mapped)) (sym f))
 
-    pub named_unknown : names ≤ name → stop 3 ≡ name_step texts d name n symbol
-    named_unknown h = sym (name_unknown texts d name n symbol (text_unknown bytes ends names name h))
+-- ---- the interval's symbol
 
-    named : name < names → number_step d name n symbol (get_or texts name []) ≡ name_step texts d name n symbol
-    named h = sym (name_known texts d name n symbol (text_known bytes ends names name h))
+module _ (texts : List (List ℕ)) (d : Direction) (name : ℕ) (x : Interval) where
+  pub symbol_stops : (c : ℕ) → fault c ≡ text_of texts x.symbol → stop c ≡ point_step texts d name (counts 0 x)
+  symbol_stops c e = text_stops _ e ∙ sym (stepped texts d name 0 x)
 
-    module _ (h : name < names) (x : Instrument) (w : Wanted) where
-      pub named_forward : d ≡ Forward → instrument_read x ≡ number_in symbol → wanted_of w ≡ numbered name (instrument_read x) → wanted_of w ≡ name_step texts d name n symbol
-      named_forward e p q =
-          q ∙ ap (numbered name) p ∙ sym (forward_step_lem name n symbol (get_or texts name [])) ∙ ap (λ (d : Direction). number_step d name n symbol (get_or texts name [])) (sym e)
-          ∙ named h
+  module _ (text : List ℕ) (e : value text ≡ text_of texts x.symbol) where
+    pub symbol_skips : length text ≡ 0 → skip ≡ point_step texts d name (counts 0 x)
+    symbol_skips h = text_skips _ e h ∙ sym (stepped texts d name 0 x)
 
-      pub named_inverse : d ≡ Inverse → instrument_read x ≡ number_in (get_or texts name []) → wanted_of w ≡ numbered n (instrument_read x)
-          → wanted_of w ≡ name_step texts d name n symbol
-      named_inverse e p q =
-          q ∙ ap (numbered n) p ∙ sym (inverse_step_lem name n symbol (get_or texts name [])) ∙ ap (λ (d : Direction). number_step d name n symbol (get_or texts name [])) (sym e)
-          ∙ named h
+    pub symbol_reads : (s : Step Entry) → s ≡ name_step texts d name x.symbol text → length text ≢ 0 → s ≡ point_step texts d name (counts 0 x)
+    symbol_reads s p h = p ∙ text_reads (name_step texts d name x.symbol) e h ∙ sym (stepped texts d name 0 x)
 
-  -- ---- the interval that counts
+-- ---- what the search found
 
-  module _ (x : Interval) (place : ℕ) {s : Symbol} (p : s ≡ symbol_in texts x.symbol) where
-    pub counted_unknown : s ≡ Unknown → stop 3 ≡ point_step texts d name (counts place x)
-    counted_unknown h = sym (step_unknown texts d name place x (sym h ∙ p))
+-- the step of what was found; the interval's number does not count
+module _ (texts : List (List ℕ)) (d : Direction) (name : ℕ) (z : Counted) where
+  pub found_stops : (k : ℕ) → undated k ≡ z → stop 11 ≡ point_step texts d name z
+  unfolding point_step
+  found_stops k = ap (point_step texts d name)
 
-    pub counted_empty : s ≡ Empty → skip ≡ point_step texts d name (counts place x)
-    counted_empty h = sym (step_empty texts d name place x (sym h ∙ p))
+  pub found_none : none ≡ z → skip ≡ point_step texts d name z
+  unfolding point_step
+  found_none = ap (point_step texts d name)
 
-    pub counted_known : s ≡ Filled → x.symbol < names
-    counted_known h = rw (names_length bytes ends names) at (filled_text texts x.symbol (sym h ∙ p)).known
+  pub found_one : (k : ℕ) (x : Interval) → counts k x ≡ z → point_step texts d name (counts 0 x) ≡ point_step texts d name z
+  unfolding point_step
+  found_one k x = ap (point_step texts d name)
 
-    pub counted_filled : s ≡ Filled → (w : Wanted) → wanted_of w ≡ name_step texts d name x.symbol (get_or texts x.symbol []) → wanted_of w ≡ point_step texts d name (counts place x)
-    counted_filled h w q = q ∙ sym (step_filled texts d name place x (sym h ∙ p))
+-- what each part of a mapping's step comes to
+pub ruleset naming = (name_stops, forward_stops, forward_gives, inverse_stops, inverse_gives)
 
-  -- ---- what the search found
+pub ruleset looking = (symbol_stops, symbol_skips, symbol_reads)
 
-  module _ (z : Counted) (found : Covering) (p : counted_of found ≡ z) where
-    pub found_undated : {k : ℕ} → found ≡ covering.Undated k → stop 11 ≡ point_step texts d name z
-    unfolding point_step
-    found_undated h = ap (point_step texts d name) (ap counted_of (sym h) ∙ p)
-
-    pub found_none : found ≡ covering.Nothing → skip ≡ point_step texts d name z
-    unfolding point_step
-    found_none h = ap (point_step texts d name) (ap counted_of (sym h) ∙ p)
-
-    pub found_one : {k : ℕ} {x : Interval} → found ≡ covering.Is k x → (w : Wanted) → wanted_of w ≡ point_step texts d name (counts k x) → wanted_of w ≡ point_step texts d name z
-    found_one h w q = q ∙ ap (point_step texts d name) (ap counted_of (sym h) ∙ p)
+pub ruleset finding = (found_stops, found_none, found_one)

@@ -1,20 +1,18 @@
 -- The table while the mappings are laid: its entries, and 0 in every other place; what each mapping makes of it. Assumes nothing.
 use Rattle.std.proofs.Math.Path.{◌≡◌, sym, ap, subst}
-use Rattle.std.specs.Prelude.{refl, Bool, true, false, cond, List, [], ◌∷◌, length, replicate, T, leb}
+use Rattle.std.specs.Prelude.{refl, Bool, true, false, cond, List, [], ◌∷◌, length, replicate, T, leb, Option, Some, None, Result, Ok, Err}
 use Rattle.std.proofs.Common.{◌∙◌, leb-true, leb-false}
 use Prim.Native.Nat.{ℕ, suc, ◌+◌, ◌-◌, ◌*◌, ◌/◌, ◌≤◌, ◌<◌}
 use native.Mathlib.Omega.{arith}
-use Rattle.theory.specs.Answer.{Answer, answer}
-use Rattle.leaves.specs.Refusal.{number_of, refused}
+use Rattle.theory.specs.Answer.{Answer, answer, one_value}
+use Rattle.leaves.specs.Refusal.{number_of, refused, answer_with}
 use Rattle.leaves.specs.declared.refusal.Refusal.{Refusal}
 use Rattle.leaves.specs.declared.refusal.Refusal.TheVariants.{NoRoom}
 use Rattle.map_rules.specs.Table.{Outcome, refused_by, stored}
 use Rattle.map_point.specs.declared.entries.Entry.{Entry}
-use Rattle.map_point.specs.declared.points.Stored.{Stored}
-use Rattle.map_point.specs.declared.points.Stored.TheVariants.{Done, Refused}
 use Rattle.map_point.specs.Entries.{entries_from, entries, put_entries}
 use Rattle.map_point.specs.EntriesLaws.{length_put_entries}
-use Rattle.map_point.specs.Points.{rising, set_entry, has_room, stored_answer, stored_bytes, used_then, entries_then, stored_of}
+use Rattle.map_point.specs.Points.{rising, set_entry, has_room, stored_answer, stored_bytes, used_then, entries_then}
 use Rattle.map_point.specs.PointsLaws.{set_rising}
 use Rattle.map_point.specs.PointsSteps.{Stores}
 use Rattle.metadata_rules.specs.Metadata.{Mapping, mapping}
@@ -23,13 +21,11 @@ use Rattle.metadata_rules.specs.WordsLaws.{before_up}
 use Rattle.build_rules.specs.declared.reading.Direction.{Direction}
 use Rattle.build_rules.specs.Reading.{fault, value, read_of}
 use Rattle.build_rules.specs.ReadingLaws.{refused_read}
-use Rattle.build_rules.specs.OverTime.{give, Build, built, build_answer}
+use Rattle.metadata_rules.specs.declared.Interval.{Interval}
+use Rattle.build_rules.specs.OverTime.{Step, stop, give, step_by, Build, built, build_answer}
 use Rattle.build_rules.specs.PointInTime.{point_step, counting, point_taken, pick_mapping, pick_mappings}
 use Rattle.build_rules.specs.PointInTimeLaws.{pick_end, pick_stored, pick_refused, pick_is, taken_stop, taken_skip, taken_set, taken_full}
 use Rattle.build_rules.specs.PointInTimeLatest.{entries_over, set_longer}
-use Rattle.build_entry.specs.declared.entry.Wanted.{Wanted}
-use Rattle.build_entry.specs.declared.entry.Wanted.TheVariants as wanted
-use Rattle.build_entry.specs.Entry.{wanted_of}
 
 -- a table of this size whose entries in use are sorted, and 0 in every other place
 pub record Clean (size : ℕ) (t : List ℕ) (used : ℕ) : Type 0 where
@@ -39,26 +35,16 @@ pub record Clean (size : ℕ) (t : List ℕ) (used : ℕ) : Type 0 where
   pub bytes : t ≡ put_entries (replicate size 0) 0 (entries t used)
 
 -- a step's outcome: the table's entries, or the refusal's number
-abbrev pub Picked : ℕ → Outcome Entry → Stored → List ℕ → Type 0
-Picked size o (Done used) t = Clean size t used × (o ≡ stored (entries t used))
-Picked size o (Refused r) t = o ≡ refused_by (number_of r)
+abbrev pub Picked : ℕ → Outcome Entry → Result ℕ Refusal → List ℕ → Type 0
+Picked size o (Ok used) t = Clean size t used × (o ≡ stored (entries t used))
+Picked size o (Err r) t = o ≡ refused_by (number_of r)
 
 -- what the mappings come to
-abbrev pub Laid : ℕ → Build Entry → Stored → List ℕ → Type 0
-Laid size b (Done used) t = Clean size t used × (b ≡ built (entries t used))
-Laid size b (Refused r) t = build_answer b ≡ answer (number_of r) []
+abbrev pub Laid : ℕ → Build Entry → Result ℕ Refusal → List ℕ → Type 0
+Laid size b (Ok used) t = Clean size t used × (b ≡ built (entries t used))
+Laid size b (Err r) t = build_answer b ≡ answer (number_of r) []
 
 -- ---- one step
-
-module _ (size : ℕ) (t : List ℕ) (used : ℕ) (w : Wanted) where
-  abbrev es : List Entry
-  es = entries t used
-
-  pub store_refuse : {r : Refusal} → w ≡ wanted.Refuse r → point_taken (size / 8) (wanted_of w) es ≡ refused_by (number_of r)
-  store_refuse {r} h = ap (λ (w : Wanted). point_taken (size / 8) (wanted_of w) es) h ∙ taken_stop (size / 8) es (number_of r)
-
-  pub store_skip : w ≡ wanted.Skip → point_taken (size / 8) (wanted_of w) es ≡ stored es
-  store_skip h = ap (λ (w : Wanted). point_taken (size / 8) (wanted_of w) es) h ∙ taken_skip (size / 8) es
 
 -- an entry that was set, in a table of this size
 module _ (size : ℕ) (t : List ℕ) (used : ℕ) (clean : Clean size t used) (x : Entry) (t' : List ℕ) where
@@ -95,25 +81,44 @@ module _ (size : ℕ) (t : List ℕ) (used : ℕ) (clean : Clean size t used) (x
       × ((t' ≡ cond b (put_entries t 0 out) t)
       × (entries t' (cond b (length out) used) ≡ cond b out old))
 
-  took : (b : Bool) → leb (length out) (size / 8) ≡ b → (r : Stored) → Stored_so b (stored_of r) → Picked size (point_taken (size / 8) (give x) old) r t'
-  took true f (Done k) s =
+  took : (b : Bool) → leb (length out) (size / 8) ≡ b → (r : Result ℕ Refusal) → Stored_so b (answer_with one_value r) → Picked size (point_taken (size / 8) (give x) old) r t'
+  took true f (Ok k) s =
       let l : length out ≤ size / 8 = leb-true (length out) (size / 8) f in
       let k_is : length out ≡ k = cc in (
         subst (Clean size t') k_is (set_clean s.1.0 s.1.1 l),
         taken_set (size / 8) old x l ∙ ap stored (sym s.1.1 ∙ ap (entries t') k_is),
       )
-  took true f (Refused r) s = absurd (never_done r (length out) s.0)
-  took false f (Done k) s = let z : ◌≡◌ {A = ℕ} 0 2 = cc in absurd (omega arith)
-  took false f (Refused r) s =
+  took true f (Err r) s = absurd (never_done r (length out) s.0)
+  took false f (Ok k) s = let z : ◌≡◌ {A = ℕ} 0 2 = cc in absurd (omega arith)
+  took false f (Err r) s =
       let n : 2 ≡ number_of r = cc in
       taken_full (size / 8) old x (leb-false (length out) (size / 8) f) ∙ ap refused_by n
 
-pub store_set : (size : ℕ) (t : List ℕ) (used : ℕ) (w : Wanted) → Clean size t used → (x : Entry) → w ≡ wanted.Set x → (r : Stored) (t' : List ℕ)
-    → Stores t used x (stored_of r) t' → Picked size (point_taken (size / 8) (wanted_of w) (entries t used)) r t'
-unfolding stored_answer stored_bytes used_then entries_then has_room
-store_set size t used w clean x h r t' s =
-    subst (λ (w : Wanted). Picked size (point_taken (size / 8) (wanted_of w) (entries t used)) r t') (sym h)
-    (took size t used clean x t' (leb (length (set_entry x (entries t used))) (length t / 8)) (ap (λ (n : ℕ). leb (length (set_entry x (entries t used))) (n / 8)) (sym clean.lent)) r s)
+-- a mapping, by what it asks for
+module _ (texts : List (List ℕ)) (d : Direction) (day name : ℕ) (xs : List Interval) (t : List ℕ) (used : ℕ) where
+  abbrev asked : Step Entry
+  asked = point_step texts d name (counting day 0 xs)
+
+  abbrev picks : Outcome Entry
+  picks = pick_mapping (length t / 8) texts d day (mapping name xs) (entries t used)
+
+  picks_by : {s : Step Entry} → s ≡ point_step texts d name (counting day 0 xs) → picks ≡ point_taken (length t / 8) s (entries t used)
+  picks_by e = pick_is (length t / 8) texts d day (mapping name xs) (entries t used) e
+
+  pub store_stops : (r : Refusal) → stop (number_of r) ≡ point_step texts d name (counting day 0 xs)
+      → pick_mapping (length t / 8) texts d day (mapping name xs) (entries t used) ≡ refused_by (number_of r)
+  store_stops r e = picks_by e ∙ taken_stop (length t / 8) (entries t used) (number_of r)
+
+  module _ (clean : Clean (length t) t used) (o : Option Entry) (e : step_by (λ x. x) (Ok o) ≡ point_step texts d name (counting day 0 xs)) where
+    pub store_skip : o ≡ None → Picked (length t) (pick_mapping (length t / 8) texts d day (mapping name xs) (entries t used)) (Ok used) t
+    store_skip h = (clean, picks_by (ap (λ (o : Option Entry). step_by (λ x. x) (Ok o)) (sym h) ∙ e) ∙ taken_skip (length t / 8) (entries t used))
+
+    pub store_set : (x : Entry) → o ≡ Some x → (r : Result ℕ Refusal) (t' : List ℕ) → Stores t used x (answer_with one_value r) t'
+        → Picked (length t) (pick_mapping (length t / 8) texts d day (mapping name xs) (entries t used)) r t'
+    unfolding stored_answer stored_bytes used_then entries_then has_room
+    store_set x h r t' s =
+        subst (λ (o : Outcome Entry). Picked (length t) o r t') (sym (picks_by (ap (λ (o : Option Entry). step_by (λ x. x) (Ok o)) (sym h) ∙ e)))
+        (took (length t) t used clean x t' (leb (length (set_entry x (entries t used))) (length t / 8)) refl r s)
 
 -- ---- the mappings
 
@@ -159,44 +164,47 @@ module _ (size : ℕ) (texts : List (List ℕ)) (d : Direction) (day : ℕ) (m v
           let b = g.begins in
           omega arith
 
-      module _ {name : ℕ} (p : name ≡ name_at m i) (w : Wanted) (s : wanted_of w ≡ point_step texts d name (counting day 0 (stretch v from n))) where
+      module _ {name : ℕ} (p : name ≡ name_at m i) {xs : List Interval} (s : xs ≡ stretch v from n) where
         abbrev rest : List Mapping
         rest = mappings_from m v (i + 1) (from + n) (count - (i + 1))
 
-        left : pick_mappings (size / 8) texts d day i (mapping name (stretch v from n) ∷ rest) (entries t used) ≡ all
+        left : pick_mappings (size / 8) texts d day i (mapping name xs ∷ rest) (entries t used) ≡ all
         unfolding mappings_from
         left =
             let e : count - i ≡ suc (count - (i + 1)) = omega arith in
             let k = count - (i + 1) in
-            ap (λ (c : ℕ). pick_mappings (size / 8) texts d day i (mapping c (stretch v from n) ∷ mappings_from m v (i + 1) (from + n) k) (entries t used)) p
+            ap (λ (l : List Interval). pick_mappings (size / 8) texts d day i (mapping name l ∷ rest) (entries t used)) s
+            ∙ ap (λ (c : ℕ). pick_mappings (size / 8) texts d day i (mapping c (stretch v from n) ∷ mappings_from m v (i + 1) (from + n) k) (entries t used)) p
             ∙ ap (λ (c : ℕ). pick_mappings (size / 8) texts d day i (mapping (name_at m i) (stretch v from c) ∷ mappings_from m v (i + 1) (from + c) k) (entries t used)) q
             ∙ sym (ap (λ (c : ℕ). pick_mappings (size / 8) texts d day i (mappings_from m v i from c) (entries t used)) e)
             ∙ g.same
 
-        outcome : pick_mapping (size / 8) texts d day (mapping name (stretch v from n)) (entries t used) ≡ point_taken (size / 8) (wanted_of w) (entries t used)
-        outcome = pick_is (size / 8) texts d day (mapping name (stretch v from n)) (entries t used) s
+        module _ (r : Result ℕ Refusal) (t' : List ℕ) (o : Picked (length t) (pick_mapping (length t / 8) texts d day (mapping name xs) (entries t used)) r t') where
+          own : Picked size (pick_mapping (size / 8) texts d day (mapping name xs) (entries t used)) r t'
+          own = subst (λ (n : ℕ). Picked n (pick_mapping (n / 8) texts d day (mapping name xs) (entries t used)) r t') g.clean.lent o
 
-        module _ (r : Stored) (t' : List ℕ) (o : Picked (length t) (point_taken (length t / 8) (wanted_of w) (entries t used)) r t') where
-          own : Picked size (point_taken (size / 8) (wanted_of w) (entries t used)) r t'
-          own = subst (λ (n : ℕ). Picked n (point_taken (n / 8) (wanted_of w) (entries t used)) r t') g.clean.lent o
+        pub going_refused : (why : Refusal) (t' : List ℕ) → Picked (length t) (pick_mapping (length t / 8) texts d day (mapping name xs) (entries t used)) (Err why) t'
+            → build_answer all ≡ answer (number_of why) []
+        unfolding build_answer
+        going_refused why t' o =
+            let f : pick_mapping (size / 8) texts d day (mapping name xs) (entries t used) ≡ refused_by (number_of why) = own (Err why) t' o in
+            ap build_answer (sym left ∙ pick_refused (size / 8) texts d day i (mapping name xs) rest (entries t used) f)
 
-          pub going_refused : {why : Refusal} → r ≡ Refused why → build_answer all ≡ answer (number_of why) []
-          unfolding build_answer
-          going_refused {why} e =
-              let f : point_taken (size / 8) (wanted_of w) (entries t used) ≡ refused_by (number_of why) =
-              subst (λ (r : Stored). Picked size (point_taken (size / 8) (wanted_of w) (entries t used)) r t') e own in
-              ap build_answer (sym left ∙ pick_refused (size / 8) texts d day i (mapping name (stretch v from n)) rest (entries t used) (outcome ∙ f))
+        pub going_on : (then : ℕ) (t' : List ℕ) → Picked (length t) (pick_mapping (length t / 8) texts d day (mapping name xs) (entries t used)) (Ok then) t'
+            → Going size texts d day m v count t' then (from + n) (i + 1)
+        unfolding before
+        going_on then t' o =
+            let f : Clean size t' then × (pick_mapping (size / 8) texts d day (mapping name xs) (entries t used) ≡ stored (entries t' then)) = own (Ok then) t' o in
+            let z : suc i ≡ i + 1 = omega arith in
+            let b = g.begins in
+            record {
+              within = omega arith;
+              begins = (let y : from + n ≡ before m i + count_at m i = omega arith in y) ∙ ap (before m) z;
+              clean = f.0;
+              same = sym (pick_stored (size / 8) texts d day i (mapping name xs) rest (entries t used) f.1) ∙ left;
+            }
 
-          pub going_on : {then : ℕ} → r ≡ Done then → Going size texts d day m v count t' then (from + n) (i + 1)
-          unfolding before
-          going_on {then} e =
-              let f : Clean size t' then × (point_taken (size / 8) (wanted_of w) (entries t used) ≡ stored (entries t' then)) =
-              subst (λ (r : Stored). Picked size (point_taken (size / 8) (wanted_of w) (entries t used)) r t') e own in
-              let z : suc i ≡ i + 1 = omega arith in
-              let b = g.begins in
-              record {
-                within = omega arith;
-                begins = (let y : from + n ≡ before m i + count_at m i = omega arith in y) ∙ ap (before m) z;
-                clean = f.0;
-                same = sym (pick_stored (size / 8) texts d day i (mapping name (stretch v from n)) rest (entries t used) (outcome ∙ f.1)) ∙ left;
-              }
+-- what one mapping comes to, and a turn of the mappings
+pub ruleset storing = (store_stops, store_skip, store_set)
+
+pub ruleset going = (clean_own, going_start, going_room, going_refused, going_on, going_end)

@@ -1,7 +1,9 @@
 -- The build over time (RULES, The map over time): mappings and intervals in order, each interval an insert into a table that was empty;
 -- the first fault met decides.
-use Rattle.std.specs.Prelude.{ℕ, ◌+◌, cond, List, [], ◌∷◌, length}
+use Rattle.std.specs.Prelude.{ℕ, ◌+◌, cond, List, [], ◌∷◌, length, Option, Some, None, Result, Ok, Err}
 use Rattle.theory.specs.Answer.{Answer, answer}
+use Rattle.leaves.specs.Refusal.{number_of}
+use Rattle.leaves.specs.declared.refusal.Refusal.{Refusal}
 use Rattle.map_rules.specs.Table.{Row, Outcome, refused_by, stored, entered}
 use Rattle.map_rules.specs.Memory.{same_value, known_value}
 use Rattle.metadata_rules.specs.declared.Interval.{Interval}
@@ -15,6 +17,16 @@ pub data Step (X : Type 0) : Type 0 where
   stop : ℕ → Step X
   skip : Step X
   give : X → Step X
+
+-- what a call asks for, by its answer: an entry; or an entry, or nothing
+abbrev pub give_by : {X Y : Type 0} → (X → Y) → Result X Refusal → Step Y
+give_by f (Ok x) = give (f x)
+give_by f (Err r) = stop (number_of r)
+
+abbrev pub step_by : {X Y : Type 0} → (X → Y) → Result (Option X) Refusal → Step Y
+step_by f (Ok (Some x)) = give (f x)
+step_by f (Ok None) = skip
+step_by f (Err r) = stop (number_of r)
 
 -- a reading that comes before the step
 unfoldable pub reading : {X Y : Type 0} → Read X → (X → Step Y) → Step Y

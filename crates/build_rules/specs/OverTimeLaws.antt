@@ -2,16 +2,15 @@
 -- in memory. Assumes nothing.
 use Rattle.std.proofs.Math.Path.{◌≡◌, refl, ap}
 use Rattle.std.proofs.Common.{sym, ◌∙◌, length-append}
-use Rattle.std.specs.Prelude.{◌≢◌, Bool, false, ◌&&◌, drop, replicate, ltb, eqb, leb}
+use Rattle.std.specs.Prelude.{◌≢◌, ◌&&◌, drop, replicate, ltb, eqb, leb}
 use Prim.Native.Nat.{ℕ, zero, suc, ◌+◌, ◌-◌, ◌*◌, ◌≤◌, ◌<◌, max}
 use native.Mathlib.Omega.{arith}
-use Rattle.std.proofs.Math.Bool.{cond}
 use mathlib.Core.List.{List, [], ◌∷◌, ◌++◌}
 use Rattle.std.proofs.Math.ListN.{length, get_or}
 use Rattle.std.proofs.lemmas.List.{replicate-append-replicate}
 use Rattle.std.proofs.Math.Seq.{drop-nil, drop-append-add}
 use Rattle.theory.specs.Answer.{Answer, answer}
-use Rattle.theory.specs.RunsTools.{cond_case, ltb_case, cond_lt, cond_ge}
+use Rattle.theory.specs.RunsTools.{cond_case}
 use Rattle.leaves_text.specs.NumberText.{number_text, some_digits, digits, is_digit, stuck}
 use Rattle.leaves_days.specs.Days.{day_of, in_range}
 use Rattle.leaves_days.specs.Calendar.{is_date, day_number}
@@ -21,82 +20,52 @@ use Rattle.map_rules.specs.MemoryLaws.{length_row}
 use Rattle.metadata_rules.specs.declared.Interval.{Interval}
 use Rattle.metadata_rules.specs.Metadata.{Mapping, mapping}
 use Rattle.metadata_rules.specs.Words.{name_at, count_at, interval_at, stretch, mappings_from}
-use Rattle.build_rules.specs.Reading.{Read, fault, value, and_then, read_of, text_of, number_in, day_in, day_length, moment_in, is_empty, direction_by, symbol_under, symbol_in}
+use Rattle.build_rules.specs.Reading.{Read, fault, value, and_then, read_of, text_of, number_in, day_in, day_length, moment_in, is_empty, direction_by}
 use Rattle.build_rules.specs.declared.reading.Direction.{Direction}
 use Rattle.build_rules.specs.declared.reading.Direction.TheVariants.{Forward, Inverse}
-use Rattle.build_rules.specs.declared.reading.Symbol.TheVariants.{Unknown, Empty, Filled}
 use Rattle.build_rules.specs.OverTime.{Step, stop, skip, give, reading, unless_empty, dated, forward_step, inverse_step, taken, stopped, built, onward, further, lay_intervals, lay_mapping, lay_mappings}
 
--- ---- what stands under an interval's symbol
+-- ---- what stands under an interval's symbol, once it is read
 
-module _ (texts : List (List ℕ)) (n : ℕ) where
-  Looked : Read (List ℕ) → Type 0
-  Looked r = (symbol_under r ≡ Unknown → r ≡ fault 3) × (symbol_under r ≡ Empty → r ≡ value []) × (symbol_under r ≡ Filled → (n < length texts) × (r ≡ value (get_or texts n [])) × (is_empty (get_or texts n []) ≡ false))
+module _ {X : Type 0} (f : List ℕ → Step X) where
+  -- a refusal
+  pub text_stops : {r : Read (List ℕ)} {c : ℕ} → fault c ≡ r → stop c ≡ reading r f
+  unfolding reading
+  text_stops e = ap (λ (r : Read (List ℕ)). reading r f) e
 
-  looked : Looked (text_of texts n)
-  unfolding text_of symbol_under is_empty Looked
-  looked =
-      ltb_case Looked n (length texts) (value (get_or texts n [])) (fault 3)
-      (λ h. known (get_or texts n []) refl h)
-      (λ h. (λ e. refl, λ e. absurd (let z : ◌≡◌ {A = ℕ} 0 1 = cc in omega arith), λ e. absurd (let z : ◌≡◌ {A = ℕ} 0 1 = cc in omega arith)))
-    where
-      known : (text : List ℕ) → get_or texts n [] ≡ text → n < length texts → Looked (value text)
-      known [] d h = (λ e. absurd (let z : ◌≡◌ {A = ℕ} 0 1 = cc in omega arith), λ e. refl, λ e. absurd (let z : ◌≡◌ {A = ℕ} 0 1 = cc in omega arith))
-      known (b ∷ s) d h =
-          (λ e. absurd (let z : ◌≡◌ {A = ℕ} 0 1 = cc in omega arith), λ e. absurd (let z : ◌≡◌ {A = ℕ} 0 1 = cc in omega arith), λ e. (h, ap value (sym d), ap is_empty d))
-
-  -- 3 when a name number is first looked at
-  pub unknown_stops : {X : Type 0} → symbol_in texts n ≡ Unknown → (f : List ℕ → Step X) → reading (text_of texts n) f ≡ stop 3
-  unfolding symbol_in reading Looked
-  unknown_stops e f = ap (λ (r : Read (List ℕ)). reading r f) (looked.0 e)
-
-  -- then the skip
-  pub empty_skips : {X : Type 0} → symbol_in texts n ≡ Empty → (f : List ℕ → Step X) → reading (text_of texts n) (λ text. unless_empty text (f text)) ≡ skip
-  unfolding symbol_in reading unless_empty is_empty Looked
-  empty_skips e f = ap (λ (r : Read (List ℕ)). reading r (λ text. unless_empty text (f text))) (looked.1 e)
+  -- the skip
+  pub text_skips : {r : Read (List ℕ)} {text : List ℕ} → value text ≡ r → length text ≡ 0 → skip ≡ reading r (λ text. unless_empty text (f text))
+  unfolding reading unless_empty is_empty
+  text_skips {text = []} e h = ap (λ (r : Read (List ℕ)). reading r (λ text. unless_empty text (f text))) e
+  text_skips {text = b ∷ s} e h = absurd (omega arith)
 
   -- and else on with its text
-  pub filled_known : symbol_in texts n ≡ Filled → n < length texts
-  unfolding symbol_in Looked
-  filled_known e = (looked.2 e).0
-
-  pub filled_reads : {X : Type 0} → symbol_in texts n ≡ Filled → (f : List ℕ → Step X) → reading (text_of texts n) (λ text. unless_empty text (f text)) ≡ f (get_or texts n [])
-  unfolding symbol_in reading unless_empty Looked
-  filled_reads e f =
-      let p = looked.2 e in
-      ap (λ (r : Read (List ℕ)). reading r (λ text. unless_empty text (f text))) p.1
-      ∙ ap (λ (b : Bool). cond b skip (f (get_or texts n []))) p.2
+  pub text_reads : {r : Read (List ℕ)} {text : List ℕ} → value text ≡ r → length text ≢ 0 → f text ≡ reading r (λ text. unless_empty text (f text))
+  unfolding reading unless_empty is_empty
+  text_reads {text = []} e h = absurd (h refl)
+  text_reads {text = b ∷ s} e h = ap (λ (r : Read (List ℕ)). reading r (λ text. unless_empty text (f text))) e
 
 -- ---- the dates
 
 module _ (instrument symbol : ℕ) (x : Interval) where
   -- 11 for the start
-  pub dated_start : {c : ℕ} → moment_in x.start ≡ fault c → stop c ≡ dated instrument symbol x
+  pub dated_start : {c : ℕ} → fault c ≡ moment_in x.start → stop c ≡ dated instrument symbol x
   unfolding dated reading
-  dated_start e = rw e refl
+  dated_start e = rw (← e) refl
 
   -- then for the end
-  pub dated_end : {a c : ℕ} → moment_in x.start ≡ value a → moment_in x.end ≡ fault c → stop c ≡ dated instrument symbol x
+  pub dated_end : {a c : ℕ} → value a ≡ moment_in x.start → fault c ≡ moment_in x.end → stop c ≡ dated instrument symbol x
   unfolding dated reading
-  dated_end e d = rw (e, d) refl
+  dated_end e d = rw (← e, ← d) refl
 
   -- and else the row
-  pub dated_row : {a b : ℕ} → moment_in x.start ≡ value a → moment_in x.end ≡ value b
+  pub dated_row : {a b : ℕ} → value a ≡ moment_in x.start → value b ≡ moment_in x.end
       → give (record { instrument = instrument; start = a; end = b; value = symbol }) ≡ dated instrument symbol x
   unfolding dated reading
-  dated_row e d = rw (e, d) refl
+  dated_row e d = rw (← e, ← d) refl
 
--- ---- the mapping's name
-
-module _ (texts : List (List ℕ)) (n : ℕ) where
-  -- 3, then as its text
-  pub name_unknown : {X : Type 0} (f : List ℕ → Read X) → length texts ≤ n → fault 3 ≡ and_then (text_of texts n) f
-  unfolding and_then text_of
-  name_unknown f h = ap (λ (r : Read (List ℕ)). and_then r f) (sym (cond_ge n (length texts) _ _ h))
-
-  pub name_known : {X : Type 0} (f : List ℕ → Read X) → n < length texts → f (get_or texts n []) ≡ and_then (text_of texts n) f
-  unfolding and_then text_of
-  name_known f h = ap (λ (r : Read (List ℕ)). and_then r f) (sym (cond_lt n (length texts) _ _ h))
+-- what an interval's insert comes to
+pub ruleset dating = (dated_start, dated_end, dated_row)
 
 -- ---- a fault's number
 

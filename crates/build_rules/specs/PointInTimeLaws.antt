@@ -20,10 +20,9 @@ use Rattle.map_point.specs.Points.{rising, all_known, set_entry}
 use Rattle.map_point.specs.PointsLaws.{set_rising, set_known}
 use Rattle.metadata_rules.specs.declared.Interval.{Interval}
 use Rattle.metadata_rules.specs.Metadata.{Fields, Mapping, Metadata}
-use Rattle.build_rules.specs.Reading.{Read, fault, value, read_of, text_of, number_in, day_in, is_empty, symbol_under, symbol_in, direction_by, direction_of}
+use Rattle.build_rules.specs.Reading.{Read, fault, value, read_of, text_of, number_in, day_in, is_empty, direction_by, direction_of}
 use Rattle.build_rules.specs.declared.reading.Direction.{Direction}
 use Rattle.build_rules.specs.declared.reading.Direction.TheVariants.{Forward, Inverse}
-use Rattle.build_rules.specs.declared.reading.Symbol.TheVariants.{Unknown, Empty, Filled}
 use Rattle.build_rules.specs.OverTime.{Step, stop, skip, give, reading, unless_empty, Build, stopped, built, onward}
 use Rattle.build_rules.specs.PointInTime.{Counted, undated, none as none_counts, counts, counts_from, counting, point_step, place_of, point_taken, pick_mapping, pick_mappings, outside_query, on_day, asked, point_in_time, number_step, name_step, numbered}
 
@@ -63,85 +62,21 @@ counting_end day k = refl
 
 -- ---- the step of the interval that counts
 
-never_unknown : (text : List ℕ) → Unknown ≡ symbol_under (value text) → ⊥
-unfolding symbol_under
-never_unknown [] e = let z : ◌≡◌ {A = ℕ} 0 1 = cc in omega arith
-never_unknown (b ∷ s) e = let z : ◌≡◌ {A = ℕ} 0 1 = cc in omega arith
-
-empty_is : (text : List ℕ) → Empty ≡ symbol_under (value text) → text ≡ []
-unfolding symbol_under
-empty_is [] e = refl
-empty_is (b ∷ s) e = let z : ◌≡◌ {A = ℕ} 0 1 = cc in absurd (omega arith)
-
-filled_is : (text : List ℕ) → Filled ≡ symbol_under (value text) → is_empty text ≡ false
-unfolding symbol_under
-filled_is [] e = let z : ◌≡◌ {A = ℕ} 0 1 = cc in absurd (omega arith)
-filled_is (b ∷ s) e = refl
-
--- a symbol that is known and not empty
-pub record Full (texts : List (List ℕ)) (n : ℕ) : Type 0 where
-  pub known : n < length texts
-  pub read : text_of texts n ≡ value (get_or texts n [])
-  pub full : is_empty (get_or texts n []) ≡ false
-
 module _ (texts : List (List ℕ)) (n : ℕ) where
   text_case : (P : Read (List ℕ) → Type 0) → (n < length texts → P (value (get_or texts n []))) → (length texts ≤ n → P (fault 3)) → P (text_of texts n)
   unfolding text_of
   text_case P = ltb_case P n (length texts) (value (get_or texts n [])) (fault 3)
 
-  unknown_text : Unknown ≡ symbol_in texts n → text_of texts n ≡ fault 3
-  unfolding symbol_in
-  unknown_text = text_case (λ r. Unknown ≡ symbol_under r → r ≡ fault 3) (λ h e. absurd (never_unknown (get_or texts n []) e)) (λ h e. refl)
+pub stepped : (texts : List (List ℕ)) (d : Direction) (name k : ℕ) (x : Interval)
+    → point_step texts d name (counts k x) ≡ reading (text_of texts x.symbol) (λ symbol. unless_empty symbol (name_step texts d name x.symbol symbol))
+unfolding point_step name_step
+stepped texts d name k x = refl
 
-  empty_text : Empty ≡ symbol_in texts n → text_of texts n ≡ value []
-  unfolding symbol_in symbol_under
-  empty_text =
-      text_case (λ r. Empty ≡ symbol_under r → r ≡ value []) (λ h e. ap value (empty_is (get_or texts n []) e))
-      (λ h e. let z : ◌≡◌ {A = ℕ} 0 1 = cc in absurd (omega arith))
-
-  pub filled_text : Filled ≡ symbol_in texts n → Full texts n
-  unfolding symbol_in symbol_under
-  filled_text e =
-      let f = go e in
-      record { known = f.0; read = f.1; full = f.2 }
-    where
-      go : Filled ≡ symbol_under (text_of texts n) → (n < length texts) × (text_of texts n ≡ value (get_or texts n [])) × (is_empty (get_or texts n []) ≡ false)
-      go =
-          text_case (λ r. Filled ≡ symbol_under r → (n < length texts) × (r ≡ value (get_or texts n [])) × (is_empty (get_or texts n []) ≡ false))
-          (λ h e. (h, refl, filled_is (get_or texts n []) e))
-          (λ h e. let z : ◌≡◌ {A = ℕ} 0 1 = cc in absurd (omega arith))
-
-module _ (texts : List (List ℕ)) (d : Direction) (name k : ℕ) (x : Interval) where
-  stepped : point_step texts d name (counts k x) ≡ reading (text_of texts x.symbol) (λ symbol. unless_empty symbol (name_step texts d name x.symbol symbol))
-  unfolding point_step name_step
-  stepped = refl
-
-  read_step : {r : Read (List ℕ)} → text_of texts x.symbol ≡ r
-      → point_step texts d name (counts k x) ≡ reading r (λ symbol. unless_empty symbol (name_step texts d name x.symbol symbol))
-  read_step e = stepped ∙ ap (λ (r : Read (List ℕ)). reading r (λ symbol. unless_empty symbol (name_step texts d name x.symbol symbol))) e
-
-  pub step_unknown : Unknown ≡ symbol_in texts x.symbol → point_step texts d name (counts k x) ≡ stop 3
-  unfolding reading
-  step_unknown e = read_step (unknown_text texts x.symbol e)
-
-  pub step_empty : Empty ≡ symbol_in texts x.symbol → point_step texts d name (counts k x) ≡ skip
-  unfolding reading unless_empty is_empty
-  step_empty e = read_step (empty_text texts x.symbol e)
-
-  pub step_filled : Filled ≡ symbol_in texts x.symbol → point_step texts d name (counts k x) ≡ name_step texts d name x.symbol (get_or texts x.symbol [])
-  unfolding reading unless_empty
-  step_filled e =
-      let f = filled_text texts x.symbol e in
-      read_step f.read ∙ ap (λ (b : Bool). cond b skip (name_step texts d name x.symbol (get_or texts x.symbol []))) f.full
-
-module _ (texts : List (List ℕ)) (d : Direction) (name n : ℕ) (symbol : List ℕ) where
-  pub name_unknown : text_of texts name ≡ fault 3 → name_step texts d name n symbol ≡ stop 3
-  unfolding name_step reading
-  name_unknown e = ap (λ (r : Read (List ℕ)). reading r (number_step d name n symbol)) e
-
-  pub name_known : text_of texts name ≡ value (get_or texts name []) → name_step texts d name n symbol ≡ number_step d name n symbol (get_or texts name [])
-  unfolding name_step reading
-  name_known e = ap (λ (r : Read (List ℕ)). reading r (number_step d name n symbol)) e
+-- once the mapping's name is read
+pub name_read : (texts : List (List ℕ)) (d : Direction) (name n : ℕ) (symbol : List ℕ) {r : Read (List ℕ)} → r ≡ text_of texts name
+    → reading r (number_step d name n symbol) ≡ name_step texts d name n symbol
+unfolding name_step
+name_read texts d name n symbol e = ap (λ (r : Read (List ℕ)). reading r (number_step d name n symbol)) e
 
 module _ (name n : ℕ) (symbol mapped : List ℕ) where
   pub forward_step_lem : number_step Forward name n symbol mapped ≡ numbered name (number_in symbol)
@@ -227,7 +162,7 @@ StepSound names skip = Unit {0}
 StepSound names (give e) = (e.symbol < names) × (e.instrument < 4294967296)
 
 -- a reading that meets no other refusal
-abbrev Only : {X : Type 0} → ℕ → Read X → Type 0
+abbrev pub Only : {X : Type 0} → ℕ → Read X → Type 0
 Only w r = (c : ℕ) → fault c ≡ r → c ≡ w
 
 only_fault : {X : Type 0} (w : ℕ) → Only {X = X} w (fault w)
@@ -293,7 +228,7 @@ unfolding number_in number_text read_of
 number_narrow [] = tt
 number_narrow (b ∷ s) = cond_case (λ (a : Answer). Narrow (read_of a)) (eqb b 43) _ _ (λ t. some_narrow 1 s) (λ t. some_narrow 0 (b ∷ s))
 
-day_11 : (date : ℕ) → Only 11 (day_in date)
+pub day_11 : (date : ℕ) → Only 11 (day_in date)
 unfolding day_in day_of read_of
 day_11 date = reads_cond 11 (is_date date && in_range date) (answer 0 (day_number date ∷ [])) (refused NoDate) (reads_done 11 (day_number date)) (only_fault 11)
 

@@ -1,21 +1,17 @@
 -- What both builds read of a metadata (RULES, The map over time): the direction, a name's text, a number, a date. Each reading comes to
 -- a value or to the refusal that it meets first.
-use Rattle.std.specs.Prelude.{ℕ, ◌*◌, Bool, true, false, cond, List, [], ◌∷◌, ltb, eqb, length, get_or}
+use Rattle.std.specs.Prelude.{ℕ, ◌*◌, ◌/◌, Bool, true, false, cond, List, [], ◌∷◌, ltb, eqb, length, get_or, Result, Ok, Err}
+use Rattle.std.specs.Borrow.{Bor}
 use Rattle.theory.specs.Answer.{Answer, answer}
 use Rattle.leaves_text.specs.NumberText.{number_text}
 use Rattle.leaves_days.specs.Days.{day_of}
 use Rattle.metadata_rules.specs.Metadata.{Fields}
 use Rattle.leaves.specs.Refusal.{number_of}
-use Rattle.leaves_days.specs.declared.days.Moment.{Moment}
-use Rattle.leaves_days.specs.declared.days.Moment.TheVariants as moment
+use Rattle.leaves.specs.declared.refusal.Refusal.{Refusal}
+use Rattle.metadata_rules.specs.declared.Interval.{Interval}
+use Rattle.metadata_rules.specs.Words.{stretch}
 use Rattle.build_rules.specs.declared.reading.Direction.{Direction}
 use Rattle.build_rules.specs.declared.reading.Direction.TheVariants.{Forward, Inverse}
-use Rattle.build_rules.specs.declared.reading.Heading.{Heading}
-use Rattle.build_rules.specs.declared.reading.Heading.TheVariants as heading
-use Rattle.build_rules.specs.declared.reading.Symbol.{Symbol}
-use Rattle.build_rules.specs.declared.reading.Symbol.TheVariants.{Unknown, Empty, Filled}
-use Rattle.build_rules.specs.declared.reading.Instrument.{Instrument}
-use Rattle.build_rules.specs.declared.reading.Instrument.TheVariants as instrument
 
 -- a value, or the rules' number of a refusal
 pub data Read (X : Type 0) : Type 0 where
@@ -68,25 +64,16 @@ unfoldable pub direction_of : Fields → Read Direction
 unfolding direction_by
 direction_of f = direction_by f.stype_in f.stype_out
 
--- what stands under a name's number
-unfoldable pub symbol_under : Read (List ℕ) → Symbol
-unfolding is_empty
-symbol_under (fault c) = Unknown
-symbol_under (value text) = cond (is_empty text) Empty Filled
+-- what a reading's answer says; a text is read where it lies
+abbrev pub read_by : {X : Type 0} → Result X Refusal → Read X
+read_by (Ok x) = value x
+read_by (Err r) = fault (number_of r)
 
-unfoldable pub symbol_in : List (List ℕ) → ℕ → Symbol
-unfolding symbol_under text_of
-symbol_in texts n = symbol_under (text_of texts n)
+abbrev pub text_by : Result (Bor (List ℕ)) Refusal → Read (List ℕ)
+text_by (Ok text) = value text.now
+text_by (Err r) = fault (number_of r)
 
--- what each reading's answer says
-abbrev pub heading_read : Heading → Read Direction
-heading_read (heading.Is d) = value d
-heading_read (heading.Refused r) = fault (number_of r)
+-- ---- the intervals of a mapping, of which the words stand alone
 
-abbrev pub instrument_read : Instrument → Read ℕ
-instrument_read (instrument.Number n) = value n
-instrument_read (instrument.Refused r) = fault (number_of r)
-
-abbrev pub moment_read : Moment → Read ℕ
-moment_read (moment.Nanoseconds n) = value n
-moment_read (moment.Refused r) = fault (number_of r)
+abbrev pub intervals_in : List ℕ → List Interval
+intervals_in v = stretch v 0 (length v / 3)

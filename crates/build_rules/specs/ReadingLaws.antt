@@ -1,27 +1,24 @@
--- What each reading comes to, by what its test or its leaf answered. Assumes nothing.
-use Rattle.std.specs.Prelude.{◌≡◌, ◌≢◌, ℕ, ◌*◌, ◌≤◌, ◌<◌, List, [], ◌∷◌, length, get_or}
+-- What each reading comes to, by what its leaf answered. Assumes nothing.
+use Rattle.std.specs.Prelude.{◌≡◌, ◌≢◌, ℕ, zero, suc, ◌+◌, ◌-◌, ◌*◌, ◌/◌, ◌≤◌, ◌<◌, List, [], ◌∷◌, length, get_or, take, drop, slice_get, option_copied, ok_or, Option, Some, None, Result, Ok, Err, MatchResult}
+use Rattle.std.specs.Result.{IsErrAnd}
+use Rattle.std.specs.Borrow.{Bor}
 use Rattle.std.proofs.Math.Path.{refl, sym, ap}
-use Rattle.std.proofs.Common.{◌∙◌, arith}
-use Rattle.std.proofs.Math.Seq.{slice, slice_empty, slice-cons}
+use Rattle.std.proofs.Common.{◌∙◌, arith, get_or-take, get_or-drop, length-take, length-drop}
+use Rattle.std.proofs.lemmas.Option.{slice_get_past, slice_get-get_or, get_or_from_slice_get}
 use borrow.Author.Tests.{lt-ltb, le-ltb, ne_eqb}
-use Rattle.theory.specs.Answer.{answer}
-use Rattle.leaves.specs.Refusal.{number_of, values_of, refused}
+use Rattle.theory.specs.Answer.{answer, one_value}
+use Rattle.theory.specs.RunsTools.{ltb_case}
+use Rattle.leaves.specs.Refusal.{number_of, values_of, refused, answer_with}
 use Rattle.leaves.specs.declared.refusal.Refusal.{Refusal}
+use Rattle.leaves.specs.declared.refusal.Refusal.TheVariants.{UnknownSymbol, NotNumber}
+use Rattle.leaves_text.specs.NumberText.{reading_of, number_text}
 use Rattle.leaves.specs.RefusalLaws.{refused_not_done}
-use Rattle.leaves_days.specs.declared.days.Moment.{Moment}
-use Rattle.leaves_days.specs.declared.days.Moment.TheVariants as moment
-use Rattle.leaves_text.specs.NumberText.{number_text, reading_of}
-use Rattle.leaves_text.specs.declared.number_text.Reading.{Reading}
-use Rattle.leaves_text.specs.declared.number_text.Reading.TheVariants.{Value, Stuck}
-use Rattle.leaves_days.specs.Days.{day_of, day_start, day_answer_of, moment_answer_of}
-use Rattle.leaves_days.specs.declared.days.Day.{Day}
-use Rattle.leaves_days.specs.declared.days.Day.TheVariants as day
+use Rattle.leaves_days.specs.Days.{day_of, day_start}
 use Rattle.leaves_days.specs.DaysLaws.{day_limit, start_good}
-use Rattle.leaves_names.specs.Names.{name_of, names_of, name_end, Ordered}
-use Rattle.leaves_names.specs.Names.{name_start}
-use Rattle.leaves_names.specs.NamesList.{names_length, names_at}
-use Rattle.build_rules.specs.Reading.{Read, fault, value, and_then, read_of, text_of, number_in, day_in, day_length, moment_in, is_empty, symbol_under, symbol_in, moment_read}
-use Rattle.build_rules.specs.declared.reading.Symbol.TheVariants.{Unknown, Empty, Filled}
+use Rattle.leaves_names.specs.Names.{names_of}
+use Rattle.leaves_names.specs.NamesList.{names_length}
+use Rattle.metadata_rules.specs.Words.{interval_at, stretch}
+use Rattle.build_rules.specs.Reading.{Read, fault, value, and_then, read_of, text_of, number_in, day_in, day_length, moment_in, read_by, text_by, intervals_in}
 
 -- ---- answers
 
@@ -34,90 +31,104 @@ refused_read r = go (number_of r) (values_of r) (refused_not_done r)
     go c [] h = refl
     go c (v ∷ vs) h = rw (ne_eqb c 0 h) refl
 
-done_read : (v : ℕ) → read_of (answer 0 (v ∷ [])) ≡ value v
+-- and an answer of one value as what it says
+pub answer_read : (r : Result ℕ Refusal) → read_of (answer_with one_value r) ≡ read_by r
 unfolding read_of
-done_read v = refl
-
--- ---- numbers
-
-number_value : (text : List ℕ) (x : Reading) {v : ℕ} → reading_of x ≡ number_text text → x ≡ Value v → value v ≡ number_in text
-unfolding number_in
-number_value text x {v} w h = sym (done_read v) ∙ ap read_of (ap reading_of (sym h) ∙ w)
-
-number_stuck : (text : List ℕ) (x : Reading) {place : ℕ} → reading_of x ≡ number_text text → x ≡ Stuck place → fault 8 ≡ number_in text
-unfolding number_in read_of
-number_stuck text x w h = ap read_of (ap reading_of (sym h) ∙ w)
+answer_read (Ok v) = refl
+answer_read (Err r) = refused_read r
 
 -- ---- dates
 
-pub day_value : (date : ℕ) {d : ℕ} → answer 0 (d ∷ []) ≡ day_of date → value d ≡ day_in date
+pub day_read : (date : ℕ) (r : Result ℕ Refusal) → answer_with one_value r ≡ day_of date → read_by r ≡ day_in date
 unfolding day_in
-day_value date {d} e = sym (done_read d) ∙ ap read_of e
+day_read date r e = sym (answer_read r) ∙ ap read_of e
+
+pub day_value : (date : ℕ) {d : ℕ} → answer 0 (d ∷ []) ≡ day_of date → value d ≡ day_in date
+day_value date {d} e = day_read date (Ok d) e
 
 pub day_fault : (date : ℕ) (r : Refusal) → refused r ≡ day_of date → fault (number_of r) ≡ day_in date
-unfolding day_in
-day_fault date r e = sym (refused_read r) ∙ ap read_of e
+day_fault date r e = day_read date (Err r) e
 
-moment_read_lem : (r : Moment) → read_of (moment_answer_of r) ≡ moment_read r
-moment_read_lem (moment.Nanoseconds n) = done_read n
-moment_read_lem (moment.Refused r) = refused_read r
+module _ (date : ℕ) where
+  pub moment_fault : (r : Refusal) → refused r ≡ day_of date → fault (number_of r) ≡ moment_in date
+  unfolding moment_in and_then
+  moment_fault r e = ap (λ (x : Read ℕ). and_then x (λ day. value (day * day_length))) (day_fault date r e)
 
-pub moment_value : (date d : ℕ) (x : Day) (r : Moment) → day_answer_of x ≡ day_of date → x ≡ day.Number d → moment_answer_of r ≡ day_start d → moment_read r ≡ moment_in date
-unfolding moment_in and_then
-moment_value date d x r w h f =
-    let e : answer 0 (d ∷ []) ≡ day_of date = ap day_answer_of (sym h) ∙ w in
-    sym (moment_read_lem r) ∙ ap read_of (f ∙ start_good d (day_limit date d (sym e))) ∙ done_read (d * day_length)
-    ∙ ap (λ (x : Read ℕ). and_then x (λ day. value (day * day_length))) (day_value date e)
+  pub moment_value : {d : ℕ} (r : Result ℕ Refusal) → answer 0 (d ∷ []) ≡ day_of date → answer_with one_value r ≡ day_start d → read_by r ≡ moment_in date
+  unfolding moment_in and_then read_of
+  moment_value {d} r e f =
+      sym (answer_read r) ∙ ap read_of (f ∙ start_good d (day_limit date d (sym e)))
+      ∙ ap (λ (x : Read ℕ). and_then x (λ day. value (day * day_length))) (day_value date e)
 
-pub moment_fault : (date : ℕ) (x : Day) (r : Refusal) → day_answer_of x ≡ day_of date → x ≡ day.Refused r → fault (number_of r) ≡ moment_in date
-unfolding moment_in and_then
-moment_fault date x r w h =
-    let e : refused r ≡ day_of date = ap day_answer_of (sym h) ∙ w in
-    ap (λ (x : Read ℕ). and_then x (λ day. value (day * day_length))) (day_fault date r e)
+-- what a date's moment comes to
+pub ruleset moments = (moment_fault, moment_value)
 
--- ---- names, of a list with so many
+-- ---- numbers
+
+-- a text that says no number is refused by 8
+pub number_read : (text : List ℕ) (r : Result ℕ ℕ) (q : Result ℕ Refusal) {Q : ℕ → Refusal → Type 0} → reading_of r ≡ number_text text
+    → MatchResult r (λ x. q ≡ Ok x) (λ e. IsErrAnd q (Q e)) → ((e : ℕ) (why : Refusal) → Q e why → why ≡ NotNumber) → read_by q ≡ number_in text
+unfolding number_in read_of
+number_read text (Ok x) q w h k = rw h (ap read_of w)
+number_read text (Err e) (Ok x) w h k = absurd h
+number_read text (Err e) (Err why) w h k = rw (k e why h) (ap read_of w)
+
+-- ---- names
 
 module _ (bytes ends : List ℕ) (names n : ℕ) where
-  abbrev texts : List (List ℕ)
-  texts = names_of bytes ends names
-
-  pub text_unknown : names ≤ n → text_of texts n ≡ fault 3
+  pub text_unknown : names ≤ n → text_of (names_of bytes ends names) n ≡ fault 3
   unfolding text_of
   text_unknown h = rw (names_length bytes ends names, le-ltb n names h) refl
 
-  pub text_known : n < names → text_of texts n ≡ value (get_or texts n [])
+  pub text_known : n < names → text_of (names_of bytes ends names) n ≡ value (get_or (names_of bytes ends names) n [])
   unfolding text_of
   text_known h = rw (names_length bytes ends names, lt-ltb n names h) refl
 
-  text_is : n < names → text_of texts n ≡ value (name_of bytes ends n)
-  text_is h = text_known h ∙ ap value (names_at bytes ends names n h)
+-- the text that stands under a name's number, or 3
+pub text_got : (texts : List (List ℕ)) (n : ℕ) (o : Option (Bor (List ℕ))) → option_copied o ≡ slice_get texts n → text_by (ok_or o UnknownSymbol) ≡ text_of texts n
+unfolding text_of
+text_got texts n None e =
+    ltb_case (λ (r : Read (List ℕ)). fault 3 ≡ r) n (length texts) _ _
+    (λ h. let z : None ≡ Some (get_or texts n []) = e ∙ slice_get-get_or texts n [] h in cc)
+    (λ h. refl)
+text_got texts n (Some text) e =
+    ltb_case (λ (r : Read (List ℕ)). value text.now ≡ r) n (length texts) _ _
+    (λ h. sym (ap value (get_or_from_slice_get texts n text.now [] (sym e))))
+    (λ h. let z : Some text.now ≡ None = e ∙ slice_get_past texts n h in cc)
 
-  pub look_unknown : names ≤ n → Unknown ≡ symbol_in texts n
-  unfolding symbol_in symbol_under
-  look_unknown h = sym (ap symbol_under (text_unknown h))
+-- ---- intervals
 
-  pub look_empty : {s e : ℕ} → n < names → s ≡ name_start ends n → e ≡ name_end ends n → s ≡ e → Empty ≡ symbol_in texts n
-  unfolding symbol_in symbol_under is_empty name_of
-  look_empty h p q t =
-      sym (ap symbol_under (text_is h ∙ ap (λ (i : ℕ). value (slice i (name_end ends n) bytes)) (sym p ∙ t ∙ q) ∙ ap value (slice_empty (name_end ends n) bytes)))
+module _ (v : List ℕ) (o n : ℕ) (fits : 3 * (o + n) ≤ length v) where
+  -- n intervals from the place o on, as words that stand alone
+  abbrev words : List ℕ
+  words = take (3 * (o + n) - 3 * o) (drop (3 * o) v)
 
-  pub look_filled : {s e : ℕ} → Ordered bytes ends names → n < names → s ≡ name_start ends n → e ≡ name_end ends n → (s ≡ e → ⊥) → Filled ≡ symbol_in texts n
-  unfolding symbol_in symbol_under is_empty name_of
-  look_filled o h p q d =
-      let r = o.rising n h in
-      sym (ap symbol_under (text_is h ∙ ap value (slice-cons (name_start ends n) (name_end ends n) bytes 0 (omega arith) (o.inside n h))))
+  word : (i : ℕ) → i < 3 * n → get_or words i 0 ≡ get_or v (3 * o + i) 0
+  word i h = let k : i < 3 * (o + n) - 3 * o = omega arith in rw (get_or-take, get_or-drop) refl
 
-  part : {s e : ℕ} → n < names → s ≡ name_start ends n → e ≡ name_end ends n → slice s e bytes ≡ get_or texts n []
-  unfolding name_of
-  part {s} {e} h p q = ap (λ (i : ℕ). slice i e bytes) p ∙ ap (λ (i : ℕ). slice (name_start ends n) i bytes) q ∙ sym (names_at bytes ends names n h)
+  same_interval : (i : ℕ) → i < n → interval_at words i ≡ interval_at v (o + i)
+  unfolding interval_at
+  same_interval i h =
+      let a : 3 * o + 3 * i ≡ 3 * (o + i) = omega arith in
+      let b : 3 * o + (3 * i + 1) ≡ 3 * (o + i) + 1 = omega arith in
+      let c : 3 * o + (3 * i + 2) ≡ 3 * (o + i) + 2 = omega arith in
+      let s : get_or words (3 * i) 0 ≡ get_or v (3 * (o + i)) 0 = word (3 * i) (omega arith) ∙ ap (λ (k : ℕ). get_or v k 0) a in
+      let e : get_or words (3 * i + 1) 0 ≡ get_or v (3 * (o + i) + 1) 0 = word (3 * i + 1) (omega arith) ∙ ap (λ (k : ℕ). get_or v k 0) b in
+      let x : get_or words (3 * i + 2) 0 ≡ get_or v (3 * (o + i) + 2) 0 = word (3 * i + 2) (omega arith) ∙ ap (λ (k : ℕ). get_or v k 0) c in
+      λ j. record { start = s j; end = e j; symbol = x j }
 
-  pub named_within : {s e : ℕ} → Ordered bytes ends names → n < names → s ≡ name_start ends n → e ≡ name_end ends n → (s ≤ e) × (e ≤ length bytes)
-  named_within o h p q = let r = o.rising n h in let i = o.inside n h in (omega arith, omega arith)
+  same_stretch : (m i : ℕ) → i + m ≤ n → stretch words i m ≡ stretch v (o + i) m
+  unfolding stretch
+  same_stretch zero i h = refl
+  same_stretch (suc m) i h =
+      let a : o + (i + 1) ≡ o + i + 1 = omega arith in
+      let e : interval_at words i ≡ interval_at v (o + i) = same_interval i (omega arith) in
+      let f : stretch words (i + 1) m ≡ stretch v (o + i + 1) m = same_stretch m (i + 1) (omega arith) ∙ ap (λ (k : ℕ). stretch v k m) a in
+      λ j. e j ∷ f j
 
-  pub named_value : {s e v : ℕ} (x : Reading) → n < names → s ≡ name_start ends n → e ≡ name_end ends n → reading_of x ≡ number_text (slice s e bytes) → x ≡ Value v
-      → value v ≡ number_in (get_or texts n [])
-  named_value x h p q w t = number_value _ x w t ∙ ap number_in (part h p q)
-
-  pub named_stuck : {s e place : ℕ} (x : Reading) → n < names → s ≡ name_start ends n → e ≡ name_end ends n → reading_of x ≡ number_text (slice s e bytes) → x ≡ Stuck place
-      → fault 8 ≡ number_in (get_or texts n [])
-  named_stuck x h p q w t = number_stuck _ x w t ∙ ap number_in (part h p q)
+  pub intervals_of : intervals_in (take (3 * (o + n) - 3 * o) (drop (3 * o) v)) ≡ stretch v o n
+  intervals_of =
+      let l : length words ≡ 3 * n = simp (length-take, length-drop) (omega arith) in
+      let q : length words / 3 ≡ n = omega arith in
+      let z : o + 0 ≡ o = omega arith in
+      ap (stretch words 0) q ∙ same_stretch n 0 (omega arith) ∙ ap (λ (k : ℕ). stretch v k n) z

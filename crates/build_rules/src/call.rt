@@ -1,67 +1,43 @@
-// What both build calls share (RULES, The map over time): what they answer, and the test of the lent memory.
-ghost use Rattle.std.specs.Prelude.{◌≡◌, length};
-ghost use Rattle.build_rules.specs.Call.{is_done, used_of, built_number, build_fits};
+// What both build calls share (RULES, The map over time): the test of the lent memory, and what a refusal leaves.
+ghost use Rattle.std.specs.Prelude.{◌≡◌, length, IfOk};
+ghost use Rattle.theory.specs.Answer.{no_values};
+ghost use Rattle.leaves.specs.Refusal.{answer_with};
+ghost use Rattle.leaves_names.specs.Names.{well_formed};
+ghost use Rattle.metadata_form.specs.Header.{lengths_of, lent};
+ghost use Rattle.build_rules.specs.Call.{build_fits, judged, settled};
 
 use leaves::refusal::Refusal;
-use leaves_names::names::list_fits;
-use metadata_form::header::{Header, Lengths, metadata_fits};
+use leaves_names::names::{NameList, Names};
+use metadata_form::header::{Header, metadata_fits};
+use metadata_form::lists::Lists;
 
-// What a build answers: done, with how many intervals or entries the table has, or refused.
-#[derive(Clone, Copy)]
-pub enum Built {
-    Done(usize),
-    Refused(Refusal),
-}
-
-// Whether a build goes on.
-pub fn is_done(b: Built) -> bool
-    ensures { result ≡ is_done b }
-{
-    match b {
-        Built::Done(_) => true,
-        Built::Refused(_) => false,
-    }
-}
-
-// How many intervals or entries the table has then.
-pub fn used_of(b: Built) -> usize
-    ensures { result ≡ used_of b }
-{
-    match b {
-        Built::Done(used) => used,
-        Built::Refused(_) => 0,
-    }
-}
-
-// The number of a build's answer: 0, or the refusal's.
-pub fn number_of(b: Built) -> u32
-    ensures { result ≡ built_number b }
-{
-    match b {
-        Built::Done(_) => 0,
-        Built::Refused(refusal) => leaves::refusal::number(refusal),
-    }
-}
-
-// Whether the lent memory of table, metadata and list is of its form, by the table's own test; where it is not, 15.
-pub fn build_fits(
+// The checked names of a build, where the lent memory of table, metadata and list is of its form, by the table's own test: 15, then 14.
+#[tactic(auto, using(crate::specs::CallLaws::judging))]
+pub fn lent_names<'a>(
     table: bool,
     header: Header,
-    lengths: Lengths,
-    mappings: &[u32],
-    bytes: usize,
-    places: usize,
-    names: usize,
-    name_bytes: usize,
-) -> bool
-    requires { lengths.mappings ≡ length mappings.now }
-    ensures { result ≡ build_fits table header lengths mappings.now bytes places names name_bytes }
+    lists: Lists<'_>,
+    list: NameList<'a>,
+) -> Result<Names<'a>, Refusal>
+    ensures answered { answer_with no_values result ≡ judged
+        (build_fits table header (lengths_of (lent lists.entry)) lists.entry.mappings.now (length list.entry.bytes.now)
+        (length list.entry.ends.now) list.entry.names list.entry.name_bytes)
+        (well_formed list.entry.bytes.now list.entry.ends.now list.entry.names list.entry.name_bytes) }
+    ensures same { IfOk result (λ names. names.list ≡ list.entry) }
 {
-    if !table {
-        return false;
+    if !table || !metadata_fits(header, lists) {
+        return Err(Refusal::BadMemory);
     }
-    if !metadata_fits(header, lengths, mappings) {
-        return false;
+    list.check()
+}
+
+// What a build came to. A refused one leaves 0 in every place.
+pub fn settle(table: &mut [u8], laid: Result<usize, Refusal>) -> Result<usize, Refusal>
+    ensures same { result ≡ laid }
+    ensures memory { table.new ≡ settled laid table.old }
+{
+    if laid.is_err() {
+        table.fill(0);
     }
-    list_fits(bytes, places, names, name_bytes)
+    laid
 }

@@ -1,108 +1,67 @@
-// What both builds read of a metadata (RULES, The map over time): the direction, what stands under a name's number, an instrument's
-// number, a date; and the table emptied.
-ghost use Rattle.std.specs.Prelude.{◌≡◌, ◌≤◌, ◌<◌, [], length, replicate, get_or};
-ghost use Rattle.leaves_names.specs.Names.{names_of, Ordered};
-ghost use Rattle.build_rules.specs.Reading.{direction_by, number_in, moment_in, symbol_in, heading_read, instrument_read, moment_read};
+// What both builds read of a metadata (RULES, The map over time): the direction, a name's text, an instrument's number, a date.
+ghost use Rattle.std.specs.Prelude.{◌≡◌, ◌+◌, ◌*◌, ◌≤◌, length};
+ghost use Rattle.leaves_names.specs.Names.{names_in};
+ghost use Rattle.metadata_rules.specs.Words.{stretch};
+ghost use Rattle.build_rules.specs.Reading.{direction_by, text_of, number_in, moment_in, read_by, text_by, intervals_in};
 
 use leaves::refusal::Refusal;
-use leaves_days::days::{Day, Moment};
-use leaves_text::number_text::Reading;
+use leaves_days::days::{day_of, day_start};
+use leaves_names::names::Names;
+use leaves_text::number_text::number;
+use metadata_words::words::INTERVAL_WORDS;
 
 // Where the instrument's number stands: in the interval's symbol, or in the mapping's name.
-#[derive(Clone, Copy)]
+#[derive(Clone, Copy, Debug, PartialEq, Eq)]
 pub enum Direction {
     Forward,
     Inverse,
 }
 
-// A metadata's direction, or 9.
-#[derive(Clone, Copy)]
-pub enum Heading {
-    Is(Direction),
-    Refused(Refusal),
-}
-
-// What stands under a name's number: nothing (3), the empty name, or another.
-#[derive(Clone, Copy)]
-pub enum Symbol {
-    Unknown,
-    Empty,
-    Filled,
-}
-
-// An instrument's number, or 8.
-#[derive(Clone, Copy)]
-pub enum Instrument {
-    Number(u32),
-    Refused(Refusal),
-}
-
 // DBN's number for instrument ID.
 const INSTRUMENT_ID: u8 = 0;
 
-pub fn direction_by(stype_in: u8, stype_out: u8) -> Heading
-    ensures { heading_read result ≡ direction_by stype_in stype_out }
+// A metadata's direction, or 9.
+#[tactic(auto, unfolding(crate::specs::Reading::direction_by))]
+pub fn direction_by(stype_in: u8, stype_out: u8) -> Result<Direction, Refusal>
+    ensures { read_by result ≡ direction_by stype_in stype_out }
 {
     if stype_out == INSTRUMENT_ID {
-        return Heading::Is(Direction::Forward);
+        Ok(Direction::Forward)
+    } else if stype_in == INSTRUMENT_ID {
+        Ok(Direction::Inverse)
+    } else {
+        Err(Refusal::NoInstrumentId)
     }
-    if stype_in == INSTRUMENT_ID {
-        return Heading::Is(Direction::Inverse);
-    }
-    Heading::Refused(Refusal::NoInstrumentId)
 }
 
-// A name looked at by its number.
-pub fn look(bytes: &[u8], ends: &[u32], names: usize, number: u32) -> Symbol
-    requires { Ordered bytes.now ends.now names }
-    ensures { result ≡ symbol_in (names_of bytes.now ends.now names) number }
+// The text of a name that is looked at, or 3.
+#[tactic(auto, using(crate::specs::ReadingLaws::text_got))]
+pub fn text_of<'a>(names: Names<'a>, name: u32) -> Result<&'a [u8], Refusal>
+    ensures { text_by result ≡ text_of (names_in names.entry.list) name }
 {
-    let n = number as usize;
-    if names <= n {
-        return Symbol::Unknown;
-    }
-    let start = leaves_names::names::name_start(ends, n);
-    let end = leaves_names::names::name_end(ends, n);
-    if start == end {
-        return Symbol::Empty;
-    }
-    Symbol::Filled
+    names.get(name).ok_or(Refusal::UnknownSymbol)
 }
 
-// The number that a known name says.
-pub fn number_named(bytes: &[u8], ends: &[u32], names: usize, number: u32) -> Instrument
-    requires ordered { Ordered bytes.now ends.now names }
-    requires number_lt_names { number < names }
-    ensures { instrument_read result ≡ number_in (get_or (names_of bytes.now ends.now names) number []) }
+// The instrument's number that a text says, or 8.
+pub fn number_in(text: &[u8]) -> Result<u32, Refusal>
+    ensures { read_by result ≡ number_in text.now }
 {
-    let n = number as usize;
-    let start = leaves_names::names::name_start(ends, n);
-    let end = leaves_names::names::name_end(ends, n);
-    let read = leaves_text::number_text::number_within(bytes, start, end);
-    match read {
-        Reading::Value(value) => Instrument::Number(value),
-        Reading::Stuck(place) => Instrument::Refused(Refusal::NotNumber),
-    }
+    number(text).map_err(|_| Refusal::NotNumber)
 }
 
 // The start of a date's day, or 11.
-pub fn moment_of(date: u32) -> Moment
-    ensures { moment_read result ≡ moment_in date }
+#[tactic(auto, using(crate::specs::ReadingLaws::moments))]
+pub fn moment_of(date: u32) -> Result<u64, Refusal>
+    ensures { read_by result ≡ moment_in date }
 {
-    let read = leaves_days::days::day_of(date);
-    match read {
-        Day::Number(day) => leaves_days::days::day_start(day),
-        Day::Refused(why) => Moment::Refused(why),
-    }
+    day_start(day_of(date)?)
 }
 
-// Every place of a table holds 0 then.
-pub fn clear(table: &mut [u8])
-    ensures { table.new ≡ replicate (length table.old) 0 }
+// The words of `count` intervals from the place `from` on. A helper: they stand in the list.
+#[tactic(auto, using(crate::specs::ReadingLaws::intervals_of))]
+pub fn intervals_at(intervals: &[u32], from: usize, count: usize) -> &[u32]
+    requires { 3 * (from + count) ≤ length intervals.now }
+    ensures { intervals_in result.now ≡ stretch intervals.now from count }
 {
-    let mut i = 0;
-    while i < table.len() {
-        table[i] = 0;
-        i += 1;
-    }
+    &intervals[INTERVAL_WORDS * from..INTERVAL_WORDS * (from + count)]
 }

@@ -4,47 +4,31 @@ use Rattle.std.proofs.Math.Path.{◌≡◌, refl, sym, ap, subst}
 use Rattle.std.proofs.Common.{◌∙◌}
 use Prim.Native.Nat.{ℕ, ◌+◌, ◌-◌, ◌*◌, ◌/◌, ◌≤◌, ◌<◌}
 use native.Mathlib.Omega.{arith}
-use Rattle.std.specs.Prelude.{true, false, get_or}
+use Rattle.std.specs.Prelude.{◌≢◌, Option, Some, None, Result, Ok, Err}
 use mathlib.Core.List.{List, [], ◌∷◌}
 use Rattle.std.proofs.Math.ListN.{length, replicate}
-use Rattle.theory.specs.Answer.{answer}
-use Rattle.leaves.specs.Refusal.{number_of, refused}
+use Rattle.theory.specs.Answer.{answer, one_value}
+use Rattle.leaves.specs.Refusal.{number_of, refused, answer_with}
 use Rattle.leaves.specs.declared.refusal.Refusal.{Refusal}
 use Rattle.map_table.specs.Interval.{row_of}
-use Rattle.map_time.specs.Insert.{inserted_of}
 use Rattle.map_table.specs.declared.interval.Interval.{Interval}
-use Rattle.map_time.specs.declared.insert.Inserted.{Inserted}
-use Rattle.map_time.specs.declared.insert.Inserted.TheVariants as inserted
 use Rattle.map_rules.specs.Table.{Row, Ordered, Outcome, refused_by, stored, now_stored, entered}
 use Rattle.map_rules.specs.Memory.{same_value, known_value, rows, room_of, rows_written, memory_after, outcome_answer, used_after, Gives}
 use Rattle.map_rules.specs.MemoryLaws.{length_rows}
 use Rattle.map_rules.specs.Tests.{formed_parts}
 use Rattle.map_rules.specs.Pieces.{symbols}
 use Rattle.map_rules.specs.History.{Accepted, entered_ok}
-use Rattle.leaves_names.specs.Names.{names_of}
-use Rattle.leaves_names.specs.NamesList.{names_length}
-use Rattle.leaves_days.specs.declared.days.Moment.{Moment}
-use Rattle.leaves_days.specs.declared.days.Moment.TheVariants as moment
 use Rattle.leaves.specs.RefusalLaws.{refused_not_done, plain_refused}
 use Rattle.metadata_rules.specs.declared.Interval.{Interval as Span}
 use Rattle.metadata_rules.specs.Words.{interval_at, stretch}
-use Rattle.build_rules.specs.declared.reading.Symbol.{Symbol}
-use Rattle.build_rules.specs.declared.reading.Symbol.TheVariants.{Unknown, Empty, Filled}
-use Rattle.build_rules.specs.declared.reading.Instrument.{Instrument}
-use Rattle.build_rules.specs.declared.reading.Instrument.TheVariants as instrument
-use Rattle.build_rules.specs.Reading.{Read, fault, and_then, text_of, number_in, moment_in, symbol_in, instrument_read, moment_read}
-use Rattle.build_rules.specs.OverTime.{Step, stop, skip, give, reading, dated, forward_step, inverse_step, taken, Build, stopped, built, lay_intervals, build_answer}
-use Rattle.build_rules.specs.OverTimeLaws.{unknown_stops, empty_skips, filled_known, filled_reads, dated_start, dated_end, dated_row, name_unknown, name_known, Plain, PlainStep, forward_plain, inverse_plain, intervals_end, intervals_turn, intervals_stop, written_again}
-use Rattle.build_rules.specs.declared.call.Built.{Built}
-use Rattle.build_rules.specs.declared.call.Built.TheVariants.{Done, Refused}
+use Rattle.build_rules.specs.Reading.{Read, fault, value, and_then, text_of, number_in, intervals_in}
+use Rattle.build_rules.specs.declared.reading.Direction.{Direction}
+use Rattle.build_rules.specs.declared.reading.Direction.TheVariants as direction
+use Rattle.build_rules.specs.OverTime.{Step, stop, skip, give, reading, unless_empty, step_by, dated, forward_step, inverse_step, taken, Build, stopped, built, lay_intervals, build_answer}
+use Rattle.build_rules.specs.OverTimeLaws.{text_stops, text_skips, text_reads, Plain, PlainStep, forward_plain, inverse_plain, intervals_end, intervals_turn, intervals_stop, written_again}
 use Rattle.build_time.specs.declared.over_time.Way.{Way}
 use Rattle.build_time.specs.declared.over_time.Way.TheVariants.{Forward, Inverse}
-use Rattle.build_time.specs.declared.over_time.Asked.{Asked}
-use Rattle.build_time.specs.declared.over_time.Asked.TheVariants.{Refuse, Nothing, Insert}
-use Rattle.build_rules.specs.Call.{built_of, is_done, used_of}
-use Rattle.build_time.specs.OverTime.{asked_of, way_step, Holds, Took, Lays}
-
--- ---- what holds between two steps
+use Rattle.build_time.specs.OverTime.{way_for, way_step, way_filled, Holds, Took, Lays}
 
 -- ---- one interval's step
 
@@ -91,66 +75,74 @@ module _ (names : ℕ) (t t' : List ℕ) (used : ℕ) (n : Row ℕ) (h : Holds n
 
 -- ---- the step, by what its readings answered
 
-module _ (instrument symbol : ℕ) (x : Span) where
-  pub insert_start : {r : Moment} {why : Refusal} → moment_read r ≡ moment_in x.start → r ≡ moment.Refused why → stop (number_of why) ≡ dated instrument symbol x
-  insert_start e d = dated_start instrument symbol x (sym e ∙ ap moment_read d)
+module _ (way : Way) (x : Span) (text : List ℕ) where
+  -- the text says no number
+  pub fill_stops : (name c : ℕ) → way ≡ Forward name → fault c ≡ number_in text → stop c ≡ way_filled way x text
+  unfolding reading
+  fill_stops name c w e = ap (λ (r : Read ℕ). reading r (λ i. dated i name x)) e ∙ sym (ap (λ (w : Way). way_filled w x text) w)
 
-  pub insert_end : {r s : Moment} {a : ℕ} {why : Refusal} → moment_read r ≡ moment_in x.start → r ≡ moment.Nanoseconds a
-      → moment_read s ≡ moment_in x.end → s ≡ moment.Refused why → stop (number_of why) ≡ dated instrument symbol x
-  insert_end e d f g = dated_end instrument symbol x (sym e ∙ ap moment_read d) (sym f ∙ ap moment_read g)
+  -- the dates are read then
+  pub fill_forward : (name i : ℕ) (s : Step (Row ℕ)) → s ≡ dated i name x → way ≡ Forward name → value i ≡ number_in text → s ≡ way_filled way x text
+  unfolding reading
+  fill_forward name i s f w e = f ∙ ap (λ (r : Read ℕ). reading r (λ i. dated i name x)) e ∙ sym (ap (λ (w : Way). way_filled w x text) w)
 
-  pub insert_row : {r s : Moment} {a b : ℕ} → moment_read r ≡ moment_in x.start → r ≡ moment.Nanoseconds a
-      → moment_read s ≡ moment_in x.end → s ≡ moment.Nanoseconds b
-      → give (record { instrument = instrument; start = a; end = b; value = symbol }) ≡ dated instrument symbol x
-  insert_row e d f g = dated_row instrument symbol x (sym e ∙ ap moment_read d) (sym f ∙ ap moment_read g)
+  pub fill_inverse : (i : ℕ) (s : Step (Row ℕ)) → s ≡ dated i x.symbol x → way ≡ Inverse i → s ≡ way_filled way x text
+  fill_inverse i s f w = f ∙ sym (ap (λ (w : Way). way_filled w x text) w)
 
-module _ (texts : List (List ℕ)) (x : Span) where
-  pub step_unknown : (way : Way) {s : Symbol} → s ≡ symbol_in texts x.symbol → s ≡ Unknown → stop 3 ≡ way_step texts way x
-  unfolding forward_step inverse_step
-  step_unknown (Forward name) e d = sym (unknown_stops texts x.symbol (sym e ∙ d) _)
-  step_unknown (Inverse instrument) e d = sym (unknown_stops texts x.symbol (sym e ∙ d) _)
+pub ruleset filling = (fill_stops, fill_forward, fill_inverse)
 
-  pub step_empty : (way : Way) {s : Symbol} → s ≡ symbol_in texts x.symbol → s ≡ Empty → skip ≡ way_step texts way x
-  unfolding forward_step inverse_step
-  step_empty (Forward name) e d = sym (empty_skips texts x.symbol (sym e ∙ d) _)
-  step_empty (Inverse instrument) e d = sym (empty_skips texts x.symbol (sym e ∙ d) _)
-
-  forward_filled : (name : ℕ) {s : Symbol} → s ≡ symbol_in texts x.symbol → s ≡ Filled
-      → forward_step texts name x ≡ reading (number_in (get_or texts x.symbol [])) (λ i. dated i name x)
+module _ (texts : List (List ℕ)) (way : Way) (x : Span) where
+  forward_reads : (name : ℕ) → reading (text_of texts x.symbol) (λ text. unless_empty text (way_filled (Forward name) x text)) ≡ way_step texts (Forward name) x
   unfolding forward_step
-  forward_filled name e d = filled_reads texts x.symbol (sym e ∙ d) (λ text. reading (number_in text) (λ i. dated i name x))
+  forward_reads name = refl
 
-  pub step_no_number : (name : ℕ) {way : Way} {s : Symbol} {r : Instrument} {why : Refusal} → s ≡ symbol_in texts x.symbol → s ≡ Filled → way ≡ Forward name
-      → instrument_read r ≡ number_in (get_or texts x.symbol []) → r ≡ instrument.Refused why → stop (number_of why) ≡ way_step texts way x
-  unfolding reading
-  step_no_number name e d w f g =
-      sym (ap (λ (v : Way). way_step texts v x) w ∙ forward_filled name e d
-      ∙ ap (λ (r : Read ℕ). reading r (λ i. dated i name x)) (sym f ∙ ap instrument_read g))
-
-  pub step_number : (name : ℕ) {way : Way} {s : Symbol} {r : Instrument} {i : ℕ} → s ≡ symbol_in texts x.symbol → s ≡ Filled → way ≡ Forward name
-      → instrument_read r ≡ number_in (get_or texts x.symbol []) → r ≡ instrument.Number i → dated i name x ≡ way_step texts way x
-  unfolding reading
-  step_number name e d w f g =
-      sym (ap (λ (v : Way). way_step texts v x) w ∙ forward_filled name e d
-      ∙ ap (λ (r : Read ℕ). reading r (λ i. dated i name x)) (sym f ∙ ap instrument_read g))
-
-  pub step_inverse : (i : ℕ) {way : Way} {s : Symbol} → s ≡ symbol_in texts x.symbol → s ≡ Filled → way ≡ Inverse i
-      → dated i x.symbol x ≡ way_step texts way x
+  inverse_reads : (i : ℕ) → reading (text_of texts x.symbol) (λ text. unless_empty text (way_filled (Inverse i) x text)) ≡ way_step texts (Inverse i) x
   unfolding inverse_step
-  step_inverse i e d w =
-      sym (ap (λ (v : Way). way_step texts v x) w ∙ filled_reads texts x.symbol (sym e ∙ d) (λ text. dated i x.symbol x))
+  inverse_reads i = refl
 
--- ---- a name's number
+  way_reads : reading (text_of texts x.symbol) (λ text. unless_empty text (way_filled way x text)) ≡ way_step texts way x
+  way_reads = go way
+    where
+      go : (w : Way) → reading (text_of texts x.symbol) (λ text. unless_empty text (way_filled w x text)) ≡ way_step texts w x
+      go (Forward name) = forward_reads name
+      go (Inverse instrument) = inverse_reads instrument
 
-module _ (bytes ends : List ℕ) (names n : ℕ) where
-  pub symbol_known : {s : Symbol} → s ≡ symbol_in (names_of bytes ends names) n → s ≡ Filled → n < names
-  symbol_known e d = subst (λ (k : ℕ). n < k) (names_length bytes ends names) (filled_known (names_of bytes ends names) n (sym e ∙ d))
+  pub step_stops : (c : ℕ) → fault c ≡ text_of texts x.symbol → stop c ≡ way_step texts way x
+  step_stops c e = text_stops _ e ∙ way_reads
 
-  pub named_known : n < names → number_in (get_or (names_of bytes ends names) n []) ≡ and_then (text_of (names_of bytes ends names) n) number_in
-  named_known h = name_known (names_of bytes ends names) n number_in (subst (λ (k : ℕ). n < k) (sym (names_length bytes ends names)) h)
+  module _ (text : List ℕ) (e : value text ≡ text_of texts x.symbol) where
+    pub step_skips : length text ≡ 0 → skip ≡ way_step texts way x
+    step_skips h = text_skips _ e h ∙ way_reads
 
-  pub named_unknown : names ≤ n → fault 3 ≡ and_then (text_of (names_of bytes ends names) n) number_in
-  named_unknown h = name_unknown (names_of bytes ends names) n number_in (subst (λ (k : ℕ). k ≤ n) (sym (names_length bytes ends names)) h)
+    pub step_fills : (s : Step (Row ℕ)) → s ≡ way_filled way x text → length text ≢ 0 → s ≡ way_step texts way x
+    step_fills s f h = f ∙ text_reads (way_filled way x) e h ∙ way_reads
+
+pub ruleset stepping = (step_stops, step_skips, step_fills)
+
+-- ---- how a mapping's intervals are read
+
+module _ (texts : List (List ℕ)) (d : Direction) (name : ℕ) where
+  pub way_forward : d ≡ direction.Forward → value (Forward name) ≡ way_for texts d name
+  way_forward e = sym (ap (λ (d : Direction). way_for texts d name) e)
+
+  module _ (e : d ≡ direction.Inverse) where
+    named : (r : Read ℕ) → r ≡ and_then (text_of texts name) number_in → and_then r (λ i. value (Inverse i)) ≡ way_for texts d name
+    named r f = ap (λ (r : Read ℕ). and_then r (λ i. value (Inverse i))) f ∙ sym (ap (λ (d : Direction). way_for texts d name) e)
+
+    pub way_unknown : (c : ℕ) → fault c ≡ text_of texts name → fault c ≡ way_for texts d name
+    unfolding and_then
+    way_unknown c f = named (fault c) (ap (λ (r : Read (List ℕ)). and_then r number_in) f)
+
+    module _ (text : List ℕ) (f : value text ≡ text_of texts name) where
+      pub way_stops : (c : ℕ) → fault c ≡ number_in text → fault c ≡ way_for texts d name
+      unfolding and_then
+      way_stops c g = named (fault c) (g ∙ ap (λ (r : Read (List ℕ)). and_then r number_in) f)
+
+      pub way_inverse : (i : ℕ) → value i ≡ number_in text → value (Inverse i) ≡ way_for texts d name
+      unfolding and_then
+      way_inverse i g = named (value i) (g ∙ ap (λ (r : Read (List ℕ)). and_then r number_in) f)
+
+pub ruleset directing = (way_forward, way_unknown, way_stops, way_inverse)
 
 -- ---- one interval taken
 
@@ -158,148 +150,127 @@ module _ (names : ℕ) (texts : List (List ℕ)) (way : Way) (x : Span) (t : Lis
   abbrev step : Step (Row ℕ)
   step = way_step texts way x
 
-  pub took_refuse : {a : Asked} {why : Refusal} (t' : List ℕ) → asked_of a ≡ way_step texts way x → a ≡ Refuse why
-      → Took names (taken names (room_of t) (way_step texts way x) (rows t used)) (Refused why) t'
+  pub took_stop : (why : Refusal) (t' : List ℕ) → stop (number_of why) ≡ way_step texts way x
+      → Took names (taken names (room_of t) (way_step texts way x) (rows t used)) (Err why) t'
   unfolding taken outcome_answer
-  took_refuse {a} {why} t' e d =
-      let s : step ≡ stop (number_of why) = sym e ∙ ap asked_of d in
-      rw s (record { answers = plain_stopped why (way_plain texts way x (number_of why) s); on = λ u f. absurd (let z : ◌≡◌ {A = ℕ} 0 1 = cc in omega arith) })
+  took_stop why t' e =
+      let s : step ≡ stop (number_of why) = sym e in
+      rw s (record { answers = plain_stopped why (way_plain texts way x (number_of why) s); on = λ u f. cc })
 
-  pub took_skip : {a : Asked} → Holds names t used → asked_of a ≡ way_step texts way x → a ≡ Nothing
-      → Took names (taken names (room_of t) (way_step texts way x) (rows t used)) (Done used) t
+  pub took_skip : (o : Option Interval) → Holds names t used → step_by row_of (Ok o) ≡ way_step texts way x → o ≡ None
+      → Took names (taken names (room_of t) (way_step texts way x) (rows t used)) (Ok used) t
   unfolding taken outcome_answer
-  took_skip h e d =
-      let s : step ≡ skip = sym e ∙ ap asked_of d in
+  took_skip o h w e =
+      let s : step ≡ skip = sym (ap (λ (o : Option Interval). step_by row_of (Ok o)) (sym e) ∙ w) in
       rw s (record {
         answers = ap (λ (k : ℕ). answer 0 (k ∷ [])) (sym (length_rows t 0 used));
         on = λ u f. let v : used ≡ u = cc in subst (λ (k : ℕ). (stored (rows t used) ≡ stored (rows t k)) × Holds names t k) v (refl, h);
       })
 
-  pub took_insert : {a : Asked} {n : Interval} {r : Inserted} {u : ℕ} (t' : List ℕ) → Holds names t used → length t' ≡ length t
-      → asked_of a ≡ way_step texts way x → a ≡ Insert n
-      → Gives (entered same_value known_value names (room_of t) (row_of n) (rows t used)) t used (inserted_of r) t' → r ≡ inserted.Done u
-      → Took names (taken names (room_of t) (way_step texts way x) (rows t used)) (Done u) t'
+  pub took_insert : (n : Interval) (r : Result ℕ Refusal) (t' : List ℕ) (o : Option Interval) → Holds names t used → length t' ≡ length t → step_by row_of (Ok o) ≡ way_step texts way x → o ≡ Some n
+      → Gives (entered same_value known_value names (room_of t) (row_of n) (rows t used)) t used (answer_with one_value r) t'
+      → Took names (taken names (room_of t) (way_step texts way x) (rows t used)) r t'
   unfolding taken outcome_answer used_after now_stored
-  took_insert {a} {n} {r} {u} t' h l e d g f =
-      let s : step ≡ give (row_of n) = sym e ∙ ap asked_of d in
-      rw s (go (entered same_value known_value names (room_of t) (row_of n) (rows t used)) refl (subst (λ (q : Inserted). Gives o t used (inserted_of q) t') f g))
+  took_insert n r t' o h l w e g =
+      let s : step ≡ give (row_of n) = sym (ap (λ (o : Option Interval). step_by row_of (Ok o)) (sym e) ∙ w) in
+      rw s (go (entered same_value known_value names (room_of t) (row_of n) (rows t used)) refl g)
     where
-      o : Outcome (Row ℕ)
-      o = entered same_value known_value names (room_of t) (row_of n) (rows t used)
-
-      go : (p : Outcome (Row ℕ)) → entered same_value known_value names (room_of t) (row_of n) (rows t used) ≡ p → Gives p t used (answer 0 (u ∷ [])) t' → Took names p (Done u) t'
-      go (refused_by c) y k = let v : answer 0 (u ∷ []) ≡ answer c [] = k.answers in absurd (let z : ◌≡◌ {A = ℕ} 0 1 = cc in omega arith)
+      go : (p : Outcome (Row ℕ)) → entered same_value known_value names (room_of t) (row_of n) (rows t used) ≡ p → Gives p t used (answer_with one_value r) t' → Took names p r t'
+      go (refused_by c) y k = record {
+        answers = k.answers;
+        on = λ u f. let z : answer 0 (u ∷ []) ≡ answer c [] = ap (answer_with one_value) (sym f) ∙ k.answers in cc;
+      }
       go (stored ys) y k =
-          let v : answer 0 (u ∷ []) ≡ answer 0 (length ys ∷ []) = k.answers in
-          let w : length ys ≡ u = cc in
           let b : Holds names t' (length ys) = entered_holds names t t' used (row_of n) h l ys y (record { answers = refl; memory = k.memory; holds = k.holds }) in
           record {
             answers = k.answers;
-            on = λ q j. let i : length ys ≡ q = cc in subst (λ (c : ℕ). (stored ys ≡ stored (rows t' c)) × Holds names t' c) i (ap stored (sym k.holds), b);
+            on = λ u f.
+                let z : answer 0 (u ∷ []) ≡ answer 0 (length ys ∷ []) = ap (answer_with one_value) (sym f) ∙ k.answers in
+                let i : length ys ≡ u = cc in
+                subst (λ (c : ℕ). (stored ys ≡ stored (rows t' c)) × Holds names t' c) i (ap stored (sym k.holds), b);
           }
 
-  pub took_full : {a : Asked} {n : Interval} {r : Inserted} {why : Refusal} (t' : List ℕ)
-      → asked_of a ≡ way_step texts way x → a ≡ Insert n
-      → Gives (entered same_value known_value names (room_of t) (row_of n) (rows t used)) t used (inserted_of r) t' → r ≡ inserted.Refused why
-      → Took names (taken names (room_of t) (way_step texts way x) (rows t used)) (Refused why) t'
-  unfolding taken
-  took_full {a} {n} {r} {why} t' e d g f =
-      let s : step ≡ give (row_of n) = sym e ∙ ap asked_of d in
-      rw s (record { answers = sym (ap inserted_of f) ∙ g.answers; on = λ u j. absurd (let z : ◌≡◌ {A = ℕ} 0 1 = cc in omega arith) })
-
--- ---- a stretch that goes on, or stops
-
-pub done_is : (r : Built) → is_done r ≡ true → r ≡ Done (used_of r)
-done_is (Done u) e = refl
-done_is (Refused why) e = absurd (let z : ◌≡◌ {A = ℕ} 0 1 = cc in omega arith)
-
-pub not_done : {r : Built} {u : ℕ} → is_done r ≡ false → r ≡ Done u → ⊥
-not_done {r} {u} e d = let f : true ≡ false = sym (ap is_done d) ∙ e in let z : ◌≡◌ {A = ℕ} 0 1 = cc in omega arith
+-- ---- a stretch that stops
 
 -- a refusal is no answer of a call that is done
-pub no_refusal : (r : Built) (n : ℕ) → is_done r ≡ false → built_of r ≡ answer 0 (n ∷ []) → ⊥
-no_refusal (Done u) n e d = let z : ◌≡◌ {A = ℕ} 0 1 = cc in omega arith
-no_refusal (Refused why) n e d = let z : number_of why ≡ 0 = cc in refused_not_done why z
+pub no_refusal : (why : Refusal) (n : ℕ) → refused why ≡ answer 0 (n ∷ []) → ⊥
+no_refusal why n d = let z : number_of why ≡ 0 = cc in refused_not_done why z
 
-step_stops : (o : Outcome (Row ℕ)) (r : Built) (b : Build (Row ℕ)) → built_of r ≡ outcome_answer o → is_done r ≡ false
-    → ((c : ℕ) → o ≡ refused_by c → answer c [] ≡ build_answer b) → built_of r ≡ build_answer b
+interval_stops : (o : Outcome (Row ℕ)) (why : Refusal) (b : Build (Row ℕ)) → refused why ≡ outcome_answer o
+    → ((c : ℕ) → o ≡ refused_by c → answer c [] ≡ build_answer b) → refused why ≡ build_answer b
 unfolding outcome_answer
-step_stops (refused_by c) r b e d f = e ∙ f c refl
-step_stops (stored ys) r b e d f = absurd (no_refusal r (length ys) d e)
+interval_stops (refused_by c) why b e f = e ∙ f c refl
+interval_stops (stored ys) why b e f = absurd (no_refusal why (length ys) e)
 
-pub stretch_stops : (p : Build (Row ℕ)) (r : Built) (b : Build (Row ℕ)) → built_of r ≡ build_answer p → is_done r ≡ false
-    → ((c s k : ℕ) → p ≡ stopped c s k → answer c [] ≡ build_answer b) → built_of r ≡ build_answer b
+pub stretch_stops : (p : Build (Row ℕ)) (why : Refusal) (b : Build (Row ℕ)) → refused why ≡ build_answer p
+    → ((c s k : ℕ) → p ≡ stopped c s k → answer c [] ≡ build_answer b) → refused why ≡ build_answer b
 unfolding build_answer
-stretch_stops (stopped c s k) r b e d f = e ∙ f c s k refl
-stretch_stops (built ys) r b e d f = absurd (no_refusal r (length ys) d e)
+stretch_stops (stopped c s k) why b e f = e ∙ f c s k refl
+stretch_stops (built ys) why b e f = absurd (no_refusal why (length ys) e)
 
 -- ---- the intervals of a mapping, one after the other
 
 -- before the interval of number k: what is left of them on this table is the whole
-pub record Laying (names : ℕ) (texts : List (List ℕ)) (way : Way) (v : List ℕ) (from count : ℕ) (t₀ : List ℕ) (used₀ : ℕ) (t : List ℕ) (used k : ℕ) : Type 0 where
-  pub upto : k ≤ count
+pub record Laying (names : ℕ) (texts : List (List ℕ)) (way : Way) (v : List ℕ) (t₀ : List ℕ) (used₀ : ℕ) (t : List ℕ) (used k : ℕ) : Type 0 where
+  pub upto : k ≤ length v / 3
   pub long : length t ≡ length t₀
   pub holds : Holds names t used
-  pub left : (m : ℕ) → lay_intervals names (room_of t₀) (way_step texts way) m 0 (stretch v from count) (rows t₀ used₀)
-      ≡ lay_intervals names (room_of t₀) (way_step texts way) m k (stretch v (from + k) (count - k)) (rows t used)
+  pub left : (m : ℕ) → lay_intervals names (room_of t₀) (way_step texts way) m 0 (intervals_in v) (rows t₀ used₀)
+      ≡ lay_intervals names (room_of t₀) (way_step texts way) m k (stretch v k (length v / 3 - k)) (rows t used)
 
-module _ (names : ℕ) (texts : List (List ℕ)) (way : Way) (v : List ℕ) (from count : ℕ) (t₀ : List ℕ) (used₀ : ℕ) where
-  pub laying_start : Holds names t₀ used₀ → Laying names texts way v from count t₀ used₀ t₀ used₀ 0
+module _ (names : ℕ) (texts : List (List ℕ)) (way : Way) (v : List ℕ) (t₀ : List ℕ) (used₀ : ℕ) where
+  abbrev whole : ℕ → Build (Row ℕ)
+  whole m = lay_intervals names (room_of t₀) (way_step texts way) m 0 (intervals_in v) (rows t₀ used₀)
+
+  pub laying_start : Holds names t₀ used₀ → Laying names texts way v t₀ used₀ t₀ used₀ 0
   laying_start h =
-      let e : from ≡ from + 0 = omega arith in
-      let d : count ≡ count - 0 = omega arith in
-      record { upto = omega arith; long = refl; holds = h; left = λ m i. lay_intervals names (room_of t₀) (way_step texts way) m 0 (stretch v (e i) (d i)) (rows t₀ used₀) }
+      let d : length v / 3 ≡ length v / 3 - 0 = omega arith in
+      record { upto = omega arith; long = refl; holds = h; left = λ m i. lay_intervals names (room_of t₀) (way_step texts way) m 0 (stretch v 0 (d i)) (rows t₀ used₀) }
 
-  module _ (t : List ℕ) (used k : ℕ) (l : Laying names texts way v from count t₀ used₀ t used k) (h : k < count) where
+  module _ (t : List ℕ) (used k : ℕ) (l : Laying names texts way v t₀ used₀ t used k) (h : k < length v / 3) (t' : List ℕ) (x : Span) (e : x ≡ interval_at v k) where
     -- the room is as it was
-    same_room : room_of t ≡ room_of t₀
-    same_room = ap (λ (n : ℕ). n / 24) l.long
+    taken_here : (o : Outcome (Row ℕ)) → taken names (room_of t) (way_step texts way x) (rows t used) ≡ o
+        → taken names (room_of t₀) (way_step texts way (interval_at v k)) (rows t used) ≡ o
+    taken_here o d =
+        ap (λ (n : ℕ). taken names (n / 24) (way_step texts way (interval_at v k)) (rows t used)) (sym l.long)
+        ∙ ap (λ (x : Span). taken names (room_of t) (way_step texts way x) (rows t used)) (sym e) ∙ d
 
-    taken_here : (o : Outcome (Row ℕ)) → taken names (room_of t) (way_step texts way (interval_at v (from + k))) (rows t used) ≡ o
-        → taken names (room_of t₀) (way_step texts way (interval_at v (from + k))) (rows t used) ≡ o
-    taken_here o e = ap (λ (n : ℕ). taken names n (way_step texts way (interval_at v (from + k))) (rows t used)) (sym same_room) ∙ e
-
-    pub laying_turn : (t' : List ℕ) (r : Built) (u : ℕ) (x : Span) → x ≡ interval_at v (from + k) → length t' ≡ length t
-        → Took names (taken names (room_of t) (way_step texts way x) (rows t used)) r t' → is_done r ≡ true → u ≡ used_of r
-        → Laying names texts way v from count t₀ used₀ t' u (k + 1)
-    laying_turn t' r u x e g w d y =
-        let w' : Took names (taken names (room_of t) (way_step texts way (interval_at v (from + k))) (rows t used)) r t' =
-        subst (λ (x : Span). Took names (taken names (room_of t) (way_step texts way x) (rows t used)) r t') e w in
-        let p = w'.on u (done_is r d ∙ ap Done (sym y)) in
-        let a : from + k + 1 ≡ from + (k + 1) = omega arith in
-        let b : count - k - 1 ≡ count - (k + 1) = omega arith in
+    pub laying_turn : (u : ℕ) → length t' ≡ length t → Took names (taken names (room_of t) (way_step texts way x) (rows t used)) (Ok u) t'
+        → Laying names texts way v t₀ used₀ t' u (k + 1)
+    laying_turn u g w =
+        let p = w.on u refl in
+        let b : length v / 3 - k - 1 ≡ length v / 3 - (k + 1) = omega arith in
         record {
           upto = omega arith;
           long = g ∙ l.long;
           holds = p.1;
           left = λ m.
-              l.left m ∙ intervals_turn names (room_of t₀) (way_step texts way) m v k (from + k) (count - k) (rows t used) (rows t' u) (omega arith) (taken_here _ p.0)
-              ∙ (λ i. lay_intervals names (room_of t₀) (way_step texts way) m (k + 1) (stretch v (a i) (b i)) (rows t' u));
+              l.left m ∙ intervals_turn names (room_of t₀) (way_step texts way) m v k k (length v / 3 - k) (rows t used) (rows t' u) (omega arith) (taken_here _ p.0)
+              ∙ (λ i. lay_intervals names (room_of t₀) (way_step texts way) m (k + 1) (stretch v (k + 1) (b i)) (rows t' u));
         }
 
-    pub laying_stop : (t' : List ℕ) (r : Built) (x : Span) → x ≡ interval_at v (from + k)
-        → Took names (taken names (room_of t) (way_step texts way x) (rows t used)) r t' → is_done r ≡ false
-        → (m : ℕ) → Lays names (lay_intervals names (room_of t₀) (way_step texts way) m 0 (stretch v from count) (rows t₀ used₀)) r t'
+    pub laying_stop : (why : Refusal) → Took names (taken names (room_of t) (way_step texts way x) (rows t used)) (Err why) t'
+        → (m : ℕ) → Lays names (lay_intervals names (room_of t₀) (way_step texts way) m 0 (intervals_in v) (rows t₀ used₀)) (Err why) t'
     unfolding build_answer
-    laying_stop t' r x e w d m =
-        let w' : Took names (taken names (room_of t) (way_step texts way (interval_at v (from + k))) (rows t used)) r t' =
-        subst (λ (x : Span). Took names (taken names (room_of t) (way_step texts way x) (rows t used)) r t') e w in
-        record {
-          answers = step_stops (taken names (room_of t) (way_step texts way (interval_at v (from + k))) (rows t used)) r
-              (lay_intervals names (room_of t₀) (way_step texts way) m 0 (stretch v from count) (rows t₀ used₀)) w'.answers d
-              (λ c y. sym (ap build_answer (l.left m ∙ intervals_stop names (room_of t₀) (way_step texts way) m v k (from + k) (count - k) (rows t used) c (omega arith) (taken_here _ y))));
-          on = λ u y. absurd (not_done d y);
-        }
+    laying_stop why w m = record {
+      answers = interval_stops (taken names (room_of t) (way_step texts way x) (rows t used)) why (whole m) w.answers
+          (λ c y. sym (ap build_answer (l.left m ∙ intervals_stop names (room_of t₀) (way_step texts way) m v k k (length v / 3 - k) (rows t used) c (omega arith) (taken_here _ y))));
+      on = λ u y. cc;
+    }
 
-  pub laying_end : (t : List ℕ) (used k : ℕ) → Laying names texts way v from count t₀ used₀ t used k → count ≤ k
-      → (m : ℕ) → Lays names (lay_intervals names (room_of t₀) (way_step texts way) m 0 (stretch v from count) (rows t₀ used₀)) (Done used) t
+  pub laying_end : (t : List ℕ) (used k : ℕ) → Laying names texts way v t₀ used₀ t used k → length v / 3 ≤ k
+      → (m : ℕ) → Lays names (lay_intervals names (room_of t₀) (way_step texts way) m 0 (intervals_in v) (rows t₀ used₀)) (Ok used) t
   unfolding build_answer
   laying_end t used k l h m =
-      let z : count - k ≡ 0 = omega arith in
-      let b : lay_intervals names (room_of t₀) (way_step texts way) m 0 (stretch v from count) (rows t₀ used₀) ≡ built (rows t used) =
-      l.left m ∙ intervals_end names (room_of t₀) (way_step texts way) m v k (from + k) (count - k) (rows t used) z in
+      let z : length v / 3 - k ≡ 0 = omega arith in
+      let b : whole m ≡ built (rows t used) =
+      l.left m ∙ intervals_end names (room_of t₀) (way_step texts way) m v k k (length v / 3 - k) (rows t used) z in
       record {
         answers = ap (λ (n : ℕ). answer 0 (n ∷ [])) (sym (length_rows t 0 used)) ∙ sym (ap build_answer b);
-        on = λ u y. let i : used ≡ u = cc in
-            subst (λ (c : ℕ). (lay_intervals names (room_of t₀) (way_step texts way) m 0 (stretch v from count) (rows t₀ used₀) ≡ built (rows t c)) × Holds names t c) i (b, l.holds);
+        on = λ u y. let i : used ≡ u = cc in subst (λ (c : ℕ). (whole m ≡ built (rows t c)) × Holds names t c) i (b, l.holds);
       }
+
+-- what one interval comes to, and a turn of the intervals
+pub ruleset taking = (took_stop, took_skip, took_insert, holds_ordered)
+
+pub ruleset laying = (laying_start, laying_turn, laying_stop, laying_end)

@@ -1,273 +1,199 @@
 // The build over time from metadata (RULES, The map over time): mappings and intervals in order, each interval an insert into a table
 // that was emptied. The table stays in order, so no insert pays a check.
-ghost use Rattle.std.specs.Prelude.{◌≡◌, [], ℕ, ◌+◌, ◌*◌, ◌≤◌, length};
-ghost use Rattle.leaves_names.specs.Names.{names_of, Ordered};
+ghost use Rattle.std.specs.Prelude.{◌≡◌, [], ℕ, ◌*◌, ◌≤◌, length};
+ghost use Rattle.leaves_names.specs.Names.{names_in};
 ghost use Rattle.metadata_rules.specs.Metadata.{mapping};
-ghost use Rattle.metadata_rules.specs.Words.{before, stretch, mappings_from};
-ghost use Rattle.metadata_form.specs.Header.{lists};
+ghost use Rattle.metadata_rules.specs.Words.{before, mappings_from};
+ghost use Rattle.metadata_form.specs.Header.{lent};
+ghost use Rattle.map_table.specs.Interval.{row_of};
 ghost use Rattle.map_rules.specs.Memory.{rows, room_of};
-ghost use Rattle.build_rules.specs.Reading.{and_then, text_of, number_in, direction_by, instrument_read};
-ghost use Rattle.build_rules.specs.OverTime.{dated, taken, lay_intervals, lay_mapping, lay_mappings, directed};
-ghost use Rattle.build_rules.specs.Call.{built_of};
-ghost use Rattle.build_time.specs.OverTime.{asked_of, way_step, over_time_answer, over_time_memory, over_time_rows, Holds, Took, Lays, Leaves};
+ghost use Rattle.leaves.specs.Refusal.{answer_with};
+ghost use Rattle.theory.specs.Answer.{one_value};
+ghost use Rattle.build_rules.specs.Reading.{direction_by, read_by, intervals_in};
+ghost use Rattle.build_rules.specs.OverTime.{give_by, step_by, dated, taken, lay_intervals, lay_mapping, lay_mappings, directed};
+ghost use Rattle.build_time.specs.OverTime.{way_for, way_step, way_filled, over_time_answer, over_time_memory, over_time_rows, Holds, Took, Lays};
 
-use build_rules::call::{Built, build_fits, is_done, used_of};
-use build_rules::reading::{
-    Direction, Heading, Instrument, Symbol, clear, direction_by, look, moment_of, number_named,
-};
+use build_rules::call::{lent_names, settle};
+use build_rules::reading::{Direction, direction_by, intervals_at, moment_of, number_in, text_of};
 use leaves::refusal::Refusal;
-use leaves_days::days::Moment;
-use leaves_names::names::is_list;
+use leaves_names::names::{NameList, Names};
+use map_table::interval::Interval;
 use map_table::table::table_fits;
-use map_time::insert::{Inserted, enter};
-use metadata_form::header::{Header, lengths_by};
-use metadata_words::words::{count_at, interval_at, name_at};
+use map_time::insert::enter;
+use metadata_form::header::Header;
+use metadata_form::lists::Lists;
+use metadata_words::words::{INTERVAL_WORDS, Mappings, count_at, interval_at, name_at};
 
 // How a mapping's intervals are read: its name is their symbol, or says their instrument's number.
-#[derive(Clone, Copy)]
+#[derive(Clone, Copy, Debug, PartialEq, Eq)]
 pub enum Way {
     Forward(u32),
     Inverse(u32),
 }
 
-// What an interval asks for: a refusal, nothing, or an insert.
-#[derive(Clone, Copy)]
-pub enum Asked {
-    Refuse(Refusal),
-    Nothing,
-    Insert(map_table::interval::Interval),
-}
-
 // An interval's insert, with its dates read: 11 for its start, then for its end.
-fn dated_insert(instrument: u32, symbol: u32, x: metadata_rules::Interval) -> Asked
-    ensures { asked_of result ≡ dated instrument symbol x }
+#[tactic(auto, using(build_rules::specs::OverTimeLaws::dating))]
+fn dated_insert(
+    instrument: u32,
+    symbol: u32,
+    interval: metadata_rules::Interval,
+) -> Result<Interval, Refusal>
+    ensures { give_by row_of result ≡ dated instrument symbol interval }
 {
-    let first = moment_of(x.start);
-    match first {
-        Moment::Refused(why) => Asked::Refuse(why),
-        Moment::Nanoseconds(start) => {
-            let last = moment_of(x.end);
-            match last {
-                Moment::Refused(why) => Asked::Refuse(why),
-                Moment::Nanoseconds(end) => {
-                    let n = map_table::interval::Interval {
-                        instrument: instrument,
-                        symbol: symbol,
-                        start: start,
-                        end: end,
-                    };
-                    Asked::Insert(n)
-                }
-            }
-        }
-    }
+    Ok(Interval {
+        instrument,
+        symbol,
+        start: moment_of(interval.start)?,
+        end: moment_of(interval.end)?,
+    })
 }
 
-// An empty interval symbol: it is skipped.
-fn skip() -> Asked
-    ensures { result ≡ Asked.Nothing }
-{
-    Asked::Nothing
-}
-
-// One interval's step, by what stands under its symbol: 3, the skip, 8 where the symbol says the number, 11, 11.
-fn step(
-    bytes: &[u8],
-    ends: &[u32],
-    names: usize,
+// The insert of an interval whose symbol is this text: 8 where the text says the number, then 11, 11.
+#[tactic(auto, using(crate::specs::OverTimeLaws::filling))]
+fn filled_insert(
     way: Way,
     interval: metadata_rules::Interval,
-) -> Asked
-    requires { Ordered bytes.now ends.now names }
-    ensures { asked_of result ≡ way_step (names_of bytes.now ends.now names) way interval }
+    text: &[u8],
+) -> Result<Interval, Refusal>
+    ensures { give_by row_of result ≡ way_filled way interval text.now }
 {
-    let symbol = look(bytes, ends, names, interval.symbol);
-    match symbol {
-        Symbol::Unknown => Asked::Refuse(Refusal::UnknownSymbol),
-        Symbol::Empty => skip(),
-        Symbol::Filled => match way {
-            Way::Forward(name) => {
-                let read = number_named(bytes, ends, names, interval.symbol);
-                match read {
-                    Instrument::Refused(why) => Asked::Refuse(why),
-                    Instrument::Number(instrument) => dated_insert(instrument, name, interval),
-                }
-            }
-            Way::Inverse(instrument) => dated_insert(instrument, interval.symbol, interval),
-        },
+    match way {
+        Way::Forward(name) => dated_insert(number_in(text)?, name, interval),
+        Way::Inverse(instrument) => dated_insert(instrument, interval.symbol, interval),
     }
+}
+
+// What an interval asks for: 3 for its symbol, the skip of an empty one, then its insert.
+#[tactic(auto, using(crate::specs::OverTimeLaws::stepping))]
+fn step(
+    names: Names<'_>,
+    way: Way,
+    interval: metadata_rules::Interval,
+) -> Result<Option<Interval>, Refusal>
+    ensures { step_by row_of result ≡ way_step (names_in names.entry.list) way interval }
+{
+    let text = text_of(names, interval.symbol)?;
+    if text.is_empty() {
+        return Ok(None);
+    }
+    Ok(Some(filled_insert(way, interval, text)?))
 }
 
 // One interval: its step, taken by an insert's own order: 1, start = end, 3, 2.
+#[tactic(auto, using(crate::specs::OverTimeLaws::taking))]
 fn lay_interval(
     table: &mut [u8],
     used: usize,
-    bytes: &[u8],
-    ends: &[u32],
-    names: usize,
+    names: Names<'_>,
     way: Way,
     interval: metadata_rules::Interval,
-) -> Built
-    requires { Ordered bytes.now ends.now names × Holds names table.old used }
-    ensures { Took names (taken names (room_of table.old) (way_step (names_of bytes.now ends.now names) way interval) (rows table.old used)) result table.new }
+) -> Result<usize, Refusal>
+    requires { Holds names.list.names table.old used }
+    ensures { Took names.entry.list.names (taken names.entry.list.names (room_of table.old)
+        (way_step (names_in names.entry.list) way interval) (rows table.old used)) result table.new }
 {
-    let asked = step(bytes, ends, names, way, interval);
-    match asked {
-        Asked::Refuse(why) => Built::Refused(why),
-        Asked::Nothing => Built::Done(used),
-        Asked::Insert(n) => {
-            let inserted = enter(table, used, names, n);
-            match inserted {
-                Inserted::Done(then) => Built::Done(then),
-                Inserted::Refused(why) => Built::Refused(why),
-            }
-        }
+    match step(names, way, interval)? {
+        Some(insert) => enter(table, used, names.list.names, insert),
+        None => Ok(used),
     }
 }
 
-// The intervals of a mapping, `count` of them from the place `from` on, in order.
+// The intervals of a mapping, in order.
+#[tactic(auto, using(crate::specs::OverTimeLaws::laying))]
 fn lay_intervals(
     table: &mut [u8],
     used: usize,
-    bytes: &[u8],
-    ends: &[u32],
-    names: usize,
+    names: Names<'_>,
     way: Way,
     intervals: &[u32],
-    from: usize,
-    count: usize,
-) -> Built
-    requires { Ordered bytes.now ends.now names × Holds names table.old used × (3 * (from + count) ≤ length intervals.now) }
-    ensures { (t : ℕ) → Lays names (lay_intervals names (room_of table.old)
-        (way_step (names_of bytes.now ends.now names) way) t 0 (stretch intervals.now from count)
+) -> Result<usize, Refusal>
+    requires { Holds names.list.names table.old used }
+    ensures { (t : ℕ) → Lays names.entry.list.names (lay_intervals names.entry.list.names (room_of table.old)
+        (way_step (names_in names.entry.list) way) t 0 (intervals_in intervals.now)
         (rows table.old used)) result table.new }
 {
     let mut then = used;
-    let mut k = 0;
-    while k < count {
-        let x = interval_at(intervals, from + k);
-        let laid = lay_interval(table, then, bytes, ends, names, way, x);
-        if !is_done(laid) {
-            return laid;
-        }
-        then = used_of(laid);
-        k += 1;
+    for k in 0..intervals.len() / INTERVAL_WORDS {
+        let interval = interval_at(intervals, k);
+        then = lay_interval(table, then, names, way, interval)?;
     }
-    Built::Done(then)
+    Ok(then)
 }
 
-// The instrument's number that a mapping's name says: 3, 8.
-fn instrument_of(bytes: &[u8], ends: &[u32], names: usize, name: u32) -> Instrument
-    requires { Ordered bytes.now ends.now names }
-    ensures { instrument_read result ≡ and_then (text_of (names_of bytes.now ends.now names) name) number_in }
+// How the intervals of a mapping are read: inverse, its name is read first, 3, 8.
+#[tactic(auto, using(crate::specs::OverTimeLaws::directing))]
+fn way_of(names: Names<'_>, direction: Direction, name: u32) -> Result<Way, Refusal>
+    ensures { read_by result ≡ way_for (names_in names.entry.list) direction name }
 {
-    if (name as usize) < names {
-        number_named(bytes, ends, names, name)
-    } else {
-        Instrument::Refused(Refusal::UnknownSymbol)
+    match direction {
+        Direction::Forward => Ok(Way::Forward(name)),
+        Direction::Inverse => Ok(Way::Inverse(number_in(text_of(names, name)?)?)),
     }
 }
 
 // One mapping: inverse, its name is read before its intervals, even when it has none.
+#[tactic(auto, using(crate::specs::OverTimeMappings::mapping_lays))]
 fn lay_mapping(
     table: &mut [u8],
     used: usize,
-    bytes: &[u8],
-    ends: &[u32],
-    names: usize,
+    names: Names<'_>,
     direction: Direction,
     name: u32,
     intervals: &[u32],
-    from: usize,
-    count: usize,
-) -> Built
-    requires { Ordered bytes.now ends.now names × Holds names table.old used × (3 * (from + count) ≤ length intervals.now) }
-    ensures { (t : ℕ) → Lays names (lay_mapping (room_of table.old) (names_of bytes.now ends.now names) direction t
-        (mapping name (stretch intervals.now from count)) (rows table.old used)) result table.new }
+) -> Result<usize, Refusal>
+    requires { Holds names.list.names table.old used }
+    ensures { (t : ℕ) → Lays names.entry.list.names (lay_mapping (room_of table.old) (names_in names.entry.list) direction t
+        (mapping name (intervals_in intervals.now)) (rows table.old used)) result table.new }
 {
-    match direction {
-        Direction::Forward => {
-            let way = Way::Forward(name);
-            lay_intervals(table, used, bytes, ends, names, way, intervals, from, count)
-        }
-        Direction::Inverse => {
-            let read = instrument_of(bytes, ends, names, name);
-            match read {
-                Instrument::Refused(why) => Built::Refused(why),
-                Instrument::Number(instrument) => {
-                    let way = Way::Inverse(instrument);
-                    lay_intervals(table, used, bytes, ends, names, way, intervals, from, count)
-                }
-            }
-        }
-    }
+    let way = way_of(names, direction, name)?;
+    lay_intervals(table, used, names, way, intervals)
 }
 
-// The mappings, `count` of them, in order, onto an empty table.
+// The mappings, in order, onto an empty table. (The point-in-time build has this walk too: one for both would take what a mapping
+// promises, and what all do, as members of a trait, and be no plainer.)
 fn lay_mappings(
     table: &mut [u8],
-    bytes: &[u8],
-    ends: &[u32],
-    names: usize,
+    names: Names<'_>,
     direction: Direction,
-    mappings: &[u32],
-    intervals: &[u32],
-    count: usize,
-) -> Built
-    requires { Ordered bytes.now ends.now names × Holds names table.old 0 × (2 * count ≤ length mappings.now) × (3 * before mappings.now count ≤ length intervals.now) }
-    ensures { Lays names (lay_mappings (room_of table.old) (names_of bytes.now ends.now names) direction 0
-        (mappings_from mappings.now intervals.now 0 0 count) []) result table.new }
+    mappings: Mappings<'_>,
+) -> Result<usize, Refusal>
+    requires { Holds names.list.names table.old 0 × (2 * mappings.count ≤ length mappings.words.now)
+        × (3 * before mappings.words.now mappings.count ≤ length mappings.intervals.now) }
+    ensures { Lays names.entry.list.names (lay_mappings (room_of table.old) (names_in names.entry.list) direction 0
+        (mappings_from mappings.entry.words.now mappings.entry.intervals.now 0 0 mappings.entry.count) []) result table.new }
 {
     let mut used = 0;
     let mut from = 0;
-    let mut t = 0;
-    while t < count {
-        let name = name_at(mappings, t);
-        let n = count_at(mappings, t);
-        let laid = lay_mapping(
-            table, used, bytes, ends, names, direction, name, intervals, from, n,
-        );
-        if !is_done(laid) {
-            return laid;
-        }
-        used = used_of(laid);
+    for t in 0..mappings.count {
+        let name = name_at(mappings.words, t);
+        let n = count_at(mappings.words, t);
+        let intervals = intervals_at(mappings.intervals, from, n);
+        used = lay_mapping(table, used, names, direction, name, intervals)?;
         from += n;
-        t += 1;
     }
-    Built::Done(used)
+    Ok(used)
 }
 
-// The build on memory of its form, onto an empty table: 9, then the mappings. A refusal leaves an empty table.
+// The build on memory of its form, onto an empty table: 9, then the mappings.
 fn build(
     table: &mut [u8],
-    stype_in: u8,
-    stype_out: u8,
-    mappings: &[u32],
-    intervals: &[u32],
-    count: usize,
-    bytes: &[u8],
-    ends: &[u32],
-    names: usize,
-) -> Built
-    requires { Ordered bytes.now ends.now names × Holds names table.old 0 × (2 * count ≤ length mappings.now) × (3 * before mappings.now count ≤ length intervals.now) }
-    ensures { Leaves (directed (room_of table.old) (names_of bytes.now ends.now names)
-        (mappings_from mappings.now intervals.now 0 0 count) (direction_by stype_in stype_out)) (length table.old) result
-        table.new }
+    header: Header,
+    lists: Lists<'_>,
+    names: Names<'_>,
+) -> Result<usize, Refusal>
+    requires { Holds names.list.names table.old 0 × (2 * header.mappings ≤ length lists.mappings.now)
+        × (3 * before lists.mappings.now header.mappings ≤ length lists.intervals.now) }
+    ensures { Lays names.entry.list.names (directed (room_of table.old) (names_in names.entry.list)
+        (mappings_from lists.entry.mappings.now lists.entry.intervals.now 0 0 header.mappings)
+        (direction_by header.stype_in header.stype_out)) result table.new }
 {
-    let heading = direction_by(stype_in, stype_out);
-    match heading {
-        Heading::Refused(why) => Built::Refused(why),
-        Heading::Is(direction) => {
-            let laid = lay_mappings(
-                table, bytes, ends, names, direction, mappings, intervals, count,
-            );
-            if is_done(laid) {
-                return laid;
-            }
-            clear(table);
-            laid
-        }
-    }
+    let direction = direction_by(header.stype_in, header.stype_out)?;
+    let mappings = Mappings {
+        words: lists.mappings,
+        count: header.mappings,
+        intervals: lists.intervals,
+    };
+    lay_mappings(table, names, direction, mappings)
 }
 
 // Builds the table over time from a metadata and a name list: 15 for all lent memory, 14 for the list, then 9, and per interval 3, the
@@ -275,61 +201,20 @@ fn build(
 pub fn over_time(
     table: &mut [u8],
     header: Header,
-    symbols: &[u32],
-    partial: &[u32],
-    not_found: &[u32],
-    mappings: &[u32],
-    intervals: &[u32],
-    bytes: &[u8],
-    ends: &[u32],
-    names: usize,
-    name_bytes: usize,
-) -> Built
-    ensures result_value { built_of result ≡ over_time_answer table.old header
-        (lists symbols.now partial.now not_found.now mappings.now intervals.now) bytes.now
-        ends.now names name_bytes }
-    ensures table_after { table.new ≡ over_time_memory table.old header
-        (lists symbols.now partial.now not_found.now mappings.now intervals.now) bytes.now
-        ends.now names name_bytes }
-    ensures rows_after { rows table.new (length (over_time_rows table.old header
-        (lists symbols.now partial.now not_found.now mappings.now intervals.now) bytes.now
-        ends.now names name_bytes)) ≡ over_time_rows table.old header
-        (lists symbols.now partial.now not_found.now mappings.now intervals.now) bytes.now
-        ends.now names name_bytes }
+    lists: Lists<'_>,
+    list: NameList<'_>,
+) -> Result<usize, Refusal>
+    ensures result_value { answer_with one_value result ≡ over_time_answer table.old header (lent lists.entry)
+        list.entry.bytes.now list.entry.ends.now list.entry.names list.entry.name_bytes }
+    ensures table_after { table.new ≡ over_time_memory table.old header (lent lists.entry)
+        list.entry.bytes.now list.entry.ends.now list.entry.names list.entry.name_bytes }
+    ensures rows_after { rows table.new (length (over_time_rows table.old header (lent lists.entry)
+        list.entry.bytes.now list.entry.ends.now list.entry.names list.entry.name_bytes)) ≡ over_time_rows table.old header
+        (lent lists.entry) list.entry.bytes.now list.entry.ends.now list.entry.names list.entry.name_bytes }
 {
     let of_form = table_fits(table.len(), 0);
-    clear(table);
-    let l = lengths_by(
-        symbols.len(),
-        partial.len(),
-        not_found.len(),
-        mappings.len(),
-        intervals.len(),
-    );
-    if !build_fits(
-        of_form,
-        header,
-        l,
-        mappings,
-        bytes.len(),
-        ends.len(),
-        names,
-        name_bytes,
-    ) {
-        return Built::Refused(Refusal::BadMemory);
-    }
-    if !is_list(bytes, ends, names, name_bytes) {
-        return Built::Refused(Refusal::IllFormed);
-    }
-    build(
-        table,
-        header.stype_in,
-        header.stype_out,
-        mappings,
-        intervals,
-        header.mappings,
-        bytes,
-        ends,
-        names,
-    )
+    table.fill(0);
+    let names = lent_names(of_form, header, lists, list)?;
+    let laid = build(table, header, lists, names);
+    settle(table, laid)
 }

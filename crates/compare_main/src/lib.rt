@@ -3,18 +3,26 @@
 #![tactic(auto)]
 
 ghost use Rattle.std.specs.Prelude.{◌≡◌, ◌≤◌, length};
-ghost use Rattle.map_compare_walk.specs.Walk.{InOrder};
-ghost use Rattle.standard.specs.Status.{Ends};
+ghost use Rattle.standard.specs.Status.{status_number, Ends};
 ghost use Rattle.compare_main.specs.Asked.{tables_status, status_of};
 
 use compare_text::telling::lay_portion;
+use leaves::refusal::Refusal;
+use leaves_fields::fields::u32_at;
 use lines::asked::{NAMES_BYTES, TABLE, table_end};
+use lines::lines::{number, word};
 use lines::parts::PART_HEAD;
-use map_compare::compare::{both_formed, compare_fits};
-use map_compare_walk::walk::Position;
+use map_compare::compare::Lent;
+use map_compare_walk::stretches::Walk;
+use map_compare_walk::tables::Tables;
 use map_table::interval::WIDTH;
-use standard::{BAD, DONE, FAILED, Input, text_space};
-use std::io::Input as StandardInput;
+use standard::{Failure, Status, read_input, text_space, write_output};
+use std::io::Input;
+
+// What the program was doing where reading or writing fails.
+const READING: &[u8] = b"compare: reading standard input";
+
+const WRITING: &[u8] = b"compare: writing standard output";
 
 // An input over this many bytes is bad.
 const MOST_BYTES: usize = 3145750;
@@ -27,41 +35,39 @@ fn input_space() -> [u8; 3145751]
 }
 
 // Writes the last line and answers the status.
-fn say(rt: &(impl Print + Eprint), text: &[u8], status: u8) -> u8
-    ensures { Ends status result }
+fn say(rt: &(impl Print + Eprint), text: &[u8], status: Status) -> Result<Status, Failure>
+    ensures { Ends (status_number status) result }
 {
-    standard::ended(rt, text, status, b"compare: writing standard output")
+    standard::ended(rt, text, status, WRITING)
 }
 
-// Writes a portion of lines, and answers whether it went out.
-fn put(rt: &(impl Print + Eprint), text: &[u8]) -> bool {
-    standard::write_portion(rt, text, b"compare: writing standard output")
+// Lays the line of a refusal, and answers the place behind it.
+fn refused_line(text: &mut [u8], refusal: Refusal) -> usize
+    requires { 105 ≤ length text.old }
+    ensures { result ≤ length text.new }
+{
+    let a = word(text, 0, b"refused ");
+    let b = number(text, a, refusal.number() as u64);
+    word(text, b, b"\n")
 }
 
-// Writes the line of every stretch in which two tables that are in order disagree, portion by portion, then `end`.
+// Writes the line of every stretch in which two tables disagree, portion by portion, then `end`.
 fn tell_all(
     rt: &(impl Print + Eprint),
-    left: &[u8],
-    n: usize,
-    right: &[u8],
-    m: usize,
+    tables: Tables<'_>,
     text: &mut [u8],
-) -> u8
-    requires { InOrder left.now n right.now m × (105 ≤ length text.old) }
+) -> Result<Status, Failure>
+    requires { 105 ≤ length text.old }
     ensures { Ends 0 result }
 {
-    let mut l = Position { place: 0, from: 0 };
-    let mut r = Position { place: 0, from: 0 };
-    while l.place < n || r.place < m {
-        let p = lay_portion(left, n, right, m, l, r, text);
-        let k = p.at;
-        if !put(rt, &text[..k]) {
-            return FAILED;
+    let mut walk = Walk::new(tables);
+    loop {
+        let end = lay_portion(&mut walk, text);
+        if end == 0 {
+            return say(rt, b"end\n", Status::Done);
         }
-        l = p.left;
-        r = p.right;
+        write_output(rt, &text[..end], WRITING)?;
     }
-    say(rt, b"end\n", DONE)
 }
 
 // Compares two tables of which every interval is in use: their lines, or the line that refuses them.
@@ -71,47 +77,49 @@ fn compare_tables(
     right: &[u8],
     names: usize,
     text: &mut [u8],
-) -> u8
+) -> Result<Status, Failure>
     requires { 105 ≤ length text.old }
     ensures { Ends (tables_status left.now right.now names) result }
 {
-    let n = left.len() / WIDTH;
-    let m = right.len() / WIDTH;
-    if !compare_fits(left.len(), n, right.len(), m, names, 0) {
-        say(rt, b"refused 15\n", BAD)
-    } else if both_formed(left, n, right, m, names) {
-        tell_all(rt, left, n, right, m, text)
-    } else {
-        say(rt, b"refused 14\n", BAD)
+    let lent = Lent {
+        left,
+        left_used: left.len() / WIDTH,
+        right,
+        right_used: right.len() / WIDTH,
+        names,
+    };
+    match lent.check(0) {
+        Ok(tables) => tell_all(rt, tables, text),
+        Err(refusal) => {
+            let end = refused_line(text, refusal);
+            say(rt, &text[..end], Status::Bad)
+        }
     }
 }
 
 // Takes the input apart and compares, or writes only the line that says that it is bad.
-fn show(rt: &(impl Print + Eprint), input: &[u8], text: &mut [u8]) -> u8
+fn show(rt: &(impl Print + Eprint), input: &[u8], text: &mut [u8]) -> Result<Status, Failure>
     requires { 105 ≤ length text.old }
     ensures { Ends (status_of input.now) result }
 {
-    let end = table_end(input, MOST_BYTES, TABLE);
-    if end == 0 {
-        return say(rt, b"bad bundle\n", BAD);
-    }
-    let names = leaves_fields::fields::u32_at(input, PART_HEAD) as usize;
-    let begin = NAMES_BYTES + PART_HEAD;
-    let next = end + PART_HEAD;
-    compare_tables(rt, &input[begin..end], &input[next..], names, text)
+    let Some(end) = table_end(input, MOST_BYTES, TABLE) else {
+        return say(rt, b"bad bundle\n", Status::Bad);
+    };
+    let names = u32_at(input, PART_HEAD) as usize;
+    let left = &input[NAMES_BYTES + PART_HEAD..end];
+    let right = &input[end + PART_HEAD..];
+    compare_tables(rt, left, right, names, text)
 }
 
 // Compares standard input and answers the status.
-fn compared(rt: &(impl StandardInput + Print + Eprint)) -> u8 {
+fn compared(rt: &(impl Input + Print + Eprint)) -> Result<Status, Failure> {
     let mut input = input_space();
     let mut text = text_space();
-    match standard::read_input(rt, &mut input, b"compare: reading standard input") {
-        Input::Bytes(n) => show(rt, &input[..n], &mut text),
-        Input::Failed => FAILED,
-    }
+    let used = read_input(rt, &mut input, READING)?;
+    show(rt, &input[..used], &mut text)
 }
 
 // The program: compares the tables of standard input, and answers the status to end with.
-pub fn compare_main(rt: &(impl StandardInput + Print + Eprint)) -> u8 {
-    compared(rt)
+pub fn compare_main(rt: &(impl Input + Print + Eprint)) -> u8 {
+    compared(rt).unwrap_or(Status::Failed).into()
 }

@@ -1,5 +1,5 @@
 -- A metadata's header at the C door: its words, and what they hold after a call.
-use Rattle.std.specs.Prelude.{ℕ, zero, suc, Bool, true, false, ◌&&◌, List, [], ◌∷◌, leb, eqb, get_or}
+use Rattle.std.specs.Prelude.{ℕ, zero, suc, Bool, true, false, ◌&&◌, List, [], ◌∷◌, leb, eqb, cond, get_or, Option, Some, None}
 use Rattle.theory.specs.Answer.{Answer, answer}
 use Rattle.metadata_form.specs.declared.header.Header.{Header}
 
@@ -40,6 +40,10 @@ header_of w = record {
   not_found = get_or w 12 0;
   mappings = get_or w 13 0;
 }
+
+-- the header that words are, where they are one
+abbrev pub header_read : List ℕ → Option Header
+header_read w = cond (header_fits w) (Some (header_of w)) None
 
 -- what a header's words hold: those of a done call's header; a refusal leaves what they held
 unfoldable pub words_in : List ℕ → Answer → List ℕ

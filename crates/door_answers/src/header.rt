@@ -1,87 +1,73 @@
 // A metadata's header at the C door: fourteen words, one a field, the counts in use last.
-ghost use Rattle.std.specs.Prelude.{◌≡◌, true, length, get_or};
-ghost use Rattle.theory.specs.Answer.{bit};
+ghost use Rattle.std.specs.Prelude.{◌≡◌, nat_le, length};
+ghost use Rattle.std.specs.List.{list_all, zip};
 ghost use Rattle.metadata_form.specs.Header.{numbers_of};
-ghost use Rattle.door_answers.specs.Header.{widths, within, header_fits, header_of};
+ghost use Rattle.door_answers.specs.Header.{within, header_read};
 
 use metadata_form::header::Header;
 
-const TOP: u64 = 18446744073709551615;
-
 // The most that each word may hold, by the width of its field.
-fn field_widths() -> [u64; 14]
-    ensures { result ≡ widths }
+const WIDTHS: [u64; 14] = [
+    u8::MAX as u64,
+    u32::MAX as u64,
+    u16::MAX as u64,
+    u64::MAX,
+    u64::MAX,
+    u64::MAX,
+    u8::MAX as u64,
+    u8::MAX as u64,
+    1,
+    u64::MAX,
+    u64::MAX,
+    u64::MAX,
+    u64::MAX,
+    u64::MAX,
+];
+
+// Whether no word is over its bound, pair by pair.
+fn none_over(words: &[u64], most: &[u64]) -> bool
+    ensures { result ≡ list_all (λ p. nat_le p.0 p.1) (zip words.now most.now) }
 {
-    [
-        255, 4294967295, 65535, TOP, TOP, TOP, 255, 255, 1, TOP, TOP, TOP, TOP, TOP,
-    ]
+    words.iter().zip(most).all(|(word, bound)| *word <= *bound)
 }
 
 // Whether there are as many words as bounds, none of them over its own.
 fn is_within(words: &[u64], most: &[u64]) -> bool
     ensures { result ≡ within words.now most.now }
 {
-    if words.len() != most.len() {
-        return false;
+    words.len() == most.len() && none_over(words, most)
+}
+
+// The header that words are: fourteen, each within its field's width; where they are none, 15.
+#[tactic(auto, using(crate::specs::HeaderLaws::within_length))]
+pub fn header_of(words: &[u64]) -> Option<Header>
+    ensures { result ≡ header_read words.now }
+{
+    if !is_within(words, &WIDTHS) {
+        return None;
     }
-    let mut i = 0;
-    while i < most.len() {
-        if most[i] < words[i] {
-            return false;
-        }
-        i += 1;
-    }
-    true
-}
-
-// Whether words are a header: fourteen, each within its field's width; where not, 15.
-pub fn is_header(words: &[u64]) -> bool
-    ensures { result ≡ header_fits words.now }
-{
-    let most = field_widths();
-    is_within(words, &most)
-}
-
-fn word(words: &[u64], i: usize) -> u64
-    ensures { result ≡ get_or words.now i 0 }
-{
-    if i < words.len() { words[i] } else { 0 }
-}
-
-// The header that words are.
-pub fn header_of(words: &[u64]) -> Header
-    requires { header_fits words.now ≡ true }
-    ensures { result ≡ header_of words.now }
-{
-    Header {
-        version: word(words, 0) as u8,
-        dataset: word(words, 1) as u32,
-        schema: word(words, 2) as u16,
-        start: word(words, 3),
-        end: word(words, 4),
-        limit: word(words, 5),
-        stype_in: word(words, 6) as u8,
-        stype_out: word(words, 7) as u8,
-        ts_out: word(words, 8) == 1,
-        symbol_cstr_len: word(words, 9),
-        symbols: word(words, 10) as usize,
-        partial: word(words, 11) as usize,
-        not_found: word(words, 12) as usize,
-        mappings: word(words, 13) as usize,
-    }
-}
-
-fn from_bool(b: bool) -> u64
-    ensures { result ≡ bit b }
-{
-    if b { 1 } else { 0 }
+    Some(Header {
+        version: words[0] as u8,
+        dataset: words[1] as u32,
+        schema: words[2] as u16,
+        start: words[3],
+        end: words[4],
+        limit: words[5],
+        stype_in: words[6] as u8,
+        stype_out: words[7] as u8,
+        ts_out: words[8] == 1,
+        symbol_cstr_len: words[9],
+        symbols: words[10] as usize,
+        partial: words[11] as usize,
+        not_found: words[12] as usize,
+        mappings: words[13] as usize,
+    })
 }
 
 // A header's words.
 fn words_of(h: Header) -> [u64; 14]
     ensures { result ≡ numbers_of h }
 {
-    let ts_out = from_bool(h.ts_out);
     [
         h.version as u64,
         h.dataset as u64,
@@ -91,7 +77,7 @@ fn words_of(h: Header) -> [u64; 14]
         h.limit,
         h.stype_in as u64,
         h.stype_out as u64,
-        ts_out,
+        h.ts_out as u64,
         h.symbol_cstr_len,
         h.symbols as u64,
         h.partial as u64,
@@ -100,23 +86,10 @@ fn words_of(h: Header) -> [u64; 14]
     ]
 }
 
-// The words of one slice over those of another that is as long.
-fn copy(to: &mut [u64], from: &[u64])
-    requires { length to.old ≡ length from.now }
-    ensures { to.new ≡ from.now }
-{
-    let mut i = 0;
-    while i < from.len() {
-        to[i] = from[i];
-        i += 1;
-    }
-}
-
 // A header over the words of another.
 pub fn put_header(words: &mut [u64], h: Header)
     requires { length words.old ≡ 14 }
     ensures { words.new ≡ numbers_of h }
 {
-    let new = words_of(h);
-    copy(words, &new);
+    words.copy_from_slice(&words_of(h));
 }

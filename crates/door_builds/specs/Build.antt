@@ -1,16 +1,16 @@
 -- Both builds at the C door: what a call returns, and what the table and the number in use then hold, one law a way. Assumes nothing.
-use Rattle.std.specs.Prelude.{ℕ, ◌≡◌, Bool, true, cond, List, [], replicate}
+use Rattle.std.specs.Prelude.{ℕ, ◌≡◌, true, cond, List, [], ◌∷◌, replicate, Option, Some, None, Result}
 use Rattle.std.proofs.Math.Path.{refl, sym}
 use Rattle.std.proofs.Common.{ap, ◌∙◌}
 use Rattle.std.proofs.Math.Bool.{false}
-use Rattle.theory.specs.Answer.{Answer, answer}
+use Rattle.theory.specs.Answer.{Answer, answer, one_value}
+use Rattle.leaves.specs.Refusal.{number_of, refused, answer_with}
+use Rattle.leaves.specs.declared.refusal.Refusal.{Refusal}
 use Rattle.metadata_form.specs.declared.header.Header.{Header}
-use Rattle.build_rules.specs.declared.call.Built.{Built}
-use Rattle.build_rules.specs.declared.call.Built.TheVariants.{Done, Refused}
-use Rattle.build_rules.specs.Call.{built_of, used_of, built_number}
 use Rattle.door_answers.specs.Answers.{number_in, value_in}
 use Rattle.door_answers.specs.AnswersLaws.{refused_value}
-use Rattle.door_answers.specs.Header.{header_fits, header_of}
+use Rattle.door_answers.specs.Header.{header_fits, header_of, header_read}
+use Rattle.door_answers.specs.HeaderLaws.{header_some, header_none}
 
 -- the answer of a build over these words, and the table of so many bytes after it: words that are no header get 15 and empty it too
 unfoldable pub building_answer : List ℕ → (Header → Answer) → Answer
@@ -27,38 +27,35 @@ pub record Building (size : ℕ) (w : List ℕ) (says : Header → Answer) (leav
 
 -- ---- laws
 
-built_number_lem : (x : Built) → built_number x ≡ number_in (built_of x)
-unfolding number_in
-built_number_lem (Done used) = refl
-built_number_lem (Refused r) = refl
+-- what a build came to, told in numbers
+pub told_done : (u : ℕ) → (0 ≡ number_in (answer 0 (u ∷ []))) × (u ≡ value_in 0 0 (answer 0 (u ∷ [])))
+unfolding number_in value_in
+told_done u = (refl, refl)
 
-built_used : (x : Built) → used_of x ≡ value_in 0 0 (built_of x)
-unfolding value_in
-built_used (Done used) = refl
-built_used (Refused r) = sym (refused_value r 0 0)
+pub told_refused : (r : Refusal) → (number_of r ≡ number_in (refused r)) × (0 ≡ value_in 0 0 (refused r))
+unfolding number_in
+told_refused r = (refl, sym (refused_value r 0 0))
 
 module _ (size : ℕ) (w : List ℕ) (says : Header → Answer) (leaves : Header → List ℕ) where
-  fit_answer : header_fits w ≡ true → building_answer w says ≡ says (header_of w)
-  unfolding building_answer
-  fit_answer e = rw (e) refl
-
-  fit_memory : header_fits w ≡ true → building_memory size w leaves ≡ leaves (header_of w)
-  unfolding building_memory
-  fit_memory e = rw (e) refl
-
-  pub build_unfit : {t' : List ℕ} (b : Bool) → b ≡ header_fits w → b ≡ false → t' ≡ replicate size 0 → Building size w says leaves 15 0 t'
+  -- words that are no header
+  pub build_unfit : (o : Option Header) {t' : List ℕ} → o ≡ header_read w → ((h : Header) → o ≡ Some h → ⊥) → t' ≡ replicate size 0 → Building size w says leaves 15 0 t'
   unfolding building_answer building_memory number_in value_in
-  build_unfit b e f h =
-      let g : header_fits w ≡ false = sym e ∙ f in
-      record { returns = rw (g) refl; counts = rw (g) refl; holds = rw (g) h }
+  build_unfit (Some h) e n z = absurd (n h refl)
+  build_unfit None e n h =
+      let g : header_fits w ≡ false = header_none w e in
+      record { returns = rw g refl; counts = rw g refl; holds = rw g h }
 
   -- a build that was called with the header of the words: its number, and the number in use
-  pub build_told : (x : Built) {t' : List ℕ} (b : Bool) → b ≡ header_fits w → b ≡ true → (h : Header) → h ≡ header_of w → built_of x ≡ says h → t' ≡ leaves h
-      → {n used : ℕ} → n ≡ built_number x → used ≡ used_of x → Building size w says leaves n used t'
-  build_told x b e f h k a m p q =
-      let g : built_of x ≡ building_answer w says = a ∙ ap says k ∙ sym (fit_answer (sym e ∙ f)) in
+  pub build_told : (r : Result ℕ Refusal) {t' : List ℕ} (h : Header) → Some h ≡ header_read w → answer_with one_value r ≡ says h → t' ≡ leaves h
+      → {n used : ℕ} → n ≡ number_in (answer_with one_value r) → used ≡ value_in 0 0 (answer_with one_value r) → Building size w says leaves n used t'
+  unfolding building_answer building_memory
+  build_told r h e a m p q =
+      let f = header_some w h e in
+      let g : header_fits w ≡ true = f.0 in
+      let k : h ≡ header_of w = f.1 in
+      let b : answer_with one_value r ≡ building_answer w says = rw g (a ∙ ap says k) in
       record {
-        returns = p ∙ built_number_lem x ∙ ap number_in g;
-        counts = q ∙ built_used x ∙ ap (value_in 0 0) g;
-        holds = m ∙ ap leaves k ∙ sym (fit_memory (sym e ∙ f));
+        returns = p ∙ ap number_in b;
+        counts = q ∙ ap (value_in 0 0) b;
+        holds = rw g (m ∙ ap leaves k);
       }

@@ -1,15 +1,19 @@
 -- What the lent numbers hold, one law a case of the answer. Assumes nothing.
 use Rattle.std.specs.Prelude.{ℕ, ◌≡◌, refl, get_or}
-use Rattle.std.proofs.Common.{ap, ◌∙◌}
+use Rattle.std.proofs.Common.{sym, ap, ◌∙◌}
 use mathlib.Core.List.{List, [], ◌∷◌}
 use Rattle.theory.specs.Answer.{Answer, answer}
 use Rattle.leaves.specs.Refusal.{number_of, refused}
 use Rattle.leaves.specs.RefusalLaws.{refused_all}
 use Rattle.leaves.specs.declared.refusal.Refusal.{Refusal}
 use Rattle.door_answers.specs.Answers.{damage_in}
-use Rattle.door_answers.specs.AnswersLaws.{done_value, not_value}
+use Rattle.door_answers.specs.AnswersLaws.{done_number, done_value, not_number, not_value}
 use Rattle.door_answers.specs.HandingLaws.{record_done, record_not}
-use Rattle.door_feed.specs.Handing.{found_in, Numbers, numbers, FedHanded}
+use Rattle.feed_rules.specs.Spans.{FeedArrays, feed_arrays, FeedNext}
+use Rattle.feed_rules.specs.Adding.{FeedOpens}
+use Rattle.feed.specs.Lent.{feed_arrays_of}
+use Rattle.records_state.specs.declared.state.State.{State}
+use Rattle.door_feed.specs.Handing.{found_in, Numbers, numbers, FedHanded, DeskFeedNext, DeskFeedOpen}
 
 not_found : (r : Refusal) (found : ℕ) → found ≡ found_in found (refused r)
 unfolding found_in
@@ -42,3 +46,40 @@ module _ {a : Answer} (o : Numbers) where
     indexes = not_value r o.index 2 e;
     hands = record_not 3 o.rest r f g h i e;
   }
+
+-- the caller's arrays where this state was left in them
+there : (t : State) {ms ts cs hs hp : List ℕ} (ps : List ℕ) → ms ≡ t.marks.now → ts ≡ t.times.now → cs ≡ t.places.now
+    → hs ≡ t.heads.now → hp ≡ t.heap.now → feed_arrays_of t ps ≡ feed_arrays ms ts cs hs hp ps
+there t ps em et ec eh ep = λ i. feed_arrays (sym em i) (sym et i) (sym ec i) (sym eh i) (sym ep i) ps
+
+module _ (f : State) {ms ts cs hs hp ps : List ℕ}
+    (em : ms ≡ f.marks.now) (et : ts ≡ f.times.now) (ec : cs ≡ f.places.now) (eh : hs ≡ f.heads.now) (ep : hp ≡ f.heap.now) where
+  -- an opening that left the state f
+  module _ {n : ℕ} {hints : List ℕ} {a : FeedArrays} {held : ℕ} where
+    pub open_done : {count : ℕ} → FeedOpens n hints a (answer 0 (count ∷ f.held ∷ [])) (feed_arrays_of f ps)
+        → DeskFeedOpen n hints a held 0 f.held (feed_arrays ms ts cs hs hp ps)
+    open_done o = rw (← (there f ps em et ec eh ep)) (record {
+      returns = done_number o.answers;
+      holds = done_value held 1 o.answers;
+      opens = record { answers = refl; refused = o.refused; accepted = o.accepted };
+    })
+
+    pub open_not : (r : Refusal) {k : ℕ} → k ≡ number_of r → FeedOpens n hints a (refused r) (feed_arrays_of f ps)
+        → DeskFeedOpen n hints a held k held (feed_arrays ms ts cs hs hp ps)
+    open_not r e o = rw (← (there f ps em et ec eh ep)) (record {
+      returns = not_number r e o.answers;
+      holds = not_value r held 1 o.answers;
+      opens = record { answers = refl; refused = o.refused; accepted = o.accepted };
+    })
+
+  -- a call that left it, and handed over its answer
+  pub next_handed : {window : List ℕ} {held : ℕ} {a : FeedArrays} {x : Answer} {o o' : Numbers} {r : ℕ}
+      → FeedNext window held a x f.held (feed_arrays_of f ps) → FedHanded x r o o'
+      → DeskFeedNext window held a o r f.held (feed_arrays ms ts cs hs hp ps) o'
+  next_handed t h = rw (← (there f ps em et ec eh ep)) (record {
+    refused = λ w. let y = t.refused w in (rw (← y.0) h, y.1, y.2);
+    says = λ w n few ok.
+        let s = t.told w in
+        let y = s.says n few ok in
+        (rw (← y.heard) h, rw (← y.heard) y, rw (← y.heard) s.needs);
+  })

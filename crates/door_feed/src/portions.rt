@@ -1,14 +1,14 @@
 // Streams that arrive in portions, at the C door (RULES, Requests, No. 5). The state is that of the record merge, a span a stream beside
 // it, and the window of 1,024 bytes a stream.
 ghost use Rattle.feed_rules.specs.Spans.{feed_arrays};
-ghost use Rattle.door_feed.specs.Handing.{numbers, DeskFeedNext, DeskFeedOpen, DeskFeedBytes, DeskFeedEnd};
+ghost use Rattle.feed.specs.Answers.{fed_of};
+ghost use Rattle.door_feed.specs.Handing.{numbers, FedHanded, DeskFeedNext, DeskFeedOpen, DeskFeedBytes, DeskFeedEnd};
 
 use door_answers::DONE;
-use door_answers::damage::{place_in, reason_in, stream_in};
-use feed::opening::FeedOpening;
+use door_answers::damage::hand_damage;
+use feed::lent::State;
 use feed::turns::Fed;
-use feed_window::portions::{Added, Ended};
-use leaves::refusal::number;
+use leaves::refusal::Refusal;
 
 // Opens so many streams of which nothing has come, each at its hint: 0, 15 or 12; `held` becomes the streams that the heap holds.
 #[unsafe(no_mangle)]
@@ -28,16 +28,20 @@ pub extern "C" fn desk_feed_open(
         held.old result held.new
         (feed_arrays marks.new times.new places.new heads.new heap.new spans.new) }
 {
-    let opened = feed::opening::open(streams, hints, marks, times, places, heads, heap, spans);
-    match opened {
-        FeedOpening::Opened {
-            streams: _,
-            held: in_heap,
-        } => {
-            *held = in_heap;
+    let mut state = State {
+        held: *held,
+        marks,
+        times,
+        places,
+        heads,
+        heap,
+    };
+    match feed::opening::open(streams, hints, &mut state, spans) {
+        Ok(_) => {
+            *held = state.held;
             DONE
         }
-        FeedOpening::Refused(refusal) => number(refusal),
+        Err(refusal) => refusal.number(),
     }
 }
 
@@ -56,13 +60,12 @@ pub extern "C" fn desk_feed_bytes(
     ensures { DeskFeedBytes window.old marks.now places.now heads.now spans.old stream portion.now
         taken.old result taken.new window.new spans.new }
 {
-    let added = feed_window::portions::add(stream, portion, marks, places, heads, spans, window);
-    match added {
-        Added::Taken(n) => {
+    match feed_window::portions::add(stream, portion, marks, places, heads, spans, window) {
+        Ok(n) => {
             *taken = n as usize;
             DONE
         }
-        Added::Refused(refusal) => number(refusal),
+        Err(refusal) => refusal.number(),
     }
 }
 
@@ -71,10 +74,68 @@ pub extern "C" fn desk_feed_bytes(
 pub extern "C" fn desk_feed_end(stream: u64, marks: &[u8], spans: &mut [u64]) -> u32
     ensures { DeskFeedEnd marks.now spans.old stream result spans.new }
 {
-    let ended = feed_window::portions::end(stream, marks, spans);
-    match ended {
-        Ended::Done => DONE,
-        Ended::Refused(refusal) => number(refusal),
+    match feed_window::portions::end(stream, marks, spans) {
+        Ok(()) => DONE,
+        Err(refusal) => refusal.number(),
+    }
+}
+
+// Hands over what a call answered, and answers its number: a record has `found` 1; the end has 0 and its numbers 0; where more is needed
+// `found` is 2, `stream` that stream and the other numbers 0; 13 sets `stream`, `place` and `reason`.
+fn hand_fed(
+    answer: Result<Fed, Refusal>,
+    found: &mut u32,
+    stream: &mut u64,
+    place: &mut u64,
+    index: &mut usize,
+    long: &mut u16,
+    kind: &mut u16,
+    instrument: &mut u32,
+    time: &mut u64,
+    reason: &mut u64,
+) -> u32
+    ensures { FedHanded (fed_of answer) result
+        (numbers found.old stream.old place.old index.old long.old kind.old instrument.old time.old reason.old)
+        (numbers found.new stream.new place.new index.new long.new kind.new instrument.new time.new reason.new) }
+{
+    match answer {
+        Ok(Fed::Record { record, at }) => {
+            *found = 1;
+            *stream = record.stream;
+            *place = record.place;
+            *index = at as usize;
+            *long = record.length;
+            *kind = record.kind;
+            *instrument = record.instrument;
+            *time = record.time;
+            DONE
+        }
+        Ok(Fed::End) => {
+            *found = 0;
+            *stream = 0;
+            *place = 0;
+            *index = 0;
+            *long = 0;
+            *kind = 0;
+            *instrument = 0;
+            *time = 0;
+            DONE
+        }
+        Ok(Fed::NeedMore(s)) => {
+            *found = 2;
+            *stream = s;
+            *place = 0;
+            *index = 0;
+            *long = 0;
+            *kind = 0;
+            *instrument = 0;
+            *time = 0;
+            DONE
+        }
+        Err(refusal) => {
+            hand_damage(refusal, stream, place, reason);
+            refusal.number()
+        }
     }
 }
 
@@ -108,56 +169,17 @@ pub extern "C" fn desk_feed_next(
         (feed_arrays marks.new times.new places.new heads.new heap.new spans.new)
         (numbers found.new stream.new place.new index.new long.new kind.new instrument.new time.new reason.new) }
 {
-    let turned = feed::turns::next(window, *held, marks, times, places, heads, heap, spans);
-    *held = turned.held;
-    let answer = turned.answer;
-    match answer {
-        Fed::Record {
-            stream: s,
-            place: p,
-            at: x,
-            length: l,
-            kind: k,
-            instrument: i,
-            time: t,
-        } => {
-            *found = 1;
-            *stream = s;
-            *place = p;
-            *index = x as usize;
-            *long = l;
-            *kind = k;
-            *instrument = i;
-            *time = t;
-            DONE
-        }
-        Fed::End => {
-            *found = 0;
-            *stream = 0;
-            *place = 0;
-            *index = 0;
-            *long = 0;
-            *kind = 0;
-            *instrument = 0;
-            *time = 0;
-            DONE
-        }
-        Fed::NeedMore(s) => {
-            *found = 2;
-            *stream = s;
-            *place = 0;
-            *index = 0;
-            *long = 0;
-            *kind = 0;
-            *instrument = 0;
-            *time = 0;
-            DONE
-        }
-        Fed::Refused(refusal) => {
-            *stream = stream_in(refusal, *stream);
-            *place = place_in(refusal, *place);
-            *reason = reason_in(refusal, *reason);
-            number(refusal)
-        }
-    }
+    let mut state = State {
+        held: *held,
+        marks,
+        times,
+        places,
+        heads,
+        heap,
+    };
+    let answer = feed::turns::next(window, &mut state, spans);
+    *held = state.held;
+    hand_fed(
+        answer, found, stream, place, index, long, kind, instrument, time, reason,
+    )
 }

@@ -3,11 +3,8 @@ ghost use Rattle.feed_rules.specs.Spans.{feed_arrays};
 ghost use Rattle.door_run.specs.Handing.{numbers};
 ghost use Rattle.door_feed_run.specs.Run.{DeskFeedRun};
 
-use door_answers::DONE;
-use door_answers::damage::{place_in, reason_in, stream_in};
-use door_run::run::moved;
-use feed_run::run::Last;
-use leaves::refusal::number;
+use door_run::run::hand_made;
+use feed_run::run::State;
 
 // At most `allowance` calls of `desk_feed_next`: 0, 13 or 15. Each record's stream, place and time go to the list, three words a record;
 // `last` is 1 where a further call may be made, 0 at the end, and 2 where more of a stream is needed, `stream` being that stream; 13 sets
@@ -37,43 +34,15 @@ pub extern "C" fn desk_feed_run(
         held.new (feed_arrays marks.new times.new places.new heads.new heap.new spans.new) list.new
         (numbers calls.new written.new last.new stream.new place.new reason.new) }
 {
-    let made = feed_run::run::run(
-        window, *held, marks, times, places, heads, heap, spans, allowance, list,
-    );
-    *held = made.held;
-    let answer = made.last;
-    match answer {
-        Last::Going => {
-            *calls = made.calls;
-            *written = made.written;
-            *last = 1;
-            *stream = 0;
-            *place = 0;
-            DONE
-        }
-        Last::End => {
-            *calls = made.calls;
-            *written = made.written;
-            *last = 0;
-            *stream = 0;
-            *place = 0;
-            DONE
-        }
-        Last::NeedMore(s) => {
-            *calls = made.calls;
-            *written = made.written;
-            *last = 2;
-            *stream = s;
-            *place = 0;
-            DONE
-        }
-        Last::Refused(refusal) => {
-            *calls = moved(refusal, made.calls, *calls);
-            *written = moved(refusal, made.written, *written);
-            *stream = stream_in(refusal, *stream);
-            *place = place_in(refusal, *place);
-            *reason = reason_in(refusal, *reason);
-            number(refusal)
-        }
-    }
+    let mut state = State {
+        held: *held,
+        marks,
+        times,
+        places,
+        heads,
+        heap,
+    };
+    let made = feed_run::run::run(window, &mut state, spans, allowance, list);
+    *held = state.held;
+    hand_made(made, calls, written, last, stream, place, reason)
 }

@@ -3,3 +3,4 @@ pub mod LentLaws
 pub mod OnRecord
 pub mod OnRecordLaws
 pub mod Inserting
+pub mod Symbol

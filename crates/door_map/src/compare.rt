@@ -4,8 +4,7 @@ ghost use Rattle.map_compare_rules.specs.Memory.{compare_outcome, compared_answe
 ghost use Rattle.door_answers.specs.Answers.{number_in, value_in};
 
 use door_answers::DONE;
-use leaves::refusal::number;
-use map_compare::compare::Compared;
+use map_compare::compare::{Lent, compare};
 
 // Lays every stretch in which two tables of one name list disagree: 0, 15, 14 or 2; `count` becomes the number of stretches.
 #[unsafe(no_mangle)]
@@ -22,12 +21,18 @@ pub extern "C" fn desk_compare(
     ensures count_after { count.new ≡ value_in count.old 0 (compared_answer (compare_outcome left.now used right.now other names stretches.old)) }
     ensures stretches_after { stretches.new ≡ compared_memory stretches.old (compare_outcome left.now used right.now other names stretches.old) }
 {
-    let compared = map_compare::compare::compare(left, used, right, other, names, stretches);
-    match compared {
-        Compared::Done(total) => {
+    let lent = Lent {
+        left,
+        left_used: used,
+        right,
+        right_used: other,
+        names,
+    };
+    match compare(lent, stretches) {
+        Ok(total) => {
             *count = total;
             DONE
         }
-        Compared::Refused(refusal) => number(refusal),
+        Err(refusal) => refusal.number(),
     }
 }

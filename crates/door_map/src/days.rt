@@ -4,8 +4,6 @@ ghost use Rattle.leaves_days.specs.Days.{day_of, date_of, day_start};
 ghost use Rattle.door_answers.specs.Answers.{number_in, value_in};
 
 use door_answers::DONE;
-use leaves::refusal::number;
-use leaves_days::days::{Date, Day, Moment};
 
 // The day of a date, YYYYMMDD, since 1970-01-01: 0 or 11.
 #[unsafe(no_mangle)]
@@ -13,13 +11,12 @@ pub extern "C" fn desk_day_of(date: u32, day: &mut u32) -> u32
     ensures value { result ≡ number_in (day_of date) }
     ensures day_after { day.new ≡ value_in day.old 0 (day_of date) }
 {
-    let answer = leaves_days::days::day_of(date);
-    match answer {
-        Day::Number(n) => {
+    match leaves_days::days::day_of(date) {
+        Ok(n) => {
             *day = n;
             DONE
         }
-        Day::Refused(refusal) => number(refusal),
+        Err(refusal) => refusal.number(),
     }
 }
 
@@ -29,13 +26,12 @@ pub extern "C" fn desk_date_of(day: u32, date: &mut u32) -> u32
     ensures value { result ≡ number_in (date_of day) }
     ensures date_after { date.new ≡ value_in date.old 0 (date_of day) }
 {
-    let answer = leaves_days::days::date_of(day);
-    match answer {
-        Date::Written(n) => {
+    match leaves_days::days::date_of(day) {
+        Ok(n) => {
             *date = n;
             DONE
         }
-        Date::Refused(refusal) => number(refusal),
+        Err(refusal) => refusal.number(),
     }
 }
 
@@ -45,12 +41,11 @@ pub extern "C" fn desk_day_start(day: u32, moment: &mut u64) -> u32
     ensures value { result ≡ number_in (day_start day) }
     ensures moment_after { moment.new ≡ value_in moment.old 0 (day_start day) }
 {
-    let answer = leaves_days::days::day_start(day);
-    match answer {
-        Moment::Nanoseconds(n) => {
+    match leaves_days::days::day_start(day) {
+        Ok(n) => {
             *moment = n;
             DONE
         }
-        Moment::Refused(refusal) => number(refusal),
+        Err(refusal) => refusal.number(),
     }
 }

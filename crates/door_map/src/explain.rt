@@ -1,13 +1,12 @@
 // Why there is a symbol in a table over time, or none, at the C door (RULES, Requests, No. 4).
 ghost use Rattle.std.specs.Prelude.{◌≡◌};
 ghost use Rattle.map_explain.specs.Explain.{explain_answer, explained_of};
-ghost use Rattle.door_answers.specs.Answers.{number_in};
 ghost use Rattle.door_map.specs.Lent.{handed_of, numbers_in, lent, DeskExplain};
 
 use door_answers::DONE;
 use map_explain::explain::{Explained, Named};
 
-// The reasons' numbers.
+// The reasons' numbers, as C reads them.
 const IN: u32 = 1;
 
 const UNKNOWN: u32 = 2;
@@ -19,7 +18,7 @@ const AFTER: u32 = 4;
 const BETWEEN: u32 = 5;
 
 // What an explanation hands over.
-#[derive(Clone, Copy)]
+#[derive(Clone, Copy, Debug, PartialEq, Eq)]
 pub struct Numbers {
     pub reason: u32,
     pub index: u64,
@@ -47,33 +46,24 @@ fn handed(reason: u32, x: Named, y: Named) -> Numbers
     }
 }
 
-// Of an explanation that is not refused, the reason's numbers; what it does not name is 0.
-fn told(explained: Explained) -> Numbers
-    ensures { number_in (explained_of explained) ≡ 0 → result ≡ numbers_in (explained_of explained) }
-{
-    let none = Named {
-        index: 0,
-        start: 0,
-        end: 0,
-        symbol: 0,
-    };
-    match explained {
-        Explained::In(x) => handed(IN, x, none),
-        Explained::Unknown => handed(UNKNOWN, none, none),
-        Explained::Before(x) => handed(BEFORE, x, none),
-        Explained::After(x) => handed(AFTER, x, none),
-        Explained::Between(x, y) => handed(BETWEEN, x, y),
-        Explained::Refused(_) => handed(0, none, none),
-    }
-}
+// No interval.
+const NONE: Named = Named {
+    index: 0,
+    start: 0,
+    end: 0,
+    symbol: 0,
+};
 
-// The number of an explanation: 0, or the refusal's.
-fn number_of(explained: Explained) -> u32
-    ensures { result ≡ number_in (explained_of explained) }
+// The reason's numbers; what it does not name is 0.
+fn told(explained: Explained) -> Numbers
+    ensures { result ≡ numbers_in (explained_of explained) }
 {
     match explained {
-        Explained::Refused(refusal) => leaves::refusal::number(refusal),
-        _ => DONE,
+        Explained::In(x) => handed(IN, x, NONE),
+        Explained::Unknown => handed(UNKNOWN, NONE, NONE),
+        Explained::Before(x) => handed(BEFORE, x, NONE),
+        Explained::After(x) => handed(AFTER, x, NONE),
+        Explained::Between(x, y) => handed(BETWEEN, x, y),
     }
 }
 
@@ -98,19 +88,19 @@ pub extern "C" fn desk_explain(
         (lent reason.old index.old start.old end.old symbol.old next_start.old next_end.old next_symbol.old)
         (lent reason.new index.new start.new end.new symbol.new next_start.new next_end.new next_symbol.new) }
 {
-    let explained = map_explain::explain::explain(table, used, names, instrument, moment);
-    let number = number_of(explained);
-    if number != DONE {
-        return number;
+    match map_explain::explain::explain(table, used, names, instrument, moment) {
+        Ok(explained) => {
+            let after = told(explained);
+            *reason = after.reason;
+            *index = after.index;
+            *start = after.start;
+            *end = after.end;
+            *symbol = after.symbol;
+            *next_start = after.next_start;
+            *next_end = after.next_end;
+            *next_symbol = after.next_symbol;
+            DONE
+        }
+        Err(refusal) => refusal.number(),
     }
-    let after = told(explained);
-    *reason = after.reason;
-    *index = after.index;
-    *start = after.start;
-    *end = after.end;
-    *symbol = after.symbol;
-    *next_start = after.next_start;
-    *next_end = after.next_end;
-    *next_symbol = after.next_symbol;
-    DONE
 }

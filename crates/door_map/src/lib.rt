@@ -9,4 +9,6 @@ pub mod explain;
 pub mod map;
 pub mod names;
 pub mod points;
+mod record;
+mod symbol;
 pub mod text;

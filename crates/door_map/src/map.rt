@@ -8,24 +8,24 @@ ghost use Rattle.door_answers.specs.Answers.{number_in, value_in, given_in, row}
 ghost use Rattle.door_map.specs.Inserting.{DeskInsert};
 ghost use Rattle.door_map.specs.OnRecord.{Tells};
 
+use crate::record::tell;
+use crate::symbol::hand_symbol;
 use door_answers::DONE;
-use door_answers::damage::reason_in;
-use leaves::refusal::number;
-use map_look::lookup::Found;
-use map_record::mapping::Recorded;
+use leaves_names::names::NameRoom;
+use map_look::lookup::get_for_ts;
+use map_record::mapping::on_record;
 use map_table::interval::Interval;
-use map_table::table::Checked;
-use map_time::insert::Inserted;
+use map_table::table::check;
+use map_time::insert::insert;
 
 // Whether the table is well-formed: 0, 14 or 15.
 #[unsafe(no_mangle)]
 pub extern "C" fn desk_check(table: &[u8], used: usize, names: usize) -> u32
     ensures { result ≡ number_in (check_answer table.now used names) }
 {
-    let checked = map_table::table::check(table, used, names);
-    match checked {
-        Checked::WellFormed => DONE,
-        Checked::Refused(refusal) => number(refusal),
+    match check(table, used, names) {
+        Ok(()) => DONE,
+        Err(refusal) => refusal.number(),
     }
 }
 
@@ -49,13 +49,12 @@ pub extern "C" fn desk_insert(
         start,
         end,
     };
-    let inserted = map_time::insert::insert(table, *used, names, interval);
-    match inserted {
-        Inserted::Done(length) => {
+    match insert(table, *used, names, interval) {
+        Ok(length) => {
             *used = length;
             DONE
         }
-        Inserted::Refused(refusal) => number(refusal),
+        Err(refusal) => refusal.number(),
     }
 }
 
@@ -77,22 +76,14 @@ pub extern "C" fn desk_get_for_ts(
         × (symbol.new ≡ value_in symbol.old 1 (lookup_answer table.now used instrument moment hint.old)) }
     ensures accepted { table_fits (length table.now) used ≡ true → result ≡ 0 }
 {
-    let looked = map_look::lookup::get_for_ts(table, used, instrument, moment, *hint);
-    let answer = looked.found;
-    match answer {
-        Found::Symbol(number) => {
+    let looked = get_for_ts(table, used, instrument, moment, *hint);
+    match looked.found {
+        Ok(answer) => {
             *hint = looked.hint;
-            *found = 1;
-            *symbol = number;
+            hand_symbol(answer, found, symbol);
             DONE
         }
-        Found::Nothing => {
-            *hint = looked.hint;
-            *found = 0;
-            *symbol = 0;
-            DONE
-        }
-        Found::Refused(refusal) => number(refusal),
+        Err(why) => why.number(),
     }
 }
 
@@ -112,29 +103,20 @@ pub extern "C" fn desk_on_record(
         used.old names.old name_bytes.old reason.old result used.new names.new name_bytes.new
         reason.new table.new bytes.new ends.new }
 {
-    let recorded = map_record::mapping::on_record(
-        table,
-        *used,
+    let mut room = NameRoom {
         bytes,
         ends,
-        *names,
-        *name_bytes,
-        rec,
-    );
-    match recorded {
-        Recorded::Done {
-            used: rows,
-            names: count,
-            name_bytes: filled,
-        } => {
-            *used = rows;
-            *names = count;
-            *name_bytes = filled;
-            DONE
-        }
-        Recorded::Refused(refusal) => {
-            *reason = reason_in(refusal, *reason);
-            number(refusal)
-        }
-    }
+        names: *names,
+        name_bytes: *name_bytes,
+    };
+    let recorded = on_record(table, *used, &mut room, rec);
+    tell(
+        recorded,
+        room.names,
+        room.name_bytes,
+        used,
+        names,
+        name_bytes,
+        reason,
+    )
 }

@@ -4,8 +4,7 @@ ghost use Rattle.leaves_names.specs.Names.{check_names, naming, naming_answer, b
 ghost use Rattle.door_answers.specs.Answers.{number_in, value_in};
 
 use door_answers::DONE;
-use leaves::refusal::number;
-use leaves_names::names::{Checked, NamePlace, Named};
+use leaves_names::names::{NameList, NameRoom};
 
 // Whether the name list is well-formed: 0, 14 or 15.
 #[unsafe(no_mangle)]
@@ -17,10 +16,15 @@ pub extern "C" fn desk_check_names(
 ) -> u32
     ensures { result ≡ number_in (check_names bytes.now ends.now names name_bytes) }
 {
-    let checked = leaves_names::names::check_names(bytes, ends, names, name_bytes);
-    match checked {
-        Checked::Done => DONE,
-        Checked::Refused(refusal) => number(refusal),
+    let list = NameList {
+        bytes,
+        ends,
+        names,
+        name_bytes,
+    };
+    match list.check() {
+        Ok(_) => DONE,
+        Err(refusal) => refusal.number(),
     }
 }
 
@@ -49,19 +53,20 @@ pub extern "C" fn desk_number_of(
     ensures ends_after { ends.new ≡ ends_after ends.old names.old name_bytes.old name.now
         (naming bytes.old ends.old names.old name_bytes.old name.now) }
 {
-    let named = leaves_names::names::number_of(bytes, ends, *names, *name_bytes, name);
-    match named {
-        Named::Number {
-            number: n,
-            names: count,
-            name_bytes: filled,
-        } => {
-            *symbol = n;
-            *names = count;
-            *name_bytes = filled;
+    let mut room = NameRoom {
+        bytes,
+        ends,
+        names: *names,
+        name_bytes: *name_bytes,
+    };
+    match room.number_of(name) {
+        Ok(number) => {
+            *symbol = number;
+            *names = room.names;
+            *name_bytes = room.name_bytes;
             DONE
         }
-        Named::Refused(refusal) => number(refusal),
+        Err(refusal) => refusal.number(),
     }
 }
 
@@ -80,16 +85,18 @@ pub extern "C" fn desk_place_of_name(
     ensures first_after { first.new ≡ value_in first.old 0 (place_of_name bytes.now ends.now names name_bytes symbol) }
     ensures end_after { end.new ≡ value_in end.old 1 (place_of_name bytes.now ends.now names name_bytes symbol) }
 {
-    let placed = leaves_names::names::place_of_name(bytes, ends, names, name_bytes, symbol);
-    match placed {
-        NamePlace::At {
-            first: from,
-            end: to,
-        } => {
-            *first = from;
-            *end = to;
+    let list = NameList {
+        bytes,
+        ends,
+        names,
+        name_bytes,
+    };
+    match list.place_of_name(symbol) {
+        Ok(place) => {
+            *first = place.first;
+            *end = place.end;
             DONE
         }
-        NamePlace::Refused(refusal) => number(refusal),
+        Err(refusal) => refusal.number(),
     }
 }

@@ -6,22 +6,21 @@ ghost use Rattle.map_record.specs.Mapping.{point_left};
 ghost use Rattle.door_answers.specs.Answers.{number_in, value_in, given_in};
 ghost use Rattle.door_map.specs.OnRecord.{Tells};
 
+use crate::record::tell;
+use crate::symbol::hand_symbol;
 use door_answers::DONE;
-use door_answers::damage::reason_in;
-use leaves::refusal::number;
-use map_look::lookup::Found;
-use map_record::mapping::Recorded;
-use map_table::table::Checked;
+use leaves_names::names::NameRoom;
+use map_point::points::{check_points, get};
+use map_record::mapping::on_record_point;
 
 // Whether a point-in-time table is well-formed: 0, 14 or 15.
 #[unsafe(no_mangle)]
 pub extern "C" fn desk_check_points(table: &[u8], used: usize, names: usize) -> u32
     ensures { result ≡ number_in (points_checked table.now used names) }
 {
-    let checked = map_point::points::check_points(table, used, names);
-    match checked {
-        Checked::WellFormed => DONE,
-        Checked::Refused(refusal) => number(refusal),
+    match check_points(table, used, names) {
+        Ok(()) => DONE,
+        Err(refusal) => refusal.number(),
     }
 }
 
@@ -40,19 +39,12 @@ pub extern "C" fn desk_get_point(
         × (symbol.new ≡ value_in symbol.old 0 (point_found table.now used instrument)) }
     ensures accepted { points_fit (length table.now) used ≡ true → result ≡ 0 }
 {
-    let answer = map_point::points::get(table, used, instrument);
-    match answer {
-        Found::Symbol(n) => {
-            *found = 1;
-            *symbol = n;
+    match get(table, used, instrument) {
+        Ok(answer) => {
+            hand_symbol(answer, found, symbol);
             DONE
         }
-        Found::Nothing => {
-            *found = 0;
-            *symbol = 0;
-            DONE
-        }
-        Found::Refused(refusal) => number(refusal),
+        Err(refusal) => refusal.number(),
     }
 }
 
@@ -72,29 +64,20 @@ pub extern "C" fn desk_on_record_point(
         used.old names.old name_bytes.old reason.old result used.new names.new name_bytes.new
         reason.new table.new bytes.new ends.new }
 {
-    let recorded = map_record::mapping::on_record_point(
-        table,
-        *used,
+    let mut room = NameRoom {
         bytes,
         ends,
-        *names,
-        *name_bytes,
-        rec,
-    );
-    match recorded {
-        Recorded::Done {
-            used: rows,
-            names: count,
-            name_bytes: filled,
-        } => {
-            *used = rows;
-            *names = count;
-            *name_bytes = filled;
-            DONE
-        }
-        Recorded::Refused(refusal) => {
-            *reason = reason_in(refusal, *reason);
-            number(refusal)
-        }
-    }
+        names: *names,
+        name_bytes: *name_bytes,
+    };
+    let recorded = on_record_point(table, *used, &mut room, rec);
+    tell(
+        recorded,
+        room.names,
+        room.name_bytes,
+        used,
+        names,
+        name_bytes,
+        reason,
+    )
 }

@@ -5,12 +5,7 @@ ghost use Rattle.leaves_utf8.specs.Utf8.{is_utf8};
 ghost use Rattle.door_answers.specs.Answers.{number_in, value_in, utf8_answer};
 
 use door_answers::DONE;
-use leaves_text::number_text::Reading;
-
-// The refusals 8, "text is not a `u32`", and 4, "not UTF-8".
-const NOT_NUMBER: u32 = 8;
-
-const NOT_UTF8: u32 = 4;
+use leaves::refusal::Refusal;
 
 // The number that a text says: 0 or 8.
 #[unsafe(no_mangle)]
@@ -18,13 +13,12 @@ pub extern "C" fn desk_number_text(text: &[u8], value: &mut u32) -> u32
     ensures value { result ≡ number_in (number_text text.now) }
     ensures value_after { value.new ≡ value_in value.old 0 (number_text text.now) }
 {
-    let reading = leaves_text::number_text::number(text);
-    match reading {
-        Reading::Value(n) => {
+    match leaves_text::number_text::number(text) {
+        Ok(n) => {
             *value = n;
             DONE
         }
-        Reading::Stuck(_) => NOT_NUMBER,
+        Err(_) => Refusal::NotNumber.number(),
     }
 }
 
@@ -34,7 +28,8 @@ pub extern "C" fn desk_utf8(text: &[u8]) -> u32
     ensures { result ≡ number_in (utf8_answer (is_utf8 text.now)) }
 {
     if leaves_utf8::utf8::is_utf8(text) {
-        return DONE;
+        DONE
+    } else {
+        Refusal::BadName.number()
     }
-    NOT_UTF8
 }

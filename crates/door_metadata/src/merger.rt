@@ -1,36 +1,27 @@
 // The metadata merge at the C door (RULES, Merging metadata). A metadata is fourteen words, its header, and five lists of words:
 // symbols, partial, not_found (a word an entry), mappings (two words each: name, number of intervals) and intervals (three words
 // each: start date, end date, symbol).
-ghost use Rattle.std.specs.Prelude.{◌≡◌, ◌&&◌};
+ghost use Rattle.std.specs.Prelude.{◌≡◌};
 ghost use Rattle.leaves.specs.Refusal.{refused};
 ghost use Rattle.metadata_form.specs.Header.{lists};
 ghost use Rattle.door_answers.specs.Answers.{number_in};
-ghost use Rattle.door_answers.specs.Header.{header_fits};
 ghost use Rattle.door_metadata.specs.Merger.{field_in, Opening, Merging, finishing_answer};
 
-use door_answers::header::{header_of, is_header, put_header};
+use door_answers::header::{header_of, put_header};
 use door_answers::{BAD_MEMORY, DONE};
-use leaves::refusal::{Refusal, number};
-use metadata_form::header::MetadataAnswer;
+use leaves::refusal::Refusal;
+use metadata_form::lists::{Lists, ListsMut};
+use metadata_merge::merger::merge;
+use metadata_open::opening::{finish, open};
 
 // The field that comes with a refusal, or what is held.
 fn field_in(refusal: Refusal, held: u32) -> u32
     ensures { result ≡ field_in held (refused refusal) }
 {
     match refusal {
-        Refusal::Differ(field) => field,
+        Refusal::Differ(field) => field.number(),
         _ => held,
     }
-}
-
-// Whether both are headers.
-fn are_headers(words: &[u64], added: &[u64]) -> bool
-    ensures { result ≡ (header_fits words.now && header_fits added.now) }
-{
-    if !is_header(words) {
-        return false;
-    }
-    is_header(added)
 }
 
 // Opens a first metadata, which loses its repeats: 0 or 15; `header` becomes the header with the counts that are left.
@@ -47,17 +38,22 @@ pub extern "C" fn desk_metadata_open(
         intervals.old) result header.new
         (lists symbols.new partial.new not_found.new mappings.new intervals.new) }
 {
-    if !is_header(header) {
+    let Some(h) = header_of(header) else {
         return BAD_MEMORY;
-    }
-    let h = header_of(header);
-    let opened = metadata_open::opening::open(h, symbols, partial, not_found, mappings, intervals);
-    match opened {
-        MetadataAnswer::Done(g) => {
-            put_header(header, g);
+    };
+    let mut lists = ListsMut {
+        symbols,
+        partial,
+        not_found,
+        mappings,
+        intervals,
+    };
+    match open(h, &mut lists) {
+        Ok(opened) => {
+            put_header(header, opened);
             DONE
         }
-        MetadataAnswer::Refused(refusal) => number(refusal),
+        Err(refusal) => refusal.number(),
     }
 }
 
@@ -86,34 +82,34 @@ pub extern "C" fn desk_metadata_merge(
         added_intervals.now) field.old result header.new
         (lists symbols.new partial.new not_found.new mappings.new intervals.new) field.new }
 {
-    if !are_headers(header, added) {
+    let Some(h) = header_of(header) else {
         return BAD_MEMORY;
-    }
-    let h = header_of(header);
-    let g = header_of(added);
-    let merged = metadata_merge::merger::merge(
-        names,
-        h,
+    };
+    let Some(g) = header_of(added) else {
+        return BAD_MEMORY;
+    };
+    let mut gathered = ListsMut {
         symbols,
         partial,
         not_found,
         mappings,
         intervals,
-        g,
-        added_symbols,
-        added_partial,
-        added_not_found,
-        added_mappings,
-        added_intervals,
-    );
-    match merged {
-        MetadataAnswer::Done(k) => {
-            put_header(header, k);
+    };
+    let more = Lists {
+        symbols: added_symbols,
+        partial: added_partial,
+        not_found: added_not_found,
+        mappings: added_mappings,
+        intervals: added_intervals,
+    };
+    match merge(names, h, &mut gathered, g, more) {
+        Ok(merged) => {
+            put_header(header, merged);
             DONE
         }
-        MetadataAnswer::Refused(refusal) => {
+        Err(refusal) => {
             *field = field_in(refusal, *field);
-            number(refusal)
+            refusal.number()
         }
     }
 }
@@ -130,15 +126,18 @@ pub extern "C" fn desk_metadata_finish(
 ) -> u32
     ensures { result ≡ number_in (finishing_answer header.now (lists symbols.now partial.now not_found.now mappings.now intervals.now)) }
 {
-    if !is_header(header) {
+    let Some(h) = header_of(header) else {
         return BAD_MEMORY;
-    }
-    let h = header_of(header);
-    let finished = metadata_open::opening::finish(
-        h, symbols, partial, not_found, mappings, intervals,
-    );
-    match finished {
-        MetadataAnswer::Done(_) => DONE,
-        MetadataAnswer::Refused(refusal) => number(refusal),
+    };
+    let gathered = Lists {
+        symbols,
+        partial,
+        not_found,
+        mappings,
+        intervals,
+    };
+    match finish(h, gathered) {
+        Ok(_) => DONE,
+        Err(refusal) => refusal.number(),
     }
 }

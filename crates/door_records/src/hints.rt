@@ -3,7 +3,7 @@ ghost use Rattle.std.specs.Prelude.{◌≡◌};
 ghost use Rattle.door_answers.specs.Answers.{number_in, value_in};
 ghost use Rattle.door_records.specs.Hints.{hint_answer};
 
-use door_answers::header::{header_of, is_header};
+use door_answers::header::header_of;
 use door_answers::{BAD_MEMORY, DONE};
 use records::hints::hint_of;
 
@@ -13,10 +13,9 @@ pub extern "C" fn desk_hint_of(header: &[u64], hint: &mut u64) -> u32
     ensures value { result ≡ number_in (hint_answer header.now) }
     ensures hint_after { hint.new ≡ value_in hint.old 0 (hint_answer header.now) }
 {
-    if !is_header(header) {
+    let Some(h) = header_of(header) else {
         return BAD_MEMORY;
-    }
-    let h = header_of(header);
+    };
     *hint = hint_of(h);
     DONE
 }

@@ -2,12 +2,14 @@
 // the number of streams that the heap holds.
 ghost use Rattle.records_rules.specs.Bytes.{streams_of};
 ghost use Rattle.records_rules.specs.State.{arrays};
-ghost use Rattle.door_records.specs.Merge.{numbers, DeskNext, DeskOpen};
+ghost use Rattle.records.specs.Merge.{turn_of};
+ghost use Rattle.door_records.specs.Merge.{numbers, Handed, DeskNext, DeskOpen};
 
 use door_answers::DONE;
-use door_answers::damage::{place_in, reason_in, stream_in};
-use leaves::refusal::number;
-use records::merge::{Opening, Turn};
+use door_answers::damage::hand_damage;
+use leaves::refusal::Refusal;
+use records::merge::Record;
+use records_state::state::State;
 
 // Opens the streams of a buffer between its cuts, each at its hint: 0, 15 or 12; `streams` and `held` become the streams, and those
 // that the heap holds.
@@ -29,17 +31,66 @@ pub extern "C" fn desk_open(
         streams.old held.old result streams.new held.new
         (arrays marks.new times.new places.new heads.new heap.new) }
 {
-    let opened = records::merge::open(buffer, cuts, hints, marks, times, places, heads, heap);
-    match opened {
-        Opening::Opened {
-            streams: count,
-            held: in_heap,
-        } => {
+    let mut state = State {
+        held: *held,
+        marks,
+        times,
+        places,
+        heads,
+        heap,
+    };
+    match records::merge::open(buffer, cuts, hints, &mut state) {
+        Ok(count) => {
             *streams = count;
-            *held = in_heap;
+            *held = state.held;
             DONE
         }
-        Opening::Refused(refusal) => number(refusal),
+        Err(refusal) => refusal.number(),
+    }
+}
+
+// Hands over what a call answered, and answers its number: a record has `found` 1, the end 0 and its six numbers 0; 13 sets `stream`,
+// `place` and `reason`. C lends each number by itself.
+pub fn hand_turn(
+    answer: Result<Option<Record>, Refusal>,
+    found: &mut u32,
+    stream: &mut u64,
+    place: &mut u64,
+    long: &mut u16,
+    kind: &mut u16,
+    instrument: &mut u32,
+    time: &mut u64,
+    reason: &mut u64,
+) -> u32
+    ensures { Handed (turn_of answer) result
+        (numbers found.old stream.old place.old long.old kind.old instrument.old time.old reason.old)
+        (numbers found.new stream.new place.new long.new kind.new instrument.new time.new reason.new) }
+{
+    match answer {
+        Ok(Some(record)) => {
+            *found = 1;
+            *stream = record.stream;
+            *place = record.place;
+            *long = record.length;
+            *kind = record.kind;
+            *instrument = record.instrument;
+            *time = record.time;
+            DONE
+        }
+        Ok(None) => {
+            *found = 0;
+            *stream = 0;
+            *place = 0;
+            *long = 0;
+            *kind = 0;
+            *instrument = 0;
+            *time = 0;
+            DONE
+        }
+        Err(refusal) => {
+            hand_damage(refusal, stream, place, reason);
+            refusal.number()
+        }
     }
 }
 
@@ -71,42 +122,17 @@ pub extern "C" fn desk_next(
         result held.new (arrays marks.new times.new places.new heads.new heap.new)
         (numbers found.new stream.new place.new long.new kind.new instrument.new time.new reason.new) }
 {
-    let turned = records::merge::next(buffer, cuts, *held, marks, times, places, heads, heap);
-    *held = turned.held;
-    let answer = turned.answer;
-    match answer {
-        Turn::Record {
-            stream: s,
-            place: p,
-            length: l,
-            kind: k,
-            instrument: i,
-            time: t,
-        } => {
-            *found = 1;
-            *stream = s;
-            *place = p;
-            *long = l;
-            *kind = k;
-            *instrument = i;
-            *time = t;
-            DONE
-        }
-        Turn::End => {
-            *found = 0;
-            *stream = 0;
-            *place = 0;
-            *long = 0;
-            *kind = 0;
-            *instrument = 0;
-            *time = 0;
-            DONE
-        }
-        Turn::Refused(refusal) => {
-            *stream = stream_in(refusal, *stream);
-            *place = place_in(refusal, *place);
-            *reason = reason_in(refusal, *reason);
-            number(refusal)
-        }
-    }
+    let mut state = State {
+        held: *held,
+        marks,
+        times,
+        places,
+        heads,
+        heap,
+    };
+    let answer = records::merge::next(buffer, cuts, &mut state);
+    *held = state.held;
+    hand_turn(
+        answer, found, stream, place, long, kind, instrument, time, reason,
+    )
 }

@@ -1,6 +1,6 @@
 -- A run at the C door: what the lent numbers hold afterwards, one law a case of the answer. Assumes nothing.
 use Rattle.std.specs.Prelude.{ℕ, ◌≡◌, cond, List, [], ◌∷◌, get_or, eqb}
-use Rattle.std.proofs.Common.{sym, ◌∙◌}
+use Rattle.std.proofs.Common.{sym, subst, ◌∙◌}
 use Rattle.std.proofs.Math.Path.{ap}
 use Rattle.theory.specs.Answer.{Answer, answer}
 use Rattle.leaves.specs.Refusal.{number_of, refused}
@@ -89,3 +89,8 @@ module _ {a : Answer} {c w c' w' : ℕ} (o : Numbers) (ec : c' ≡ c) (ew : w' �
         places = j ∙ ap (λ (d : ℕ). damage_in d 1 (refused r)) (sym (refused_value r o.place 2)) ∙ ap (place_in o.place) e;
         reasons = not_damage r o.reason 2 l e;
       }
+
+-- the same answer, calls and records
+pub handed_as : {x a : Answer} {c k w m r : ℕ} {o o' : Numbers} → RunHanded x c w r o o' → x ≡ a → c ≡ k → w ≡ m → RunHanded a k m r o o'
+handed_as {x} {a} {c} {k} {w} {m} {r} {o} {o'} h e f g =
+    subst (λ (n : ℕ). RunHanded a k n r o o') g (subst (λ (n : ℕ). RunHanded a n w r o o') f (subst (λ (y : Answer). RunHanded y c w r o o') e h))

@@ -1,21 +1,14 @@
 -- What the explain program is asked (RULES, Requests, No. 4): one section of kind 2, the name count in 4 bytes, one of kind 3, a table's
 -- intervals, all in use, and one of kind 4, questions of 12 bytes each, at most 65,536, and nothing else; at most 2,359,318 bytes.
-use Rattle.std.specs.Prelude.{ℕ, ◌+◌, ◌/◌, ◌%◌, Bool, ◌&&◌, cond, List, length, leb, eqb}
+use Rattle.std.specs.Prelude.{ℕ, ◌+◌, ◌/◌, ◌%◌, Bool, ◌&&◌, cond, List, length, leb, eqb, Option, Some, None}
 use Rattle.theory.specs.Fields.{field}
 use Rattle.theory.specs.Answer.{Answer, answer}
 use Rattle.map_rules.specs.Memory.{width, check_answer}
-use Rattle.map_table.specs.declared.table.Checked.{Checked}
-use Rattle.map_table.specs.declared.table.Checked.TheVariants.{WellFormed, Refused}
 use Rattle.lines.specs.Asked.{table_end, between}
 
 -- so many bytes are whole questions, and not too many
 unfoldable pub are_questions : ℕ → Bool
 are_questions n = eqb (n % 12) 0 && leb (n / 12) 65536
-
--- the status of questions about a table of which the check said this
-unfoldable pub check_status : Checked → ℕ
-check_status WellFormed = 0
-check_status (Refused r) = 1
 
 -- the status by the check's answer
 unfoldable pub answer_status : Answer → ℕ
@@ -27,8 +20,11 @@ unfoldable pub asked_status : List ℕ → ℕ → ℕ → ℕ
 unfolding are_questions answer_status
 asked_status t names n = cond (are_questions n) (answer_status (check_answer t (length t / width) names)) 1
 
--- the status of an input: 1 also where it is something else
+-- the status where the table's section ends there; 1 where the input is something else
+abbrev pub parted_status : List ℕ → Option ℕ → ℕ
+parted_status b None = 1
+parted_status b (Some e) = asked_status (between 16 e b) (field 4 b 6) (length (between (e + 6) (length b) b))
+
+-- the status of an input
 unfoldable pub status_of : List ℕ → ℕ
-status_of b =
-    let e = table_end 2359318 4 b in
-    cond (eqb e 0) 1 (asked_status (between 16 e b) (field 4 b 6) (length (between (e + 6) (length b) b)))
+status_of b = parted_status b (table_end 2359318 4 b)

@@ -1,55 +1,43 @@
 -- Each way through the tests of the explain program's input, and the status that it ends with. Assumes nothing.
-use Rattle.std.specs.Prelude.{◌≡◌, ℕ, ◌+◌, ◌/◌, ◌%◌, Bool, true, false, not, ◌&&◌, cond, List, length, eqb}
-use Rattle.std.proofs.Math.Path.{sym}
-use Rattle.std.proofs.Common.{ap, ◌∙◌}
-use Rattle.std.proofs.Math.Dec.{leb}
+use Rattle.std.specs.Prelude.{◌≡◌, ℕ, ◌+◌, ◌/◌, Bool, true, false, cond, List, length, Result, Some, None}
+use Rattle.std.proofs.Common.{sym, ap, subst, ◌∙◌}
 use Rattle.theory.specs.RunsTools.{cond_yes, cond_no}
-use Rattle.theory.specs.Fields.{field}
-use borrow.Author.Tests.{eq-eqb, ne_eqb, not-true, not-false}
-use Rattle.theory.specs.Answer.{Answer}
-use Rattle.leaves.specs.Refusal.{number_of}
+use borrow.Author.Tests.{ne_eqb}
+use Rattle.leaves.specs.Refusal.{number_of, refused}
 use Rattle.leaves.specs.RefusalLaws.{refused_not_done}
+use Rattle.leaves.specs.declared.refusal.Refusal.{Refusal}
 use Rattle.map_rules.specs.Memory.{width, check_answer}
-use Rattle.map_table.specs.declared.table.Checked.{Checked}
-use Rattle.map_table.specs.declared.table.Checked.TheVariants.{WellFormed, Refused}
-use Rattle.map_table.specs.Table.{checked_of}
+use Rattle.theory.specs.Fields.{field}
 use Rattle.lines.specs.Asked.{table_end, between}
 use Rattle.standard.specs.Status.{Ends}
-use Rattle.explain_main.specs.Asked.{are_questions, check_status, answer_status, asked_status, status_of}
+use Rattle.standard.specs.declared.Status.{Status}
+use Rattle.standard.specs.declared.Failure.{Failure}
+use Rattle.explain_main.specs.Asked.{are_questions, answer_status, asked_status, parted_status, status_of}
 
--- the check's answer tells the status
-check_status_lem : (c : Checked) {a : Answer} → checked_of c ≡ a → check_status c ≡ answer_status a
-unfolding check_status answer_status
-check_status_lem WellFormed e = ap answer_status e
-check_status_lem (Refused r) e = sym (ap (λ (b : Bool). cond b 0 1) (ne_eqb (number_of r) 0 (refused_not_done r))) ∙ ap answer_status e
+-- a refusal's status
+pub refused_status : (r : Refusal) → 1 ≡ answer_status (refused r)
+unfolding answer_status
+refused_status r = sym (ap (λ (b : Bool). cond b 0 1) (ne_eqb (number_of r) 0 (refused_not_done r)))
 
 module _ (t : List ℕ) (names n : ℕ) where
-  pub asked_none : {b : Bool} {r : ℕ} → b ≡ are_questions n → not b ≡ true → Ends 1 r → Ends (asked_status t names n) r
+  pub asked_none : {b : Bool} → b ≡ are_questions n → b ≡ false → 1 ≡ asked_status t names n
   unfolding asked_status
-  asked_none e h s d = s d ∙ sym (cond_no (are_questions n) _ _ (rw (sym e ∙ not-true _ h) tt))
+  asked_none e h = sym (cond_no (are_questions n) _ _ (rw (sym e ∙ h) tt))
 
-  pub asked_told : {b : Bool} {r : ℕ} (c : Checked) → b ≡ are_questions n → not b ≡ false → checked_of c ≡ check_answer t (length t / width) names
-      → Ends (check_status c) r → Ends (asked_status t names n) r
+  pub asked_told : {b : Bool} → b ≡ are_questions n → b ≡ true → answer_status (check_answer t (length t / width) names) ≡ asked_status t names n
   unfolding asked_status
-  asked_told c e h f s d = s d ∙ check_status_lem c f ∙ sym (cond_yes (are_questions n) _ _ (rw (sym e ∙ not-false _ h) tt))
+  asked_told e h = sym (cond_yes (are_questions n) _ _ (rw (sym e ∙ h) tt))
 
-module _ (n : ℕ) where
-  pub whole_yes : {b : Bool} → n % 12 ≡ 0 → b ≡ leb (n / 12) 65536 → b ≡ are_questions n
-  unfolding are_questions
-  whole_yes e f = f ∙ sym (ap (λ (c : Bool). c && leb (n / 12) 65536) (eq-eqb (n % 12) 0 e))
-
-  pub whole_not : (n % 12 ≡ 0 → ⊥) → false ≡ are_questions n
-  unfolding are_questions
-  whole_not d = sym (ap (λ (c : Bool). c && leb (n / 12) 65536) (ne_eqb (n % 12) 0 d))
+-- the same status by two names
+pub ends_too : {m n : ℕ} (r : Result Status Failure) → m ≡ n → Ends m r → Ends n r
+ends_too r e h = subst (λ (k : ℕ). Ends k r) e h
 
 module _ (b : List ℕ) where
-  pub status_bad : {e r : ℕ} → e ≡ table_end 2359318 4 b → e ≡ 0 → Ends 1 r → Ends (status_of b) r
+  pub status_bad : None ≡ table_end 2359318 4 b → 1 ≡ status_of b
   unfolding status_of
-  status_bad g z s n = s n ∙ sym (cond_yes (eqb (table_end 2359318 4 b) 0) _ _ (rw (eq-eqb (table_end 2359318 4 b) 0 (sym g ∙ z)) tt))
+  status_bad e = ap (parted_status b) e
 
-  pub status_asked : {e r k : ℕ} → e ≡ table_end 2359318 4 b → (e ≡ 0 → ⊥) → k ≡ field 4 b 6
-      → Ends (asked_status (between 16 e b) k (length (between (e + 6) (length b) b))) r → Ends (status_of b) r
+  pub status_asked : {e k : ℕ} → Some e ≡ table_end 2359318 4 b → k ≡ field 4 b 6
+      → asked_status (between 16 e b) k (length (between (e + 6) (length b) b)) ≡ status_of b
   unfolding status_of
-  status_asked {e} g d f s n =
-      s n ∙ (λ i. asked_status (between 16 (g i) b) (f i) (length (between (g i + 6) (length b) b)))
-      ∙ sym (cond_no (eqb (table_end 2359318 4 b) 0) _ _ (rw (ne_eqb (table_end 2359318 4 b) 0 (λ z. d (g ∙ z))) tt))
+  status_asked {e} g f = ap (λ (n : ℕ). asked_status (between 16 e b) n (length (between (e + 6) (length b) b))) f ∙ ap (parted_status b) g

@@ -4,8 +4,7 @@ use Rattle.std.proofs.Common.{sym, ap, ◌∙◌, arith, append_assoc}
 use Rattle.std.proofs.Math.Decide.{dec_lt}
 use Rattle.lines.specs.LinesLaws.{laid_taken, laid_length}
 use Rattle.lines.specs.Lines.{Lays}
-use Rattle.map_table.specs.declared.table.Checked.{Checked}
-use Rattle.explain_main.specs.Text.{question_text, lines_from}
+use Rattle.explain_main.specs.Text.{Checked, question_text, lines_from}
 
 -- a portion from question `from` of so many: its text and the lines from the next question on are the lines from where it began, and it
 -- comes nearer to the end where a question is left
@@ -81,5 +80,8 @@ module _ {t : List ℕ} {used : ℕ} {c : Checked} {b : List ℕ} {count from ne
   pub telling_full : length text - at < 218 → 218 ≤ length text₀ → Portioned t used c b count from next at text
   telling_full h k = ended (λ m e. omega (arith, w.begun e, w.kept))
 
-  pub telling_end : count ≤ next → Portioned t used c b count from next at text
-  telling_end h = ended (λ m e. omega arith)
+  pub telling_end : count ≤ next → Portioned t used c b count from count at text
+  telling_end h =
+      let e : next ≡ count = omega (arith, w.few) in
+      let p : Portioned t used c b count from next at text = ended (λ m e. omega arith) in
+      rw e at p

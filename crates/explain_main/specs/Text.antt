@@ -1,14 +1,16 @@
 -- The lines of explanations (RULES, Requests, No. 4): a question's line is instrument, moment, the reason's word, then index, start, end
 -- and symbol of each interval that it names; or `refused` and the number. Numbers are decimal, one blank parts two fields, a newline
 -- ends each line.
-use Rattle.std.specs.Prelude.{◌≡◌, ℕ, suc, zero, ◌+◌, ◌*◌, cond, List, [], ◌∷◌, ◌++◌, eqb}
+use Rattle.std.specs.Prelude.{◌≡◌, ℕ, suc, zero, ◌+◌, ◌*◌, ◌≤◌, true, length, cond, List, [], ◌∷◌, ◌++◌, eqb, Result, Ok, Err}
 use Rattle.theory.specs.Answer.{Answer, answer}
 use Rattle.theory.specs.Fields.{field}
 use Rattle.leaves.specs.Refusal.{refused}
+use Rattle.leaves.specs.declared.refusal.Refusal.{Refusal}
 use Rattle.lines.specs.Lines.{decimal, blank, newline}
-use Rattle.map_table.specs.declared.table.Checked.{Checked}
-use Rattle.map_table.specs.declared.table.Checked.TheVariants.{WellFormed, Refused}
-use Rattle.map_explain.specs.Explain.{InOrder, rows_answer}
+use Rattle.leaves_limits.specs.Limits.{most_room}
+use Rattle.map_rules.specs.Table.{ordered}
+use Rattle.map_rules.specs.Memory.{same_value, width, rows}
+use Rattle.map_explain.specs.Explain.{rows_answer}
 
 -- " in", " unknown", " before", " after", " between", " refused "
 unfoldable pub in_word : List ℕ
@@ -65,18 +67,22 @@ instrument_at b k = field 4 b (k * 12)
 unfoldable pub moment_at : List ℕ → ℕ → ℕ
 moment_at b k = field 8 b (k * 12 + 4)
 
+-- what the check of a table says: that it is well-formed, or a refusal
+abbrev pub Checked : Type 0
+Checked = Result (Unit {0}) Refusal
+
 -- an answer in a table on which the check said this: the check's refusal comes first
-unfoldable pub after_check : Checked → Answer → Answer
-after_check WellFormed a = a
-after_check (Refused r) a = refused r
+abbrev pub after_check : Checked → Answer → Answer
+after_check (Ok u) a = a
+after_check (Err r) a = refused r
 
 -- a table that passed the check is in order
 abbrev pub Ready : List ℕ → ℕ → Checked → Type 0
-Ready t used c = c ≡ WellFormed → InOrder t used
+Ready t used c = c ≡ Ok tt → (used * width ≤ length t) × (used ≤ most_room) × (ordered same_value (rows t used) ≡ true)
 
 -- the line of the question at place k
 unfoldable pub question_text : List ℕ → ℕ → Checked → List ℕ → ℕ → List ℕ
-unfolding line_text instrument_at moment_at after_check
+unfolding line_text instrument_at moment_at
 question_text t used c b k =
     let i = instrument_at b k in
     let m = moment_at b k in

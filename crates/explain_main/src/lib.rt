@@ -2,18 +2,18 @@
 // is three sections: the name count (4 bytes), the table's intervals, the questions.
 #![tactic(auto)]
 
-ghost use Rattle.std.specs.Prelude.{◌≡◌, ◌*◌, ◌≤◌, length};
-ghost use Rattle.standard.specs.Status.{Ends};
-ghost use Rattle.explain_main.specs.Text.{Ready};
-ghost use Rattle.explain_main.specs.Asked.{are_questions, check_status, asked_status, status_of};
+ghost use Rattle.std.specs.Prelude.{◌≡◌, ◌≤◌, length};
+ghost use Rattle.theory.specs.Answer.{no_values};
+ghost use Rattle.leaves.specs.Refusal.{answer_with};
+ghost use Rattle.standard.specs.Status.{status_number, Ends};
+ghost use Rattle.explain_main.specs.Asked.{are_questions, answer_status, asked_status, status_of};
 
-use crate::telling::{QUESTION, lay_portion};
+use crate::telling::{Asked, QUESTION, lay_portion};
+use leaves::refusal::Refusal;
 use lines::asked::{NAMES_BYTES, table_end};
 use lines::parts::PART_HEAD;
-use map_table::interval::WIDTH;
-use map_table::table::Checked;
-use standard::{BAD, DONE, FAILED, Input, text_space};
-use std::io::Input as StandardInput;
+use standard::{Failure, Status, text_space};
+use std::io::Input;
 
 pub mod telling;
 
@@ -34,61 +34,52 @@ fn input_space() -> [u8; 2359319]
 }
 
 // Whether so many bytes are whole questions, and not too many.
+#[tactic(auto, unfolding(crate::specs::Asked::are_questions))]
 fn are_questions(bytes: usize) -> bool
     ensures { result ≡ are_questions bytes }
 {
-    if bytes % QUESTION == 0 {
-        bytes / QUESTION <= MOST_QUESTIONS
-    } else {
-        false
-    }
+    bytes % QUESTION == 0 && bytes / QUESTION <= MOST_QUESTIONS
 }
 
 // Writes the last line and answers the status.
-fn say(rt: &(impl Print + Eprint), text: &[u8], status: u8) -> u8
-    ensures { Ends status result }
+fn say(rt: &(impl Print + Eprint), text: &[u8], status: Status) -> Result<Status, Failure>
+    ensures { Ends (status_number status) result }
 {
     standard::ended(rt, text, status, b"explain: writing standard output")
 }
 
-// Writes a portion of lines, and answers whether it went out.
-fn put(rt: &(impl Print + Eprint), text: &[u8]) -> bool {
-    standard::write_portion(rt, text, b"explain: writing standard output")
+// Writes a portion of lines.
+fn put(rt: &(impl Print + Eprint), text: &[u8]) -> Result<(), Failure> {
+    standard::write_output(rt, text, b"explain: writing standard output")
 }
 
 // The status of questions about a table of which the check said this.
-fn status_of(checked: Checked) -> u8
-    ensures { result ≡ check_status checked }
+fn status_of(checked: Result<(), Refusal>) -> Status
+    ensures { status_number result ≡ answer_status (answer_with no_values checked) }
 {
     match checked {
-        Checked::WellFormed => DONE,
-        Checked::Refused(_) => BAD,
+        Ok(()) => Status::Done,
+        Err(_) => Status::Bad,
     }
 }
 
-// Writes the line of each of so many questions, portion by portion.
+// Writes the line of each question, portion by portion.
 fn tell_all(
     rt: &(impl Print + Eprint),
-    table: &[u8],
-    used: usize,
-    checked: Checked,
+    asked: Asked,
     questions: &[u8],
-    count: usize,
     text: &mut [u8],
-) -> u8
-    requires { Ready table.now used checked × (count * 12 ≤ length questions.now) × (218 ≤ length text.old) }
-    ensures { Ends (check_status checked) result }
+) -> Result<Status, Failure>
+    requires { 218 ≤ length text.old }
+    ensures { Ends (answer_status (answer_with no_values asked.entry.checked)) result }
 {
-    let mut next: usize = 0;
-    while next < count {
-        let p = lay_portion(table, used, checked, questions, count, next, text);
-        let k = p.at;
-        if !put(rt, &text[..k]) {
-            return FAILED;
-        }
+    let mut next = 0;
+    while next < questions.len() / QUESTION {
+        let p = lay_portion(asked, questions, next, text);
+        put(rt, &text[..p.at])?;
         next = p.next;
     }
-    say(rt, b"", status_of(checked))
+    say(rt, b"", status_of(asked.checked))
 }
 
 // Answers questions about a table of which every interval is in use, or writes only the line that says that they are none.
@@ -98,52 +89,39 @@ fn answer_all(
     names: usize,
     questions: &[u8],
     text: &mut [u8],
-) -> u8
+) -> Result<Status, Failure>
     requires { 218 ≤ length text.old }
     ensures { Ends (asked_status table.now names (length questions.now)) result }
 {
     if !are_questions(questions.len()) {
-        return say(rt, b"bad bundle\n", BAD);
+        return say(rt, b"bad bundle\n", Status::Bad);
     }
-    let used = table.len() / WIDTH;
-    let checked = map_table::table::check(table, used, names);
-    tell_all(
-        rt,
-        table,
-        used,
-        checked,
-        questions,
-        questions.len() / QUESTION,
-        text,
-    )
+    tell_all(rt, Asked::new(table, names), questions, text)
 }
 
 // Takes the input apart and answers, or writes only the line that says that it is bad.
-fn show(rt: &(impl Print + Eprint), input: &[u8], text: &mut [u8]) -> u8
+#[tactic(auto, using(crate::specs::AskedLaws::status_bad, crate::specs::AskedLaws::status_asked, crate::specs::AskedLaws::ends_too))]
+fn show(rt: &(impl Print + Eprint), input: &[u8], text: &mut [u8]) -> Result<Status, Failure>
     requires { 218 ≤ length text.old }
     ensures { Ends (status_of input.now) result }
 {
-    let end = table_end(input, MOST_BYTES, QUESTIONS);
-    if end == 0 {
-        return say(rt, b"bad bundle\n", BAD);
-    }
+    let Some(end) = table_end(input, MOST_BYTES, QUESTIONS) else {
+        return say(rt, b"bad bundle\n", Status::Bad);
+    };
     let names = leaves_fields::fields::u32_at(input, PART_HEAD) as usize;
-    let begin = NAMES_BYTES + PART_HEAD;
-    let next = end + PART_HEAD;
-    answer_all(rt, &input[begin..end], names, &input[next..], text)
+    let table = &input[NAMES_BYTES + PART_HEAD..end];
+    answer_all(rt, table, names, &input[end + PART_HEAD..], text)
 }
 
 // Answers standard input's questions and answers the status.
-fn answered(rt: &(impl StandardInput + Print + Eprint)) -> u8 {
+fn answered(rt: &(impl Input + Print + Eprint)) -> Result<Status, Failure> {
     let mut input = input_space();
     let mut text = text_space();
-    match standard::read_input(rt, &mut input, b"explain: reading standard input") {
-        Input::Bytes(n) => show(rt, &input[..n], &mut text),
-        Input::Failed => FAILED,
-    }
+    let n = standard::read_input(rt, &mut input, b"explain: reading standard input")?;
+    show(rt, &input[..n], &mut text)
 }
 
 // The program: answers the questions of standard input, and answers the status to end with.
-pub fn explain_main(rt: &(impl StandardInput + Print + Eprint)) -> u8 {
-    answered(rt)
+pub fn explain_main(rt: &(impl Input + Print + Eprint)) -> u8 {
+    answered(rt).unwrap_or(Status::Failed).into()
 }

@@ -1,21 +1,20 @@
 -- The answers of the calls in the rules' numbers.
-use Rattle.std.specs.Prelude.{[], ◌∷◌}
-use Rattle.theory.specs.Answer.{Answer, answer}
-use Rattle.leaves.specs.Refusal.{refused}
+use Rattle.std.specs.Prelude.{ℕ, List, [], ◌∷◌, Result}
+use Rattle.theory.specs.Answer.{Answer}
+use Rattle.leaves.specs.Refusal.{answer_with}
+use Rattle.leaves.specs.declared.refusal.Refusal.{Refusal}
 use Rattle.feed.specs.declared.turns.Fed.{Fed}
 use Rattle.feed.specs.declared.turns.Fed.TheVariants as fed
-use Rattle.feed.specs.declared.opening.FeedOpening.{FeedOpening}
-use Rattle.feed.specs.declared.opening.FeedOpening.TheVariants as opened
 
--- a record is done, with its stream, place, index in the window, length, kind, instrument and time; the end is done, with nothing; need
--- more is done, with the stream
-abbrev pub fed_of : Fed → Answer
-fed_of (fed.Record stream place at size kind instrument time) = answer 0 (stream ∷ place ∷ at ∷ size ∷ kind ∷ instrument ∷ time ∷ [])
-fed_of fed.End = answer 0 []
-fed_of (fed.NeedMore stream) = answer 0 (stream ∷ [])
-fed_of (fed.Refused r) = refused r
+-- a record's stream, place, index in the window, length, kind, instrument and time; nothing at the end; the stream of which more is needed
+abbrev pub fed_values : Fed → List ℕ
+fed_values (fed.Record r at) = r.stream ∷ r.place ∷ at ∷ r.length ∷ r.kind ∷ r.instrument ∷ r.time ∷ []
+fed_values fed.End = []
+fed_values (fed.NeedMore stream) = stream ∷ []
+
+abbrev pub fed_of : Result Fed Refusal → Answer
+fed_of r = answer_with fed_values r
 
 -- an opening is done, with the number of streams and of those that the heap holds
-abbrev pub opened_of : FeedOpening → Answer
-opened_of (opened.Opened streams held) = answer 0 (streams ∷ held ∷ [])
-opened_of (opened.Refused r) = refused r
+abbrev pub opened_of : ℕ → Result ℕ Refusal → Answer
+opened_of held r = answer_with (λ streams. streams ∷ held ∷ []) r

@@ -211,7 +211,7 @@ module _ {n held : ℕ} {ms ts cs hs hp ps : List ℕ} (window : List ℕ) (hn :
             → get_or (laid_window window p s xs (taking (length xs) (F.kept p))) i 0 ≡ get_or window i 0
         stays = rw (← room_is) (laid_other window p s xs k long below slot.short room_fits.1 room_fits.0)
 
-  shut_no : shut_at p ms ps ≡ false → (p < 256) × (get_or ms p 0 ≢ 0) × (get_or ps p 0 / 4294967296 ≡ 0)
+  pub shut_no : shut_at p ms ps ≡ false → (p < 256) × (get_or ms p 0 ≢ 0) × (get_or ps p 0 / 4294967296 ≡ 0)
   shut_no e = (below (dec_lt p 256), live, going (ℕ_discrete (get_or ps p 0 / 4294967296) 0))
     where
       below : Dec (p < 256) → p < 256

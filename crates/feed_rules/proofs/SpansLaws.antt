@@ -1,20 +1,18 @@
 -- Laws of spans: dropping a span's first bytes is dropping what is kept; a read of the window is what is known. Assumes nothing.
-use Rattle.std.specs.Prelude.{◌≡◌, ℕ, zero, suc, ◌+◌, ◌-◌, ◌/◌, ◌%◌, ◌<◌, ◌≤◌, Bool, true, not, cond, ◌||◌, List, length, eqb}
+use Rattle.std.specs.Prelude.{◌≡◌, ℕ, ◌+◌, ◌-◌, ◌<◌, Bool, true, cond, ◌||◌, List, length, eqb}
 use Rattle.std.proofs.Math.Path.{refl}
-use Rattle.std.proofs.Common.{sym, ap, ◌∙◌, arith}
+use Rattle.std.proofs.Common.{◌∙◌, arith}
 use Rattle.std.proofs.Math.Bool.{false}
 use Rattle.std.proofs.Math.Option.{Option, none, some}
 use Rattle.std.proofs.Math.Dec.{ltb}
 use Rattle.std.proofs.Math.Facts.{ltb_yes, eqb_yes}
-use borrow.Author.Tests.{lt-ltb, le-ltb}
+use borrow.Author.Tests.{lt-ltb}
 use Rattle.theory.specs.RunsTools.{cond_case}
 use Rattle.theory.specs.Bools.{T_true, T_false}
 use Rattle.theory.specs.Fields.{field}
 use Rattle.leaves.specs.Frame.{Read, whole, ended, damaged, judged, record_at, frame_at}
-use Rattle.leaves.specs.FrameLaws.{found_whole}
-use Rattle.records_rules.specs.State.{got_of}
 use Rattle.feed_rules.specs.Partial.{part, so_far, known_at}
-use Rattle.feed_rules.specs.Spans.{known_by, got_known}
+use Rattle.feed_rules.specs.Spans.{settled}
 
 -- ---- a read
 
@@ -46,39 +44,15 @@ unfolding known_at frame_at record_at
 known_frame bs true = refl
 known_frame bs false = known_judged (length bs - 0) (field 2 bs 0) (field 2 bs 0) (field 2 bs (0 + 2)) (field 4 bs (0 + 4)) (field 8 bs (0 + 8))
 
-got_known_lem : (found t h e : ℕ) → got_known (known_by found e) t h ≡ cond (not (eqb e 0)) (some (got_of found t h)) (known_of (got_of found t h))
-unfolding got_known known_by got_of known_of
-got_known_lem found t h e = go (not (eqb e 0)) found
+-- a read of the bytes is what is known of them
+pub known_read : (bs : List ℕ) (over : Bool) → known_at (part bs over) 0 ≡ cond (settled over (frame_at bs 0)) (some (frame_at bs 0)) none
+unfolding settled known_of
+known_read bs over = known_frame bs over ∙ go over (frame_at bs 0)
   where
-    r : Read
-    r = whole (h % 65536) (h / 65536 % 65536) (h / 4294967296) t
-
-    both : (o : Bool) → some r ≡ cond o (some r) (some r)
-    both true = refl
-    both false = refl
-
-    big : (o : Bool) (k : ℕ) → 4 ≤ k
-        → got_known (cond (ltb k 4) (cond (o || eqb k 2) k 5) 4) t h ≡ cond o (some (got_of k t h)) (known_of (got_of k t h))
-    big o k l =
-        let i : ltb k 4 ≡ false = le-ltb k 4 l in
-        let g : got_of k t h ≡ r = found_whole k r l in
-        ap (λ (b : Bool). got_known (cond b (cond (o || eqb k 2) k 5) 4) t h) i
-        ∙ both o
-        ∙ ap (λ (x : Read). cond o (some x) (known_of x)) (sym g)
-
-    go : (o : Bool) (k : ℕ) → got_known (cond (ltb k 4) (cond (o || eqb k 2) k 5) 4) t h ≡ cond o (some (got_of k t h)) (known_of (got_of k t h))
-    go true zero = refl
-    go false zero = refl
-    go true (suc zero) = refl
-    go false (suc zero) = refl
-    go true (suc (suc zero)) = refl
-    go false (suc (suc zero)) = refl
-    go true (suc (suc (suc zero))) = refl
-    go false (suc (suc (suc zero))) = refl
-    go o (suc (suc (suc (suc k)))) = big o (suc (suc (suc (suc k)))) (omega arith)
-
--- a read of the bytes, told in numbers, is what is known of them
-pub known_read : (bs : List ℕ) (found t h e : ℕ) → got_of found t h ≡ frame_at bs 0
-    → got_known (known_by found e) t h ≡ known_at (part bs (not (eqb e 0))) 0
-known_read bs found t h e g =
-    got_known_lem found t h e ∙ ap (λ (r : Read). cond (not (eqb e 0)) (some r) (known_of r)) g ∙ sym (known_frame bs (not (eqb e 0)))
+    go : (o : Bool) (r : Read) → cond o (some r) (known_of r) ≡ cond (settled o r) (some r) none
+    go true ended = refl
+    go true (damaged k) = refl
+    go true (whole l κ ι t) = refl
+    go false ended = refl
+    go false (damaged k) = refl
+    go false (whole l κ ι t) = refl

@@ -9,7 +9,7 @@ use Rattle.std.proofs.Math.Option.{Option, none, some}
 use Rattle.std.proofs.Math.ListN.{get_or, set, length-set, length-take, length-drop}
 use Rattle.std.proofs.Math.Seq.{set-get_or, get_or-set_same}
 use Rattle.theory.specs.Answer.{answer}
-use Rattle.leaves.specs.Frame.{Read, whole}
+use Rattle.leaves.specs.Frame.{Read, whole, ended, damaged}
 use Rattle.records_rules.specs.Machine.{Rec, says, end, record_at_lem, damage_at, Status, waiting, gone}
 use Rattle.records_rules.specs.View.{rec_in, statuses_of, length_statuses}
 use Rattle.records_rules.specs.Heap.{at}
@@ -22,13 +22,13 @@ use Rattle.feed_rules.proofs.PartialLaws.{rule_end⁺, rule_record⁺, rule_want
 use Rattle.feed_rules.specs.Windows.{Kept, known_in, from, counted, turn_leaves, turn_answer}
 use Rattle.feed_rules.specs.WindowsLaws.{known_here}
 use Rattle.feed_rules.proofs.WindowsLaws.{known_from, known_fits}
-use Rattle.feed_rules.specs.Spans.{dropped, counts, bytes_in, kept_of, feed_of, got_known, handed_out, SlotOk, FeedOk, FeedRoom, FeedArrays, feed_arrays, Wanting}
+use Rattle.feed_rules.specs.Spans.{dropped, counts, bytes_in, kept_of, feed_of, handed_out, SlotOk, FeedOk, FeedRoom, FeedArrays, feed_arrays, Wanting}
 use Rattle.feed_rules.specs.SpansLaws.{dropped_zero, kept_dropped}
 use Rattle.feed_rules.specs.Stores.{put_set, put_none, slots_put, unused_put, head_set}
 use Rattle.feed_rules.specs.Going.{Later, later_from, kept_at, Keeps⁺, Going⁺, going_room, counts_none, counts_zero}
 use Rattle.feed_rules.proofs.Going.{known_later}
 use Rattle.feed_rules.specs.Going.{says_by, kept_handed, slot_handed, slot_dropped}
-use Rattle.feed_rules.specs.Going.{got_none, got_five, got_ended, got_damaged, got_whole, Done⁺, needs_not}
+use Rattle.feed_rules.specs.Going.{Done⁺, needs_not}
 
 module _ {window : List ℕ} {held : ℕ} {ms₀ ts₀ cs₀ hs₀ hp₀ ps₀ : List ℕ} {size : ℕ} {ms ts cs hs hp ps : List ℕ}
     (g : Going⁺ window held ms₀ ts₀ cs₀ hs₀ hp₀ ps₀ size ms ts cs hs hp ps) (room : FeedRoom held ms₀ ts₀ cs₀ hs₀ hp₀ ps₀) where
@@ -143,8 +143,8 @@ module _ {window : List ℕ} {held : ℕ} {ms₀ ts₀ cs₀ hs₀ hp₀ ps₀ :
       needs = needs_not (λ q i. let z : ◌≡◌ {A = ℕ} 0 1 = cc in omega arith) (λ v. d (rw e (want v).waits));
     }
 
-    module _ (w : get_or ms p 0 ≡ 1) (k t l : ℕ)
-        (got : got_known k t l ≡ known_at (part (bytes_in window p (dropped (get_or ps p 0) (get_or hs p 0 % 65536)))
+    module _ (w : get_or ms p 0 ≡ 1) (o : Option Read)
+        (got : o ≡ known_at (part (bytes_in window p (dropped (get_or ps p 0) (get_or hs p 0 % 65536)))
         (not (eqb (dropped (get_or ps p 0) (get_or hs p 0 % 65536) / 4294967296) 0))) 0) where
       -- the span without the bytes that counted
       abbrev less : ℕ
@@ -154,11 +154,11 @@ module _ {window : List ℕ} {held : ℕ} {ms₀ ts₀ cs₀ hs₀ hp₀ ps₀ :
       none_counted : Wanting window size ms hs hp ps → (get_or hs p 0 ≡ 0) × (less ≡ get_or ps p 0)
       none_counted v = let z : get_or hs p 0 ≡ 0 = rw e v.none_counts_lem in (z, rw z (dropped_zero (get_or ps p 0)))
 
-      not_known : Wanting window size ms hs hp ps → k ≡ 5
+      not_known : Wanting window size ms hs hp ps → o ≡ none
       not_known v =
           let s = (none_counted v).1 in
           let u : known_at (part (bytes_in window p less) (not (eqb (less / 4294967296) 0))) 0 ≡ none = rw (s, e) v.unknown in
-          got_five k t l (got ∙ u)
+          got ∙ u
 
       module _ (n : ℕ) (hn : n ≤ 256) (x : Keeps⁺ n window ms₀ ts₀ cs₀ hs₀ ps₀ size ms ts cs hs hp ps) where
         slot₁ : SlotOk 1 (get_or cs p 0) (get_or hs p 0) (get_or ps p 0)
@@ -180,7 +180,7 @@ module _ {window : List ℕ} {held : ℕ} {ms₀ ts₀ cs₀ hs₀ hp₀ ps₀ :
         later_fresh : (m' h' : ℕ) → counts m' h' ≡ 0 → Later (kept_at window ms₀ cs₀ hs₀ ps₀ p) (kept_of window p m' (get_or cs p 0) h' less)
         later_fresh m' h' z = later_from had (get_or cs p 0) low (fresh m' h' z)
 
-        reads : kn p (get_or cs p 0) ≡ got_known k t l
+        reads : kn p (get_or cs p 0) ≡ o
         unfolding kept_of from
         reads =
             known_later had (get_or cs p 0) low
@@ -190,21 +190,20 @@ module _ {window : List ℕ} {held : ℕ} {ms₀ ts₀ cs₀ hs₀ hp₀ ps₀ :
             ∙ sym got
 
         -- a record lies in the span
-        whole_fits : k ≢ 5 → 4 ≤ k → l % 65536 ≤ less / 65536 % 65536
+        whole_fits : (l t : ℕ) → o ≡ some (whole (l % 65536) (l / 65536 % 65536) (l / 4294967296) t) → l % 65536 ≤ less / 65536 % 65536
         unfolding kept_of
-        whole_fits d h =
+        whole_fits l t d =
             let y : Kept = kept_of window p 1 (get_or cs p 0) 0 less in
             let same : kn p (get_or cs p 0) ≡ known_in y (get_or cs p 0) =
             known_later (later_fresh 1 0 (counts_zero 1)) (get_or cs p 0) (omega arith) in
-            let f = known_fits y (get_or cs p 0) (l % 65536) (l / 65536 % 65536) (l / 4294967296) t (sym same ∙ reads
-            ∙ got_whole k t l d h) in
+            let f = known_fits y (get_or cs p 0) (l % 65536) (l / 65536 % 65536) (l / 4294967296) t (sym same ∙ reads ∙ d) in
             let b : y.base ≤ get_or cs p 0 = omega arith in
             let from₀ : ℕ = 1024 * p + less % 65536 in
             let size₀ : ℕ = less / 65536 % 65536 in
             omega (arith, f.1, b, length-drop from₀ (take (from₀ + size₀) window), length-take (from₀ + size₀) window)
 
       -- more is needed first
-      pub step_wants⁺ : k ≡ 5 → p < 256
+      pub step_wants⁺ : o ≡ none → p < 256
           → Done⁺ window held ms₀ ts₀ cs₀ hs₀ hp₀ ps₀ (answer 0 (p ∷ [])) size ms ts cs (set hs p 0) hp (set ps p less)
       unfolding feed_of rest⁺ counted turn_answer
       step_wants⁺ d below = record {
@@ -221,7 +220,7 @@ module _ {window : List ℕ} {held : ℕ} {ms₀ ts₀ cs₀ hs₀ hp₀ ps₀ :
             says_by (answer 0 (p ∷ [])) (needs p (ss n))
             (sym x.same
             ∙ rule_wants⁺ kn (ss n) fst.0 p fst.1 (get_or ts p 0) (get_or cs p 0) (waits_at n ms ts cs hs p r w)
-            (reads n hn x ∙ got_none k t l d))
+            (reads n hn x ∙ d))
             (sym (head_set n ms ts cs hs p r (enough n hn) 0 w))
             (slots_put (λ q m c h z. q < n → m ≢ 0 → Later (kept_at window ms₀ cs₀ hs₀ ps₀ q) (kept_of window q m c h z)) u₁ u₂ u₃ u₄
             (λ q i. x.kept q) (λ i j. later_fresh n hn x (get_or ms p 0) 0 (counts_zero (get_or ms p 0))))
@@ -248,7 +247,7 @@ module _ {window : List ℕ} {held : ℕ} {ms₀ ts₀ cs₀ hs₀ hp₀ ps₀ :
                   any = pos;
                   waits = rw (← e) w;
                   none_counts_lem = rw (← e) (put_set hs p 0 (omega (arith, roomy.0.4))).here;
-                  unknown = rw (← e, u.here) (sym got ∙ got_none k t l d);
+                  unknown = rw (← e, u.here) (sym got ∙ d);
                 },
               );
           again = λ v.
@@ -263,7 +262,10 @@ module _ {window : List ℕ} {held : ℕ} {ms₀ ts₀ cs₀ hs₀ hp₀ ps₀ :
         };
       }
 
-      module _ (known : k ≢ 5) where
+      module _ (r₀ : Read) (found : o ≡ some r₀) where
+        known : o ≢ none
+        known z = let y : none ≡ some r₀ = sym z ∙ found in let y₁ : ◌≡◌ {A = ℕ} 0 1 = cc in absurd (omega arith)
+
         module _ {hq : List ℕ} (sf : Sifted ts (size - 1) 0 (set hp 0 (at hp (size - 1))) hq) where
           -- no other stream has a record that counts
           alone : (n : ℕ) → n ≤ 256 → FeedOk n size ms ts cs hs hp ps → (q : ℕ) → q < n → get_or (set ms p 0) q 0 ≡ 1
@@ -299,7 +301,7 @@ module _ {window : List ℕ} {held : ℕ} {ms₀ ts₀ cs₀ hs₀ hp₀ ps₀ :
               (put_set ms p 0 (omega (arith, roomy.0.1, root n hn x.sound))) (put_none cs p) (put_none hs p) (put_none ps p) (λ q i. x.kept q) (λ i j. absurd (j refl))
 
           -- the root's stream has ended
-          pub step_ended⁺ : k ≡ 0 → length hq ≡ length (set hp 0 (at hp (size - 1)))
+          pub step_ended⁺ : r₀ ≡ ended → length hq ≡ length (set hp 0 (at hp (size - 1)))
               → Going⁺ window held ms₀ ts₀ cs₀ hs₀ hp₀ ps₀ (size - 1) (set ms p 0) ts cs hs hq ps
           step_ended⁺ d long =
               record {
@@ -320,17 +322,17 @@ module _ {window : List ℕ} {held : ℕ} {ms₀ ts₀ cs₀ hs₀ hp₀ ps₀ :
                       sound = closed n hn ok;
                       same = ap (next⁺ kn) (gone_set n ms ts cs hs p r (enough n hn))
                           ∙ sym (rule_ended⁺ kn (ss n) fst.0 p fst.1 (get_or ts p 0) (get_or cs p 0)
-                          (waits_at n ms ts cs hs p r w) (reads n hn x ∙ got_ended k t l known d))
+                          (waits_at n ms ts cs hs p r w) (reads n hn x ∙ found ∙ ap some d))
                           ∙ x.same;
                       kept = kept_closed n hn x;
                     };
               }
 
           -- it is damaged
-          pub step_damaged⁺ : k ≢ 0 → k < 4
+          pub step_damaged⁺ : (k : ℕ) → r₀ ≡ damaged k
               → Done⁺ window held ms₀ ts₀ cs₀ hs₀ hp₀ ps₀ (answer 13 (p ∷ get_or cs p 0 ∷ k ∷ [])) (size - 1) (set ms p 0) ts cs hs hq ps
           unfolding feed_of rest⁺ counted turn_answer
-          step_damaged⁺ d h = record {
+          step_damaged⁺ k d = record {
             fewer = omega (arith, g.few);
             says = λ n hn z.
                 let x = g.keeps n hn z in
@@ -340,7 +342,7 @@ module _ {window : List ℕ} {held : ℕ} {ms₀ ts₀ cs₀ hs₀ hp₀ ps₀ :
                 says_by (answer 13 (p ∷ get_or cs p 0 ∷ k ∷ [])) (replies (says p (damage_at (get_or cs p 0) k)) (set (ss n) p gone))
                 (sym x.same
                 ∙ rule_damaged⁺ kn (ss n) fst.0 p fst.1 (get_or ts p 0) (get_or cs p 0) k
-                (waits_at n ms ts cs hs p r w) (reads n hn x ∙ got_damaged k t l known d h))
+                (waits_at n ms ts cs hs p r w) (reads n hn x ∙ found ∙ ap some d))
                 (sym (gone_set n ms ts cs hs p r (enough n hn)))
                 (kept_closed n hn x)
                 (alone n hn ok)
@@ -350,10 +352,10 @@ module _ {window : List ℕ} {held : ℕ} {ms₀ ts₀ cs₀ hs₀ hp₀ ps₀ :
           }
 
         -- it stands at a record now
-        pub step_whole⁺ : 4 ≤ k → {hq : List ℕ} → Sifted (set ts p t) size 0 hp hq → length hq ≡ length hp
+        pub step_whole⁺ : (l t : ℕ) → r₀ ≡ whole (l % 65536) (l / 65536 % 65536) (l / 4294967296) t → {hq : List ℕ} → Sifted (set ts p t) size 0 hp hq → length hq ≡ length hp
             → Going⁺ window held ms₀ ts₀ cs₀ hs₀ hp₀ ps₀ size (set ms p 2) (set ts p t) cs (set hs p l) hq (set ps p less)
         unfolding rec_in
-        step_whole⁺ h {hq} sf long =
+        step_whole⁺ l t is {hq} sf long =
             record {
               marks = length-set ms p 2 ∙ g.marks;
               times = length-set ts p t ∙ g.times;
@@ -374,8 +376,8 @@ module _ {window : List ℕ} {held : ℕ} {ms₀ ts₀ cs₀ hs₀ hp₀ ps₀ :
                   let fst = (ch n hn ok).some r cs hs in
                   let c₀ : counts 2 l ≡ 0 = counts_none 2 l (λ i. omega arith) in
                   let read : kn p (get_or cs p 0) ≡ some (whole (l % 65536) (l / 65536 % 65536) (l / 4294967296) t) = reads n hn x
-                  ∙ got_whole k t l known h in
-                  let fill : l % 65536 ≤ less / 65536 % 65536 = whole_fits n hn x known h in
+                  ∙ found ∙ ap some is in
+                  let fill : l % 65536 ≤ less / 65536 % 65536 = whole_fits n hn x l t (found ∙ ap some is) in
                   let sl : SlotOk 2 (get_or cs p 0) l less =
                   slot_dropped 2 (get_or cs p 0) (get_or hs p 0) l (get_or ps p 0) (slot₁ n hn x) c₀ fill in
                   record {

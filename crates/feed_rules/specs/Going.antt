@@ -2,21 +2,16 @@
 -- what was kept at entry, and of each stream that is left the bytes from some place on are kept. Assumes nothing.
 -- What rests on a step of the machine, or on what is known of a stream, stands in proofs/Going.
 use Rattle.std.specs.Prelude.{◌≡◌, refl, ◌≢◌, ℕ, zero, suc, ◌+◌, ◌-◌, ◌/◌, ◌%◌, ◌≤◌, ◌<◌, Bool, true, false, cond, List, [], ◌∷◌, length, get_or, eqb}
-use Rattle.std.proofs.Common.{sym, subst, ◌∙◌, arith, eq-eqb, ne_eqb}
+use Rattle.std.proofs.Common.{sym, subst, ◌∙◌, arith, ne_eqb}
 use Rattle.std.proofs.Math.Path.{ap}
-use Rattle.std.proofs.Math.Decide.{ℕ_discrete}
-use Rattle.std.proofs.Math.Option.{none, some}
 use Rattle.theory.specs.Answer.{Answer, answer}
-use Rattle.leaves.specs.Frame.{whole, ended, damaged}
-use Rattle.leaves.specs.FrameLaws.{found_ended, found_damaged, found_whole}
 use Rattle.records_rules.specs.Machine.{Status, gone}
 use Rattle.records_rules.specs.View.{status_of, statuses_of, status_at}
-use Rattle.records_rules.specs.State.{got_of}
 use Rattle.records_rules.specs.StateLaws.{room_kept}
 use Rattle.feed_rules.specs.Partial.{Turn⁺, next⁺, rest⁺}
 use Rattle.feed_rules.specs.Windows.{Kept, known_in, from, Feed, counted, kept_by}
 use Rattle.feed_rules.specs.Windows.{turn_in, turn_leaves, next_leaves, turn_answer, next_answer, Alike}
-use Rattle.feed_rules.specs.Spans.{dropped, counts, kept_of, feed_of, got_known}
+use Rattle.feed_rules.specs.Spans.{dropped, counts, kept_of, feed_of}
 use Rattle.feed_rules.specs.Spans.{SlotOk, FeedOk, FeedRoom, feed_arrays, FeedSays, Wanting, FeedNeeds, FedSays}
 use Rattle.feed_rules.specs.SpansLaws.{drop_start, drop_fill, drop_ended, kept_one, from_from}
 use Rattle.feed_rules.specs.Stores.{not_there, alive}
@@ -177,36 +172,6 @@ slot_dropped m' a h h' s k z f =
       placed = omega (arith, z);
       most = omega (arith, z, e₂, k.most, k.placed, k.fits);
     }
-
--- what a read found, by its number
-pub got_none : (k t l : ℕ) → k ≡ 5 → got_known k t l ≡ none
-unfolding got_known
-got_none k t l e = simp (eq-eqb k 5 e)
-
-pub got_five : (k t l : ℕ) → got_known k t l ≡ none → k ≡ 5
-unfolding got_known
-got_five k t l e = go (ℕ_discrete k 5)
-  where
-    go : Dec (k ≡ 5) → k ≡ 5
-    go (yes f) = f
-    go (no d) = let s : none ≡ some (got_of k t l) = sym e ∙ simp (ne_eqb k 5 d) in let z : ◌≡◌ {A = ℕ} 0 1 = cc in absurd (omega arith)
-
-module _ (k t l : ℕ) (d : k ≢ 5) where
-  pub got_some : got_known k t l ≡ some (got_of k t l)
-  unfolding got_known
-  got_some = simp (ne_eqb k 5 d)
-
-  pub got_ended : k ≡ 0 → got_known k t l ≡ some ended
-  unfolding got_of
-  got_ended e = got_some ∙ ap some (found_ended k (whole (l % 65536) (l / 65536 % 65536) (l / 4294967296) t) e)
-
-  pub got_damaged : k ≢ 0 → k < 4 → got_known k t l ≡ some (damaged k)
-  unfolding got_of
-  got_damaged e h = got_some ∙ ap some (found_damaged k (whole (l % 65536) (l / 65536 % 65536) (l / 4294967296) t) e h)
-
-  pub got_whole : 4 ≤ k → got_known k t l ≡ some (whole (l % 65536) (l / 65536 % 65536) (l / 4294967296) t)
-  unfolding got_of
-  got_whole h = got_some ∙ ap some (found_whole k (whole (l % 65536) (l / 65536 % 65536) (l / 4294967296) t) h)
 
 -- what a return has to show
 abbrev pub Done⁺ : (window : List ℕ) (held : ℕ) (ms₀ ts₀ cs₀ hs₀ hp₀ ps₀ : List ℕ) (x : Answer) (size : ℕ) (ms ts cs hs hp ps : List ℕ)

@@ -2,13 +2,13 @@
 -- A span is start + 65,536 × fill + 2^32 × ended: the bytes kept of the stream p are `fill` bytes of the window from 1,024 × p + start on.
 -- Assumes nothing.
 use Rattle.std.specs.Prelude.{◌≡◌, ◌≢◌, ℕ, ◌+◌, ◌-◌, ◌*◌, ◌/◌, ◌%◌, ◌<◌, ◌≤◌, ◌^◌, Bool, false, true, not, cond, ◌&&◌, ◌||◌, List, [], ◌∷◌, length, get_or, eqb, ltb}
-use Rattle.std.proofs.Math.Option.{Option, none, some}
+use Rattle.std.proofs.Math.Option.{none}
 use Rattle.std.proofs.Math.Seq.{slice}
 use Rattle.theory.specs.Answer.{Answer, answer}
-use Rattle.leaves.specs.Frame.{Read}
+use Rattle.leaves.specs.Frame.{Read, whole, ended, damaged}
 use Rattle.records_rules.specs.Heap.{at}
 use Rattle.records_rules.specs.View.{statuses_of}
-use Rattle.records_rules.specs.State.{arrays_fit, Room, got_of, StateOk}
+use Rattle.records_rules.specs.State.{arrays_fit, Room, StateOk}
 use Rattle.feed_rules.specs.Partial.{part, known_at}
 use Rattle.feed_rules.specs.Windows.{Kept, Feed, next_leaves, next_answer, Alike}
 
@@ -50,13 +50,11 @@ feed_of n window ms ts cs hs ps =
 
 -- ---- a read
 
--- whether it is known what was found: 5 where it is not; a record is 4
-unfoldable pub known_by : ℕ → ℕ → ℕ
-known_by found ended = cond (ltb found 4) (cond (not (eqb ended 0) || eqb found 2) found 5) 4
-
--- a read in numbers: what was found, or nothing where more must come first
-unfoldable pub got_known : ℕ → ℕ → ℕ → Option Read
-got_known found t h = cond (eqb found 5) none (some (got_of found t h))
+-- whether what a read found is known: a record, a bad length, or whatever was found where the stream has been ended
+unfoldable pub settled : Bool → Read → Bool
+settled over ended = over
+settled over (damaged reason) = over || eqb reason 2
+settled over (whole size kind instrument time) = true
 
 -- the answer that hands out a record of the stream p: its place, its span, its head and its time
 unfoldable pub handed_out : ℕ → ℕ → ℕ → ℕ → ℕ → Answer

@@ -12,7 +12,7 @@ use Rattle.theory.specs.Answer.{Answer, answer}
 use Rattle.records_rules.specs.State.{arrays_fit}
 use Rattle.records_rules.specs.Opening.{full, arrays_room}
 use Rattle.feed_rules.specs.Windows.{Kept, from}
-use Rattle.feed_rules.specs.Spans.{dropped, counts, bytes_in, kept_of, known_by, feed_fits, FeedRoom, feed_arrays, FeedNeeds}
+use Rattle.feed_rules.specs.Spans.{dropped, counts, bytes_in, kept_of, feed_fits, FeedRoom, feed_arrays, FeedNeeds}
 
 -- ---- a span without its first bytes
 
@@ -85,26 +85,6 @@ kept_dropped window p place head s mark' head' h short l z =
     rw (e₁, e₂, a) (slice_drop (1024 * p + s % 65536) (s / 65536 % 65536) skip window h) in
     kept_one (i ∙ ap (λ (n : ℕ). 1024 * p + s % 65536 + n) (sym b)) u
     (y ∙ ap (λ (n : ℕ). drop n (bytes_in window p s)) (sym b)) (ap (λ (n : ℕ). not (eqb n 0)) e₃)
-
--- ---- a read
-
--- whether it is known, by the tests
-module _ (found ended : ℕ) where
-  pub known_record : 4 ≤ found → 4 ≡ known_by found ended
-  unfolding known_by
-  known_record h = let e : ltb found 4 ≡ false = le-ltb found 4 h in rw e refl
-
-  pub known_ended : found < 4 → ended ≢ 0 → found ≡ known_by found ended
-  unfolding known_by
-  known_ended h d = simp (lt-ltb found 4 h, ne_eqb ended 0 d)
-
-  pub known_bad : found < 4 → ended ≡ 0 → found ≡ 2 → found ≡ known_by found ended
-  unfolding known_by
-  known_bad h z e = simp (lt-ltb found 4 h, eq-eqb ended 0 z, eq-eqb found 2 e)
-
-  pub known_wants : found < 4 → ended ≡ 0 → found ≢ 2 → 5 ≡ known_by found ended
-  unfolding known_by
-  known_wants h z d = simp (lt-ltb found 4 h, eq-eqb ended 0 z, ne_eqb found 2 d)
 
 -- ---- what is lent fits, by the tests
 

@@ -1,4 +1,4 @@
 pub mod Run
-pub mod Running
+pub mod Calls
 pub mod Divided
 pub mod Fixed

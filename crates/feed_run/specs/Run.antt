@@ -1,18 +1,13 @@
 -- A run over streams that arrive in portions: at most a stated number of calls for the next answer, and what it hands back (RULES,
 -- Requests, No. 14). Assumes nothing.
-use Rattle.std.specs.Prelude.{◌≡◌, refl, ℕ, ◌≤◌, true, false, length, List, [], ◌∷◌}
-use Rattle.std.proofs.Common.{ap, arith}
+use Rattle.std.specs.Prelude.{◌≡◌, ℕ, ◌≤◌, true, false, length, List, [], ◌∷◌}
 use Rattle.theory.specs.Answer.{Answer, answer}
-use Rattle.leaves.specs.Refusal.{number_of, refused}
-use Rattle.leaves.specs.RefusalLaws.{refused_not_done, refused_one}
 use Rattle.run_rules.specs.Batch.{Ran}
-use Rattle.run_rules.specs.Rows.{run_fits, most, Note, writes, stops, run_of, going, ended, wanting, Gives, RunRefused}
+use Rattle.run_rules.specs.Rows.{run_fits, most, Note, writes, stops, run_of, ended, wanting, Gives, RunRefused}
 use Rattle.records_rules.specs.Machine.{record_at_lem, damage_at, says, end}
 use Rattle.feed_rules.specs.Partial.{Turn⁺, replies, needs}
 use Rattle.feed_rules.specs.Windows.{Feed, turn_in, next_leaves, Alike}
 use Rattle.feed_rules.specs.Spans.{FeedArrays, feed_fit_in, feed_at, FeedSound}
-use Rattle.feed_run.specs.declared.run.Last.{Last}
-use Rattle.feed_run.specs.declared.run.Last.TheVariants as last
 
 -- ---- the run
 
@@ -30,34 +25,6 @@ say⁺ F = note_of⁺ (turn_in F)
 -- at most k of them
 abbrev pub ran_of⁺ : ℕ → Feed → Ran Note Feed
 ran_of⁺ k F = run_of say⁺ next_leaves k F
-
--- ---- the answer
-
--- the code's last answer in the rules' numbers
-abbrev pub last_of : Last → Answer
-last_of last.Going = going
-last_of last.End = ended
-last_of (last.NeedMore stream) = wanting stream
-last_of (last.Refused r) = refused r
-
--- only one answer fits
-pub last_one : (x y : Last) → last_of x ≡ last_of y → x ≡ y
-last_one last.Going last.Going z = refl
-last_one last.Going last.End z = let n : ◌≡◌ {A = ℕ} 1 0 = cc in absurd (omega arith)
-last_one last.Going (last.NeedMore q) z = let n : ◌≡◌ {A = ℕ} 1 2 = cc in absurd (omega arith)
-last_one last.Going (last.Refused q) z = let n : number_of q ≡ 0 = cc in absurd (refused_not_done q n)
-last_one last.End last.Going z = let n : ◌≡◌ {A = ℕ} 0 1 = cc in absurd (omega arith)
-last_one last.End last.End z = refl
-last_one last.End (last.NeedMore q) z = let n : ◌≡◌ {A = ℕ} 0 2 = cc in absurd (omega arith)
-last_one last.End (last.Refused q) z = let n : number_of q ≡ 0 = cc in absurd (refused_not_done q n)
-last_one (last.NeedMore p) last.Going z = let n : ◌≡◌ {A = ℕ} 2 1 = cc in absurd (omega arith)
-last_one (last.NeedMore p) last.End z = let n : ◌≡◌ {A = ℕ} 2 0 = cc in absurd (omega arith)
-last_one (last.NeedMore p) (last.NeedMore q) z = cc
-last_one (last.NeedMore p) (last.Refused q) z = let n : number_of q ≡ 0 = cc in absurd (refused_not_done q n)
-last_one (last.Refused r) last.Going z = let n : number_of r ≡ 0 = cc in absurd (refused_not_done r n)
-last_one (last.Refused r) last.End z = let n : number_of r ≡ 0 = cc in absurd (refused_not_done r n)
-last_one (last.Refused r) (last.NeedMore q) z = let n : number_of r ≡ 0 = cc in absurd (refused_not_done r n)
-last_one (last.Refused r) (last.Refused q) z = ap last.Refused (refused_one r q z)
 
 -- ---- a run's contract
 

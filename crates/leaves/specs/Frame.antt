@@ -1,14 +1,12 @@
 -- A record's frame (RULES, Merging records).
-use Rattle.std.specs.Prelude.{ℕ, ◌+◌, ◌-◌, cond, ◌||◌, List, [], ◌∷◌, length, drop, eqb, ltb}
+use Rattle.std.specs.Prelude.{ℕ, Option, Some, None, Result, Ok, Err, ◌+◌, ◌-◌, cond, ◌||◌, List, [], ◌∷◌, length, drop, eqb, ltb}
 use Rattle.theory.specs.Answer.{Answer, answer}
 use Rattle.theory.specs.Fields.{field}
-use Rattle.leaves.specs.Refusal.{refused}
+use Rattle.leaves.specs.Refusal.{reason_number, refused}
 use Rattle.leaves.specs.declared.frame.Head.{Head}
-use Rattle.leaves.specs.declared.frame.Frame.{Frame}
-use Rattle.leaves.specs.declared.frame.Frame.TheVariants.{Record, End, Damaged}
-use Rattle.leaves.specs.declared.refusal.Refusal.TheVariants as refusal
 use Rattle.leaves.specs.declared.frame.Mapping.{Mapping}
-use Rattle.leaves.specs.declared.frame.Mapping.TheVariants.{Other, Symbol, Refused}
+use Rattle.leaves.specs.declared.refusal.Reason.{Reason}
+use Rattle.leaves.specs.declared.refusal.Refusal.{Refusal}
 
 -- what stands at a place of a stream's bytes: a record with its length, kind, instrument and time; the end; or damage with its reason
 pub data Read : Type 0 where
@@ -39,24 +37,19 @@ read_of (whole size kind instrument time) = answer 0 (size ∷ kind ∷ instrume
 read_of ended = answer 0 []
 read_of (damaged reason) = answer 13 (reason ∷ [])
 
--- the answer that a `Frame` is
-abbrev pub frame_of : Frame → Answer
-frame_of (Record size kind instrument time) = answer 0 (size ∷ kind ∷ instrument ∷ time ∷ [])
-frame_of End = answer 0 []
-frame_of (Damaged reason) = answer 13 (reason ∷ [])
+-- what a read that found a record, the end or damage says
+abbrev pub head_of : Result (Option Head) Reason → Read
+head_of (Ok None) = ended
+head_of (Ok (Some h)) = whole h.length h.kind h.instrument h.time
+head_of (Err why) = damaged (reason_number why)
 
--- what `found` says: 0 the end, 1 to 3 damage with this reason, else the record r
+-- its answer
+abbrev pub frame_of : Result (Option Head) Reason → Answer
+frame_of r = read_of (head_of r)
+
+-- what a number `found` says: 0 the end, 1 to 3 damage with this reason, else the record r
 unfoldable pub read_found : ℕ → Read → Read
 read_found found r = cond (eqb found 0) ended (cond (ltb found 4) (damaged found) r)
-
--- what a `Head` says
-unfoldable pub head_of : Head → Read
-unfolding read_found
-head_of h = read_found h.found (whole h.length h.kind h.instrument h.time)
-
--- a `Head` without a record
-abbrev pub found_alone : ℕ → Head
-found_alone found = record { found = found; length = 0; kind = 0; instrument = 0; time = 0 }
 
 -- what a record's bytes ask for: nothing; to map an instrument, from a start to an end; or they are not exactly one record, or short, for a reason
 pub data Mapped : Type 0 where
@@ -95,12 +88,8 @@ mapped_of size other = answer 0 []
 mapped_of size (symbol instrument start end) = answer 0 (instrument ∷ start ∷ end ∷ 32 ∷ size ∷ [])
 mapped_of size (not_one reason) = answer 13 (0 ∷ 0 ∷ reason ∷ [])
 
--- the answer that a `Mapping` is
-abbrev pub mapping_of : Mapping → Answer
-mapping_of Other = answer 0 []
-mapping_of (Symbol instrument start end from to) = answer 0 (instrument ∷ start ∷ end ∷ from ∷ to ∷ [])
-mapping_of (Refused r) = refused r
-
--- the refusal 13 of a record's bytes
-abbrev pub not_one_record : ℕ → Mapping
-not_one_record reason = Refused (refusal.Damaged 0 0 reason)
+-- the answer of a reading of a mapping
+abbrev pub mapping_of : Result (Option Mapping) Refusal → Answer
+mapping_of (Ok None) = answer 0 []
+mapping_of (Ok (Some m)) = answer 0 (m.instrument ∷ m.start ∷ m.end ∷ m.name_from ∷ m.name_to ∷ [])
+mapping_of (Err r) = refused r

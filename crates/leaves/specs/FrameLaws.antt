@@ -1,22 +1,21 @@
 -- What stands at a place and what a record's bytes ask for, one law for each case; and the smallest inputs at each border, computed.
 -- Assumes nothing.
-use Rattle.std.specs.Prelude.{◌≡◌, refl, ◌≢◌, ℕ, ◌+◌, ◌-◌, ◌/◌, ◌%◌, ◌≤◌, ◌<◌, min, length, get_or, take, replicate, cond, eqb}
+use Rattle.std.specs.Prelude.{◌≡◌, refl, ◌≢◌, ℕ, ◌+◌, ◌-◌, ◌/◌, ◌%◌, ◌≤◌, ◌<◌, min, length, take, replicate, Option, Some, None, Result, Ok, Err}
 use Rattle.std.proofs.Math.Path.{sym, ap}
-use Rattle.std.proofs.Common.{ap₂, ◌∙◌, arith, length-take, length-drop}
+use Rattle.std.proofs.Common.{◌∙◌, arith, length-take, length-drop}
 use mathlib.Core.List.{List, [], ◌∷◌, ◌++◌}
 use Rattle.std.proofs.Math.Seq.{slice, take-length}
 use borrow.Author.Tests.{lt-ltb, le-ltb, eq-eqb, ne_eqb}
 use Rattle.theory.specs.Answer.{answer}
 use Rattle.theory.specs.Fields.{field, field_slice}
-use Rattle.leaves.specs.Refusal.{number_of, values_of, refused}
-use Rattle.leaves.specs.RefusalLaws.{refused_not_done, refused_one}
+use Rattle.leaves.specs.Refusal.{reason_number, number_of, refused}
+use Rattle.leaves.specs.RefusalLaws.{reason_one, refused_not_done, refused_one}
 use Rattle.leaves.specs.declared.refusal.Refusal.{Refusal}
 use Rattle.leaves.specs.Frame.{Read, whole, ended, damaged, judged, record_at, frame_at, read_found}
-use Rattle.leaves.specs.Frame.{Mapped, other, symbol, not_one, mapping_start, of_kind, one_record, mapped_in, mapped_of, frame_of, mapping_of}
-use Rattle.leaves.specs.declared.frame.Frame.{Frame}
-use Rattle.leaves.specs.declared.frame.Frame.TheVariants.{Record, End, Damaged as Spoilt}
+use Rattle.leaves.specs.Frame.{Mapped, other, symbol, not_one, mapping_start, of_kind, one_record, mapped_in, mapped_of, head_of, frame_of, mapping_of}
+use Rattle.leaves.specs.declared.frame.Head.{Head}
 use Rattle.leaves.specs.declared.frame.Mapping.{Mapping}
-use Rattle.leaves.specs.declared.frame.Mapping.TheVariants.{Other, Symbol, Refused}
+use Rattle.leaves.specs.declared.refusal.Reason.{Reason}
 
 -- the tests of a frame, by their facts
 module _ (left size : ℕ) (r : Read) where
@@ -119,41 +118,41 @@ module _ (b : List ℕ) (from to place left : ℕ) (e : left ≡ min to (length 
 pub slice_all : (b : List ℕ) → slice 0 (length b) b ≡ b
 slice_all b = take-length b
 
--- what a record's bytes ask for, by what a `Head` says of them
-module _ (b : List ℕ) (found size kind instrument time : ℕ) (e : read_found found (whole size kind instrument time) ≡ frame_at (slice 0 (length b) b) 0) where
-  here : (r : Read) → read_found found (whole size kind instrument time) ≡ r → mapped_in b ≡ one_record b r
+-- what a record's bytes ask for, by what stands at their front
+module _ (b : List ℕ) (x : Result (Option Head) Reason) (e : head_of x ≡ frame_at (slice 0 (length b) b) 0) where
+  here : {y : Result (Option Head) Reason} → x ≡ y → mapped_in b ≡ one_record b (head_of y)
   unfolding mapped_in
-  here r h = ap (one_record b) (ap (λ (l : List ℕ). frame_at l 0) (sym (slice_all b)) ∙ sym e ∙ h)
+  here h = ap (one_record b) (ap (λ (l : List ℕ). frame_at l 0) (sym (slice_all b)) ∙ sym e ∙ ap head_of h)
 
-  pub mapping_none : found ≡ 0 → mapped_in b ≡ not_one 1
+  pub mapping_none : x ≡ Ok None → mapped_in b ≡ not_one 1
   unfolding one_record
-  mapping_none h = here ended (found_ended found _ h)
+  mapping_none h = here h
 
-  pub mapping_damaged : found ≢ 0 → found < 4 → mapped_in b ≡ not_one found
+  pub mapping_damaged : {why : Reason} → x ≡ Err why → mapped_in b ≡ not_one (reason_number why)
   unfolding one_record
-  mapping_damaged d h = here (damaged found) (found_damaged found _ d h)
+  mapping_damaged h = here h
 
-  module _ (a : 4 ≤ found) where
-    pub mapping_over : size ≢ length b → mapped_in b ≡ not_one 3
+  module _ {h : Head} (found : x ≡ Ok (Some h)) where
+    pub mapping_over : h.length ≢ length b → mapped_in b ≡ not_one 3
     unfolding one_record
-    mapping_over d = here (whole size kind instrument time) (found_whole found _ a) ∙ simp (ne_eqb size (length b) d)
+    mapping_over d = here found ∙ simp (ne_eqb h.length (length b) d)
 
-    module _ (s : size ≡ length b) where
-      kinds : mapped_in b ≡ of_kind b kind instrument
+    module _ (s : h.length ≡ length b) where
+      kinds : mapped_in b ≡ of_kind b h.kind h.instrument
       unfolding one_record
-      kinds = here (whole size kind instrument time) (found_whole found _ a) ∙ simp (eq-eqb size (length b) s)
+      kinds = here found ∙ simp (eq-eqb h.length (length b) s)
 
-      pub mapping_other : kind ≢ 2 → mapped_in b ≡ other
+      pub mapping_other : h.kind ≢ 2 → mapped_in b ≡ other
       unfolding of_kind
-      mapping_other d = kinds ∙ simp (ne_eqb kind 2 d)
+      mapping_other d = kinds ∙ simp (ne_eqb h.kind 2 d)
 
-      pub mapping_short : kind ≡ 2 → length b < 32 → mapped_in b ≡ not_one 4
+      pub mapping_short : h.kind ≡ 2 → length b < 32 → mapped_in b ≡ not_one 4
       unfolding of_kind
-      mapping_short k h = kinds ∙ simp (eq-eqb kind 2 k, lt-ltb (length b - 16) 16 (omega arith))
+      mapping_short k l = kinds ∙ simp (eq-eqb h.kind 2 k, lt-ltb (length b - 16) 16 (omega arith))
 
-      pub mapping_symbol : kind ≡ 2 → 32 ≤ length b → mapped_in b ≡ symbol instrument (mapping_start (field 8 b 16)) (field 8 b 24)
+      pub mapping_symbol : h.kind ≡ 2 → 32 ≤ length b → mapped_in b ≡ symbol h.instrument (mapping_start (field 8 b 16)) (field 8 b 24)
       unfolding of_kind
-      mapping_symbol k h = kinds ∙ simp (eq-eqb kind 2 k, le-ltb (length b - 16) 16 (omega arith))
+      mapping_symbol k l = kinds ∙ simp (eq-eqb h.kind 2 k, le-ltb (length b - 16) 16 (omega arith))
 
 -- the other way round: what was asked for, by its answer
 pub mapped_other : (n : ℕ) (m : Mapped) → answer 0 [] ≡ mapped_of n m → m ≡ other
@@ -174,27 +173,39 @@ mapped_refused n (not_one reason) r e = (reason, refl)
 
 -- ---- only one answer fits: an answer in the rules' numbers comes from one value alone
 
-pub frame_one : (x y : Frame) → frame_of x ≡ frame_of y → x ≡ y
-frame_one (Record a b c d) (Record e f g h) z = cc
-frame_one (Record a b c d) End z = let n : ◌≡◌ {A = ℕ} 0 1 = cc in absurd (omega arith)
-frame_one (Record a b c d) (Spoilt r) z = let n : ◌≡◌ {A = ℕ} 0 13 = cc in absurd (omega arith)
-frame_one End (Record e f g h) z = let n : ◌≡◌ {A = ℕ} 0 1 = cc in absurd (omega arith)
-frame_one End End z = refl
-frame_one End (Spoilt r) z = let n : ◌≡◌ {A = ℕ} 0 13 = cc in absurd (omega arith)
-frame_one (Spoilt r) (Record e f g h) z = let n : ◌≡◌ {A = ℕ} 0 13 = cc in absurd (omega arith)
-frame_one (Spoilt r) End z = let n : ◌≡◌ {A = ℕ} 0 13 = cc in absurd (omega arith)
-frame_one (Spoilt r) (Spoilt q) z = cc
+head_by : ℕ → ℕ → ℕ → ℕ → Head
+head_by size kind instrument time = record { length = size; kind = kind; instrument = instrument; time = time }
 
-pub mapping_one : (x y : Mapping) → mapping_of x ≡ mapping_of y → x ≡ y
-mapping_one Other Other z = refl
-mapping_one Other (Symbol a b c d e) z = let n : ◌≡◌ {A = ℕ} 0 1 = cc in absurd (omega arith)
-mapping_one Other (Refused q) z = let n : number_of q ≡ 0 = cc in absurd (refused_not_done q n)
-mapping_one (Symbol a b c d e) Other z = let n : ◌≡◌ {A = ℕ} 0 1 = cc in absurd (omega arith)
-mapping_one (Symbol a b c d e) (Symbol f g h i j) z = cc
-mapping_one (Symbol a b c d e) (Refused q) z = let n : number_of q ≡ 0 = cc in absurd (refused_not_done q n)
-mapping_one (Refused r) Other z = let n : number_of r ≡ 0 = cc in absurd (refused_not_done r n)
-mapping_one (Refused r) (Symbol f g h i j) z = let n : number_of r ≡ 0 = cc in absurd (refused_not_done r n)
-mapping_one (Refused r) (Refused q) z = ap Refused (refused_one r q z)
+pub frame_one : (x y : Result (Option Head) Reason) → frame_of x ≡ frame_of y → x ≡ y
+unfolding head_by
+frame_one (Ok (Some g)) (Ok (Some h)) z =
+    let e : head_by g.length g.kind g.instrument g.time ≡ head_by h.length h.kind h.instrument h.time = cc in ap (λ (k : Head). Ok (Some k)) e
+frame_one (Ok (Some g)) (Ok None) z = let n : ◌≡◌ {A = ℕ} 0 1 = cc in absurd (omega arith)
+frame_one (Ok (Some g)) (Err q) z = let n : ◌≡◌ {A = ℕ} 0 13 = cc in absurd (omega arith)
+frame_one (Ok None) (Ok (Some h)) z = let n : ◌≡◌ {A = ℕ} 0 1 = cc in absurd (omega arith)
+frame_one (Ok None) (Ok None) z = refl
+frame_one (Ok None) (Err q) z = let n : ◌≡◌ {A = ℕ} 0 13 = cc in absurd (omega arith)
+frame_one (Err q) (Ok (Some h)) z = let n : ◌≡◌ {A = ℕ} 0 13 = cc in absurd (omega arith)
+frame_one (Err q) (Ok None) z = let n : ◌≡◌ {A = ℕ} 0 13 = cc in absurd (omega arith)
+frame_one (Err p) (Err q) z = ap Err (reason_one p q cc)
+
+mapping_by : ℕ → ℕ → ℕ → ℕ → ℕ → Mapping
+mapping_by instrument start end from to =
+    record { instrument = instrument; start = start; end = end; name_from = from; name_to = to }
+
+pub mapping_one : (x y : Result (Option Mapping) Refusal) → mapping_of x ≡ mapping_of y → x ≡ y
+unfolding mapping_by
+mapping_one (Ok None) (Ok None) z = refl
+mapping_one (Ok None) (Ok (Some m)) z = let n : ◌≡◌ {A = ℕ} 0 1 = cc in absurd (omega arith)
+mapping_one (Ok None) (Err q) z = let n : number_of q ≡ 0 = cc in absurd (refused_not_done q n)
+mapping_one (Ok (Some m)) (Ok None) z = let n : ◌≡◌ {A = ℕ} 0 1 = cc in absurd (omega arith)
+mapping_one (Ok (Some m)) (Ok (Some k)) z =
+    let e : mapping_by m.instrument m.start m.end m.name_from m.name_to ≡ mapping_by k.instrument k.start k.end k.name_from k.name_to = cc in
+    ap (λ (x : Mapping). Ok (Some x)) e
+mapping_one (Ok (Some m)) (Err q) z = let n : number_of q ≡ 0 = cc in absurd (refused_not_done q n)
+mapping_one (Err q) (Ok None) z = let n : number_of q ≡ 0 = cc in absurd (refused_not_done q n)
+mapping_one (Err q) (Ok (Some m)) z = let n : number_of q ≡ 0 = cc in absurd (refused_not_done q n)
+mapping_one (Err p) (Err q) z = ap Err (refused_one p q z)
 
 -- ---- computed: the borders of each rule
 

@@ -2,5 +2,4 @@
 #![tactic(auto)]
 
 pub mod frame;
-pub mod numbers;
 pub mod refusal;

@@ -4,25 +4,6 @@ use Rattle.theory.specs.Answer.{Answer, answer}
 use Rattle.leaves.specs.Refusal.{refused}
 use Rattle.leaves_days.specs.Calendar.{is_date, day_number, date_number}
 use Rattle.leaves.specs.declared.refusal.Refusal.TheVariants.{NoDate}
-use Rattle.leaves_days.specs.declared.days.Day.{Day}
-use Rattle.leaves_days.specs.declared.days.Day.TheVariants as day
-use Rattle.leaves_days.specs.declared.days.Date.{Date}
-use Rattle.leaves_days.specs.declared.days.Date.TheVariants as date
-use Rattle.leaves_days.specs.declared.days.Moment.{Moment}
-use Rattle.leaves_days.specs.declared.days.Moment.TheVariants as moment
-
--- what each answer says
-abbrev pub day_answer_of : Day → Answer
-day_answer_of (day.Number n) = answer 0 (n ∷ [])
-day_answer_of (day.Refused r) = refused r
-
-abbrev pub date_answer_of : Date → Answer
-date_answer_of (date.Written n) = answer 0 (n ∷ [])
-date_answer_of (date.Refused r) = refused r
-
-abbrev pub moment_answer_of : Moment → Answer
-moment_answer_of (moment.Nanoseconds n) = answer 0 (n ∷ [])
-moment_answer_of (moment.Refused r) = refused r
 
 -- 1970-01-01 to 2554-07-21, both included
 abbrev pub in_range : ℕ → Bool

@@ -1,6 +1,6 @@
 -- What crates above go by: 11 exactly where there is no date in range, both round trips, the order of dates and days, and the start of a day.
 -- Assumes nothing.
-use Rattle.std.specs.Prelude.{ℕ, ◌*◌, ◌^◌, ◌≤◌, ◌<◌, ◌≡◌, refl, ◌↔◌, Bool, true, false, not, ◌&&◌, cond, [], ◌∷◌, T, leb}
+use Rattle.std.specs.Prelude.{ℕ, ◌*◌, ◌^◌, ◌≤◌, ◌<◌, ◌≡◌, refl, ◌↔◌, Bool, true, false, not, cond, [], ◌∷◌, T, leb}
 use Rattle.std.proofs.Common.{arith, sym, ap, ◌∙◌, subst}
 use Rattle.std.proofs.Math.Facts.{and_yes, yes_and, not_T, T_not, leb_yes, leb_no, yes_leb, no_leb}
 use Rattle.theory.specs.Answer.{Answer, answer}

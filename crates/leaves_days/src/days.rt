@@ -2,34 +2,12 @@
 ghost use Rattle.std.specs.Prelude.{◌≡◌, ◌-◌, ◌≤◌, ◌<◌};
 ghost use Rattle.leaves_days.specs.Calendar.{is_leap, year_days, days_of_years, days_before, leap_day};
 ghost use Rattle.leaves_days.specs.CalendarDates.{YearOf, MonthOf};
-ghost use Rattle.leaves_days.specs.Days.{day_answer_of, date_answer_of, moment_answer_of, known_date, day_of, date_of, day_start};
+ghost use Rattle.theory.specs.Answer.{one_value};
+ghost use Rattle.leaves.specs.Refusal.{answer_with};
+ghost use Rattle.leaves_days.specs.Days.{known_date, day_of, date_of, day_start};
 
 use leaves::refusal::Refusal;
 use leaves_limits::DAY_NANOSECONDS;
-
-// A date's day.
-#[derive(Clone, Copy)]
-pub enum Day {
-    // Days since 1970-01-01.
-    Number(u32),
-    Refused(Refusal),
-}
-
-// A day's date.
-#[derive(Clone, Copy)]
-pub enum Date {
-    // YYYYMMDD.
-    Written(u32),
-    Refused(Refusal),
-}
-
-// A day's start.
-#[derive(Clone, Copy)]
-pub enum Moment {
-    // Since the start of 1970-01-01.
-    Nanoseconds(u64),
-    Refused(Refusal),
-}
 
 // The range: 1970-01-01 to 2554-07-21, the last day whose start fits 64 bits.
 const FIRST_YEAR: u32 = 1970;
@@ -136,66 +114,51 @@ fn month_of(year: u32, in_year: u32) -> u32
 pub fn is_date(date: u32) -> bool
     ensures { result ≡ known_date date }
 {
-    if date < FIRST_DATE {
-        return false;
-    }
-    if LAST_DATE < date {
-        return false;
-    }
     let month = date / TWO_DIGITS % TWO_DIGITS;
     let day = date % TWO_DIGITS;
-    if month < 1 {
-        return false;
-    }
-    if DECEMBER < month {
-        return false;
-    }
-    if day < 1 {
+    if date < FIRST_DATE || LAST_DATE < date || month < 1 || DECEMBER < month || day < 1 {
         return false;
     }
     if day <= SHORTEST_MONTH {
         return true;
     }
     let year = date / FOUR_DIGITS;
-    if before_month(year, month + 1) - before_month(year, month) < day {
-        return false;
-    }
-    true
+    day <= before_month(year, month + 1) - before_month(year, month)
 }
 
-// A date's day since 1970-01-01; 11 where there is no such date, or it lies outside 1970-01-01 to 2554-07-21.
-pub fn day_of(date: u32) -> Day
-    ensures { day_answer_of result ≡ day_of date }
+// A date's day, counted from 1970-01-01; 11 where there is no such date, or it lies outside 1970-01-01 to 2554-07-21.
+pub fn day_of(date: u32) -> Result<u32, Refusal>
+    ensures { answer_with one_value result ≡ day_of date }
 {
     if !is_date(date) {
-        return Day::Refused(Refusal::NoDate);
+        return Err(Refusal::NoDate);
     }
     let year = date / FOUR_DIGITS;
     let month = date / TWO_DIGITS % TWO_DIGITS;
     let day = date % TWO_DIGITS;
-    Day::Number(before_year(year) + before_month(year, month) + (day - 1))
+    Ok(before_year(year) + before_month(year, month) + (day - 1))
 }
 
-// The date of a day since 1970-01-01; 11 past 2554-07-21.
-pub fn date_of(day: u32) -> Date
-    ensures { date_answer_of result ≡ date_of day }
+// The date, YYYYMMDD, of a day counted from 1970-01-01; 11 past 2554-07-21.
+pub fn date_of(day: u32) -> Result<u32, Refusal>
+    ensures { answer_with one_value result ≡ date_of day }
 {
     if LAST_DAY < day {
-        return Date::Refused(Refusal::NoDate);
+        return Err(Refusal::NoDate);
     }
     let year = year_of(day);
     let in_year = day - before_year(year);
     let month = month_of(year, in_year);
     let in_month = in_year - before_month(year, month);
-    Date::Written(year * FOUR_DIGITS + month * TWO_DIGITS + (in_month + 1))
+    Ok(year * FOUR_DIGITS + month * TWO_DIGITS + (in_month + 1))
 }
 
-// The moment at which a day since 1970-01-01 starts; 11 past 2554-07-21.
-pub fn day_start(day: u32) -> Moment
-    ensures { moment_answer_of result ≡ day_start day }
+// The moment at which a day starts, in nanoseconds since the start of 1970-01-01; 11 past 2554-07-21.
+pub fn day_start(day: u32) -> Result<u64, Refusal>
+    ensures { answer_with one_value result ≡ day_start day }
 {
     if LAST_DAY < day {
-        return Moment::Refused(Refusal::NoDate);
+        return Err(Refusal::NoDate);
     }
-    Moment::Nanoseconds(day as u64 * DAY_NANOSECONDS)
+    Ok(day as u64 * DAY_NANOSECONDS)
 }

@@ -1,20 +1,17 @@
 -- RULES, Names, numbers, days, and the limits of RULES, Numbers the desk lives by: the list of names that lent memory holds, when it
 -- is well-formed, and what naming does.
-use Rattle.std.specs.Prelude.{ℕ, zero, suc, ◌+◌, ◌≤◌, ◌<◌, List, [], ◌∷◌, Bool, true, false, cond, ◌&&◌, leb, ltb, eqb, length, get_or, set}
+use Rattle.std.specs.Prelude.{ℕ, zero, suc, ◌+◌, ◌≤◌, ◌<◌, List, [], ◌∷◌, Bool, true, false, cond, ◌&&◌, leb, ltb, eqb, length, get_or, set, Option, Some, None, Result, Ok, Err}
 use Rattle.std.proofs.Math.Seq.{slice, paste}
 use Rattle.leaves_limits.specs.Limits.{longest_name, most_names, most_name_bytes}
 use Rattle.theory.specs.Answer.{Answer, answer}
 use Rattle.leaves.specs.Refusal.{refused}
 use Rattle.leaves_utf8.specs.Utf8.{is_utf8}
+use Rattle.leaves.specs.declared.refusal.Refusal.{Refusal}
 use Rattle.leaves.specs.declared.refusal.Refusal.TheVariants.{UnknownSymbol, BadName, NoNameRoom, IllFormed, BadMemory}
-use Rattle.leaves_names.specs.declared.names.Checked.{Checked}
-use Rattle.leaves_names.specs.declared.names.Checked.TheVariants.{Done, Refused as Checked_refused}
+use Rattle.leaves_names.specs.declared.names.NameList.{NameList}
 use Rattle.leaves_names.specs.declared.names.Naming.{Naming}
-use Rattle.leaves_names.specs.declared.names.Naming.TheVariants.{Old, New, Refused as Not_named}
-use Rattle.leaves_names.specs.declared.names.Named.{Named}
-use Rattle.leaves_names.specs.declared.names.Named.TheVariants.{Number, Refused as Named_refused}
+use Rattle.leaves_names.specs.declared.names.Naming.TheVariants.{Old, New}
 use Rattle.leaves_names.specs.declared.names.NamePlace.{NamePlace}
-use Rattle.leaves_names.specs.declared.names.NamePlace.TheVariants.{At, Refused as Placed_refused}
 
 -- ---- the list that the memory holds
 
@@ -40,6 +37,10 @@ names_from bytes ends n (suc k) = name_of bytes ends n ∷ names_from bytes ends
 unfoldable pub names_of : List ℕ → List ℕ → ℕ → List (List ℕ)
 names_of bytes ends names = names_from bytes ends 0 names
 
+-- the names in use of a list
+abbrev pub names_in : NameList → List (List ℕ)
+names_in l = names_of l.bytes.now l.ends.now l.names
+
 -- ---- well-formed
 
 -- a name is "0 to 255 bytes of UTF-8"
@@ -59,11 +60,6 @@ well_formed bytes ends names name_bytes = stand_from bytes ends name_bytes 0 nam
 -- at most 4,096 names and 65,536 name bytes in all; each number in use within its room
 unfoldable pub list_fits : ℕ → ℕ → ℕ → ℕ → Bool
 list_fits bytes places names name_bytes = leb places most_names && leb bytes most_name_bytes && leb names places && leb name_bytes bytes
-
--- the answer of a check
-abbrev pub checked_of : Checked → Answer
-checked_of Done = answer 0 []
-checked_of (Checked_refused r) = refused r
 
 -- a check of a name list: 15, then 14
 unfoldable pub check_names : List ℕ → List ℕ → ℕ → ℕ → Answer
@@ -86,61 +82,63 @@ unfoldable pub least : List ℕ → List (List ℕ) → ℕ
 least name [] = 0
 least name (x ∷ xs) = cond (same name x) 0 (suc (least name xs))
 
+-- the least number with equal bytes; none where none has
+unfoldable pub found : List ℕ → List (List ℕ) → Option ℕ
+found name xs = cond (ltb (least name xs) (length xs)) (Some (least name xs)) None
+
 -- one name more, of so many bytes, passes neither 4,096 names, nor 65,536 bytes, nor the room lent
 unfoldable pub has_room : ℕ → ℕ → ℕ → ℕ → ℕ → Bool
 has_room bytes places names name_bytes size =
     leb (names + 1) most_names && leb (name_bytes + size) most_name_bytes && leb (names + 1) places && leb (name_bytes + size) bytes
 
 -- what becomes of a valid name whose least number is this: "the least number with equal bytes, else the next new one", or 5
-unfoldable pub numbering : ℕ → ℕ → ℕ → ℕ → ℕ → ℕ → Naming
+unfoldable pub numbering : ℕ → ℕ → ℕ → ℕ → ℕ → ℕ → Result Naming Refusal
 numbering bytes places names name_bytes size number =
-    cond (ltb number names) (Old number)
-    (cond (has_room bytes places names name_bytes size) (New names) (Not_named NoNameRoom))
+    cond (ltb number names) (Ok (Old number))
+    (cond (has_room bytes places names name_bytes size) (Ok (New names)) (Err NoNameRoom))
 
 -- what becomes of a name: 15, 14, 4, then its number or 5
-unfoldable pub naming : List ℕ → List ℕ → ℕ → ℕ → List ℕ → Naming
+unfoldable pub naming : List ℕ → List ℕ → ℕ → ℕ → List ℕ → Result Naming Refusal
 naming bytes ends names name_bytes name =
     cond (list_fits (length bytes) (length ends) names name_bytes)
     (cond (well_formed bytes ends names name_bytes)
     (cond (is_name name)
     (numbering (length bytes) (length ends) names name_bytes (length name) (least name (names_of bytes ends names)))
-    (Not_named BadName))
-    (Not_named IllFormed))
-    (Not_named BadMemory)
-
--- the answer of naming
-abbrev pub named_of : Named → Answer
-named_of (Number number names name_bytes) = answer 0 (number ∷ names ∷ name_bytes ∷ [])
-named_of (Named_refused r) = refused r
+    (Err BadName))
+    (Err IllFormed))
+    (Err BadMemory)
 
 -- what naming answers: the number, then the names and the bytes in use, of which a new name adds to both
-abbrev pub naming_answer : ℕ → ℕ → List ℕ → Naming → Answer
-naming_answer names name_bytes name (Old number) = answer 0 (number ∷ names ∷ name_bytes ∷ [])
-naming_answer names name_bytes name (New number) = answer 0 (number ∷ (names + 1) ∷ (name_bytes + length name) ∷ [])
-naming_answer names name_bytes name (Not_named r) = refused r
+abbrev pub naming_answer : ℕ → ℕ → List ℕ → Result Naming Refusal → Answer
+naming_answer names name_bytes name (Ok (Old number)) = answer 0 (number ∷ names ∷ name_bytes ∷ [])
+naming_answer names name_bytes name (Ok (New number)) = answer 0 (number ∷ (names + 1) ∷ (name_bytes + length name) ∷ [])
+naming_answer names name_bytes name (Err r) = refused r
 
 -- the lent bytes with a name after those in use
 unfoldable pub name_written : List ℕ → ℕ → List ℕ → List ℕ
 name_written bytes name_bytes name = paste bytes name_bytes name (length name)
 
 -- the lent bytes after naming: a new name's stand after those in use, all else is as it was
-abbrev pub bytes_after : List ℕ → ℕ → List ℕ → Naming → List ℕ
-bytes_after bytes name_bytes name (Old number) = bytes
-bytes_after bytes name_bytes name (New number) = name_written bytes name_bytes name
-bytes_after bytes name_bytes name (Not_named r) = bytes
+abbrev pub bytes_after : List ℕ → ℕ → List ℕ → Result Naming Refusal → List ℕ
+bytes_after bytes name_bytes name (Ok (Old number)) = bytes
+bytes_after bytes name_bytes name (Ok (New number)) = name_written bytes name_bytes name
+bytes_after bytes name_bytes name (Err r) = bytes
 
 -- the lent ends after naming: a new name's stands after those in use, all else is as it was
-abbrev pub ends_after : List ℕ → ℕ → ℕ → List ℕ → Naming → List ℕ
-ends_after ends names name_bytes name (Old number) = ends
-ends_after ends names name_bytes name (New number) = set ends names (name_bytes + length name)
-ends_after ends names name_bytes name (Not_named r) = ends
+abbrev pub ends_after : List ℕ → ℕ → ℕ → List ℕ → Result Naming Refusal → List ℕ
+ends_after ends names name_bytes name (Ok (Old number)) = ends
+ends_after ends names name_bytes name (Ok (New number)) = set ends names (name_bytes + length name)
+ends_after ends names name_bytes name (Err r) = ends
 
 -- ---- where a name lies
 
--- the answer of asking where a name lies
-abbrev pub placed_of : NamePlace → Answer
-placed_of (At first end) = answer 0 (first ∷ end ∷ [])
-placed_of (Placed_refused r) = refused r
+-- what comes with a name's place
+abbrev pub place_values : NamePlace → List ℕ
+place_values p = p.first ∷ p.end ∷ []
+
+-- the place of name n among so many
+unfoldable pub place_at : List ℕ → ℕ → ℕ → Option NamePlace
+place_at ends names n = cond (ltb n names) (Some (record { first = name_start ends n; end = name_end ends n })) None
 
 -- where name n lies, its first byte and its end: 15, 14, 3
 unfoldable pub place_of_name : List ℕ → List ℕ → ℕ → ℕ → ℕ → Answer

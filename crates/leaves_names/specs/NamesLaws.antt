@@ -1,19 +1,22 @@
 -- The laws of name lists: what well-formed gives place by place, and how the code's walks go.
 -- Assumes nothing.
 use Prim.Native.Nat.{ℕ, zero, suc, ◌+◌, ◌-◌, ◌≤◌, ◌<◌}
-use Rattle.std.specs.Prelude.{List, [], ◌∷◌, Bool, true, false, cond, ◌&&◌, ◌≡◌, refl, leb, eqb, length, get_or, set, take}
+use Rattle.std.specs.Prelude.{List, [], ◌∷◌, Bool, true, false, cond, ◌&&◌, ◌≡◌, refl, leb, eqb, length, get_or, take}
 use Rattle.std.proofs.lemmas.Bool.{false≢true}
-use Rattle.std.proofs.Common.{ap, ◌∙◌, add-one, get_or-drop, get_or-take, add-zero, zero-add}
+use Rattle.std.proofs.Common.{ap, ap₂, ◌∙◌, add-one, zero-add, length-take-le}
 use Rattle.std.proofs.Math.Path.{sym}
 use native.Mathlib.Omega.{arith}
 use borrow.Author.Tests.{le-leb, lt-leb, eq-eqb, ne_eqb, leb-true, leb-false, eqb-true}
-use Rattle.std.proofs.Math.Seq.{slice, length-slice, paste, paste-suc}
-use Rattle.std.proofs.lemmas.List.Edits.{length-paste}
+use Rattle.std.proofs.Math.ListN.{drop}
+use Rattle.std.proofs.Math.Seq.{take-take, slice, length-slice}
+use Rattle.std.specs.Prelude.{nat_eq}
+use Rattle.std.specs.List.{between}
+use Rattle.std.proofs.lemmas.Slice.{between_is}
+use Rattle.std.specs.Cmp.Lexicographic.{pointwise, same_text, other_text}
 use Rattle.leaves_utf8.specs.Utf8.{is_utf8, Upto}
 use Rattle.leaves_utf8.specs.Utf8Laws.{plain_is}
 use Rattle.theory.specs.Bools.{and_false, and_left, and_right}
-use Rattle.theory.specs.Slices.{cut, none_left}
-use Rattle.leaves_names.specs.Names.{name_start, name_end, name_of, names_from, names_of, is_name, stand_from, well_formed, list_fits, same, least, has_room, name_written, standing, Ordered}
+use Rattle.leaves_names.specs.Names.{name_start, name_end, name_of, names_from, names_of, is_name, stand_from, well_formed, list_fits, same, least, has_room, standing, Ordered}
 
 -- ---- the limits
 
@@ -122,6 +125,17 @@ stands_so bytes ends name_bytes n k true true e f h = rw (e, rw (e, f) at h)
 stands_so bytes ends name_bytes n k true false e f h = let z : false ≡ true = rw (e, f) at h in absurd (false≢true z)
 stands_so bytes ends name_bytes n k false u e f h = let z : false ≡ true = rw e at h in absurd (false≢true z)
 
+-- the bytes in use alone are asked
+pub standing_used : (bytes : List ℕ) (name_bytes start end : ℕ) → name_bytes ≤ length bytes
+    → standing (take name_bytes bytes) (length (take name_bytes bytes)) start end ≡ standing bytes name_bytes start end
+unfolding standing
+standing_used bytes name_bytes start end h = rw (length-take-le name_bytes bytes h) (go (leb end name_bytes) refl)
+  where
+    go : (t : Bool) → leb end name_bytes ≡ t
+        → (leb start end && leb end name_bytes && is_name (slice start end (take name_bytes bytes))) ≡ (leb start end && leb end name_bytes && is_name (slice start end bytes))
+    go true e = ap (λ (s : List ℕ). leb start end && leb end name_bytes && is_name (drop start s)) (take-take end name_bytes bytes (leb-true _ _ e))
+    go false e = rw (e, and_false (leb start end))
+
 -- n names were passed, the last of which ends at start; what is left to check is what there was
 pub record Walked (bytes ends : List ℕ) (names name_bytes start n : ℕ) : Type 0 where
   pub upto : n ≤ names
@@ -218,6 +232,10 @@ ordered m f =
     let r = m.room in
     record { places = m.held; rising = f.rising; inside = λ n h. let u = f.under n h in omega arith }
 
+pub ordered_list : (bytes ends : List ℕ) (names name_bytes : ℕ) → list_fits (length bytes) (length ends) names name_bytes ≡ true
+    → well_formed bytes ends names name_bytes ≡ true → Ordered bytes ends names
+ordered_list bytes ends names name_bytes fits wf = ordered (memory _ _ _ _ fits) (formed _ _ _ _ wf)
+
 -- ---- one name
 
 pub name_long : (s : List ℕ) (from to : ℕ) → to ≤ length s → 255 < to - from → false ≡ is_name (slice from to s)
@@ -237,68 +255,38 @@ unfolding is_name
 name_plain s all from to u a b l =
     rw (length-slice from to s (omega arith), plain_is s 0 all from to u (omega arith) a b l) (and_true (leb (to - from) 255))
 
--- ---- the walk that compares two stretches
+-- ---- the same bytes
 
-same_short : (s t : List ℕ) → (length s ≡ length t → ⊥) → same s t ≡ false
+pub same_refl : (s : List ℕ) → same s s ≡ true
 unfolding same
-same_short [] [] h = absurd (h refl)
-same_short [] (b ∷ t) h = refl
-same_short (a ∷ s) [] h = refl
-same_short (a ∷ s) (b ∷ t) h = rw (same_short s t (λ e. h (ap suc e))) (and_false (eqb a b))
+same_refl [] = refl
+same_refl (a ∷ s) = rw (eq-eqb a a refl) (same_refl s)
 
-same_empty : same [] [] ≡ true
+same_head : (a b : ℕ) (s t : List ℕ) (u : Bool) → eqb a b ≡ u → (same s t ≡ true → s ≡ t) → same (a ∷ s) (b ∷ t) ≡ true → a ∷ s ≡ b ∷ t
 unfolding same
-same_empty = refl
+same_head a b s t true e on h = ap₂ (λ (x : ℕ) (l : List ℕ). x ∷ l) (eqb-true a b e) (on (rw e at h))
+same_head a b s t false e on h = let z : false ≡ true = rw e at h in absurd (false≢true z)
 
-same_cons : (a b : ℕ) (s t : List ℕ) → same (a ∷ s) (b ∷ t) ≡ (eqb a b && same s t)
+pub same_eq : (s t : List ℕ) → same s t ≡ true → s ≡ t
 unfolding same
-same_cons a b s t = refl
+same_eq [] [] h = refl
+same_eq [] (b ∷ t) h = absurd (false≢true h)
+same_eq (a ∷ s) [] h = absurd (false≢true h)
+same_eq (a ∷ s) (b ∷ t) h = same_head a b s t (eqb a b) refl (same_eq s t) h
 
--- i bytes of the two stretches were equal; what is left to compare is what there was
-pub record Matched (bytes : List ℕ) (start end : ℕ) (text : List ℕ) (from to i : ℕ) : Type 0 where
-  pub upto : i ≤ to - from
-  pub left : same (slice from to text) (slice start end bytes) ≡ same (slice (from + i) to text) (slice (start + i) end bytes)
+-- the library's equality of lists says the same
+pub part_same : (bytes text : List ℕ) (start end : ℕ) {f : Bool} → f ≡ pointwise nat_eq (between start end bytes) text → f ≡ true → same text (slice start end bytes) ≡ true
+part_same bytes text start end h e =
+    let q : slice start end bytes ≡ text = sym (between_is bytes start end) ∙ same_text (between start end bytes) text (sym e ∙ h) in
+    rw q (same_refl text)
 
-pub match_length : (bytes : List ℕ) (start end : ℕ) (text : List ℕ) (from to : ℕ) → end ≤ length bytes → to ≤ length text → (end - start ≡ to - from → ⊥)
-    → false ≡ same (slice from to text) (slice start end bytes)
-match_length bytes start end text from to k l h =
-    let e = length-slice start end bytes k in
-    let f = length-slice from to text l in
-    sym (same_short (slice from to text) (slice start end bytes) (λ q. h (omega arith)))
-
-pub match_none : (bytes : List ℕ) (start end : ℕ) (text : List ℕ) (from to : ℕ) → Matched bytes start end text from to 0
-match_none bytes start end text from to = record { upto = omega arith; left = rw (add-zero from, add-zero start) }
-
-match_next : (bytes : List ℕ) (start end : ℕ) (text : List ℕ) (from to i : ℕ) → end ≤ length bytes → to ≤ length text → start + i < end → from + i < to
-    → same (slice (from + i) to text) (slice (start + i) end bytes) ≡ (eqb (get_or text (from + i) 0) (get_or bytes (start + i) 0) && same (slice (from + i + 1) to text) (slice (start + i + 1) end bytes))
-match_next bytes start end text from to i k l p q =
-    ap (λ (s : List ℕ). same s (slice (start + i) end bytes)) (cut text (from + i) to q l)
-    ∙ ap (same (get_or text (from + i) 0 ∷ slice (from + i + 1) to text)) (cut bytes (start + i) end p k)
-    ∙ same_cons (get_or text (from + i) 0) (get_or bytes (start + i) 0) (slice (from + i + 1) to text) (slice (start + i + 1) end bytes)
-
-module _ {bytes : List ℕ} {start end : ℕ} {text : List ℕ} {from to i : ℕ} (m : Matched bytes start end text from to i) where
-  pub match_turn : end ≤ length bytes → to ≤ length text → end - start ≡ to - from → i < to - from → get_or bytes (start + i) 0 ≡ get_or text (from + i) 0
-      → Matched bytes start end text from to (i + 1)
-  match_turn k l z h e =
-      let p : from + i + 1 ≡ from + (i + 1) = omega arith in
-      let q : start + i + 1 ≡ start + (i + 1) = omega arith in
-      record {
-        upto = omega arith;
-        left =
-            m.left
-            ∙ match_next bytes start end text from to i k l (omega arith) (omega arith)
-            ∙ rw (eq-eqb (get_or text (from + i) 0) (get_or bytes (start + i) 0) (sym e), p, q);
-      }
-
-  pub match_stop : end ≤ length bytes → to ≤ length text → end - start ≡ to - from → i < to - from → (get_or bytes (start + i) 0 ≡ get_or text (from + i) 0 → ⊥)
-      → false ≡ same (slice from to text) (slice start end bytes)
-  match_stop k l z h e =
-      sym (m.left ∙ match_next bytes start end text from to i k l (omega arith) (omega arith) ∙ rw (ne_eqb (get_or text (from + i) 0) (get_or bytes (start + i) 0) (λ q. e (sym q))))
-
-  pub match_end : start ≤ end → from ≤ to → end - start ≡ to - from → to - from ≤ i → true ≡ same (slice from to text) (slice start end bytes)
-  match_end s f z h =
-      let u : i ≤ to - from = m.upto in
-      sym (m.left ∙ ap (λ (x : List ℕ). same x (slice (start + i) end bytes)) (none_left text (from + i) to (omega arith)) ∙ ap (same []) (none_left bytes (start + i) end (omega arith)) ∙ same_empty)
+pub part_other : (bytes text : List ℕ) (start end : ℕ) {f : Bool} → f ≡ pointwise nat_eq (between start end bytes) text → f ≡ false → same text (slice start end bytes) ≡ false
+part_other bytes text start end h e = go (same text (slice start end bytes)) refl
+  where
+    go : (f : Bool) → same text (slice start end bytes) ≡ f → f ≡ false
+    go true q =
+        absurd (other_text (between start end bytes) text (sym e ∙ h) (between_is bytes start end ∙ sym (same_eq text (slice start end bytes) q)))
+    go false q = refl
 
 -- ---- the walk that looks for a name
 
@@ -357,27 +345,3 @@ module _ {bytes ends : List ℕ} {names : ℕ} {name : List ℕ} {start n : ℕ}
       let l = w.left in
       let u = w.upto in
       omega arith
-
--- ---- the walk that copies a name
-
-pub copied_next : (bytes text : List ℕ) (at from to i : ℕ) → to ≤ length text → at + (to - from) ≤ length bytes → i < to - from
-    → set (paste bytes at (slice from to text) i) (at + i) (get_or text (from + i) 0) ≡ paste bytes at (slice from to text) (i + 1)
-copied_next bytes text at from to i k l h =
-    let e = length-slice from to text k in
-    let g : get_or text (from + i) 0 ≡ get_or (slice from to text) i 0 = sym (get_or-drop from (take to text) i 0 ∙ get_or-take to text (from + i) 0 (omega arith)) in
-    ap (set (paste bytes at (slice from to text) i) (at + i)) g
-    ∙ paste-suc bytes at (slice from to text) i 0 (omega arith) (omega arith)
-    ∙ ap (paste bytes at (slice from to text)) (sym (add-one i))
-
-pub copied_all : (bytes text : List ℕ) (at from to i : ℕ) → to ≤ length text → i ≡ to - from → paste bytes at (slice from to text) i ≡ name_written bytes at (slice from to text)
-unfolding name_written
-copied_all bytes text at from to i k e =
-    let f = length-slice from to text k in
-    let q : i ≡ length (slice from to text) = omega arith in
-    ap (paste bytes at (slice from to text)) q
-
-pub copied_length : (bytes text : List ℕ) (at from to : ℕ) → to ≤ length text → at + (to - from) ≤ length bytes → length (name_written bytes at (slice from to text)) ≡ length bytes
-unfolding name_written
-copied_length bytes text at from to k l =
-    let e = length-slice from to text k in
-    length-paste bytes at (slice from to text) (length (slice from to text)) (omega arith) (omega arith)

@@ -3,16 +3,22 @@
 -- Assumes nothing.
 use Prim.Native.Nat.{ℕ, zero, suc, ◌+◌, ◌≤◌, ◌<◌}
 use mathlib.Core.List.{List, [], ◌∷◌, ◌++◌, append_assoc}
-use Rattle.std.specs.Prelude.{Bool, true, false, cond, ◌≡◌, eqb, get_or, set, take}
+use Rattle.std.specs.Prelude.{Bool, true, false, cond, ◌≡◌, get_or, set, take, slice_get, ltb, Option, Some, None, ok_or, Ok}
+use Rattle.theory.specs.Answer.{answer}
+use Rattle.leaves.specs.Refusal.{refused, answer_with}
+use Rattle.leaves.specs.declared.refusal.Refusal.TheVariants.{UnknownSymbol}
+use Rattle.std.proofs.lemmas.Option.{none-some, slice_get-get_or, slice_get_past}
+use borrow.Author.Tests.{ltb-true, ltb-false}
+use Rattle.leaves_names.specs.declared.names.NamePlace.{NamePlace}
 use Rattle.std.proofs.lemmas.Bool.{false≢true}
-use Rattle.std.proofs.Common.{⊎_elim, ◌∙◌, sym, subst, add-zero, eq-or-lt_of_le, eqb-true, eq-eqb, length-set, length-take-le, get_or-set_same, get_or-set_other}
+use Rattle.std.proofs.Common.{⊎_elim, ◌∙◌, sym, subst, add-zero, eq-or-lt_of_le, length-set, length-take-le, get_or-set_same, get_or-set_other}
 use Rattle.std.proofs.Math.Path.{refl, ap, ap₂}
 use native.Mathlib.Omega.{arith}
 use Rattle.std.proofs.Math.ListN.{length, drop, get_or-append}
 use Rattle.std.proofs.Math.Seq.{slice, take-append-le, take-take, length-paste, drop_at, take-length}
 use Rattle.std.proofs.lemmas.List.Edits.{take-paste}
-use Rattle.leaves_names.specs.Names.{name_start, name_end, name_of, names_from, names_of, is_name, well_formed, list_fits, same, least, naming, name_written}
-use Rattle.leaves_names.specs.NamesLaws.{Formed, Memory, memory_so, start_next, well_formed_lem}
+use Rattle.leaves_names.specs.Names.{name_start, name_end, name_of, names_from, names_of, is_name, well_formed, list_fits, same, least, naming, name_written, place_at, place_values, name_end}
+use Rattle.leaves_names.specs.NamesLaws.{Formed, Memory, memory_so, start_next, well_formed_lem, same_refl, same_eq}
 use Rattle.leaves_names.specs.NamingLaws.{Room, case_old, case_new}
 use Rattle.leaves_names.specs.declared.names.Naming.TheVariants.{Old, New}
 
@@ -57,24 +63,56 @@ from_same bytes ends bytes' ends' n zero h = refl
 from_same bytes ends bytes' ends' n (suc k) h =
     ap₂ (λ (x : List ℕ) (l : List (List ℕ)). x ∷ l) (h n (omega arith)) (from_same bytes ends bytes' ends' (suc n) k (λ m l. h m (omega arith)))
 
+-- where name n lies, for a name in use
+pub record Lies (ends : List ℕ) (names n : ℕ) (p : NamePlace) : Type 0 where
+  pub handed : n < names
+  pub first : p.first ≡ name_start ends n
+  pub end : p.end ≡ name_end ends n
+
+module _ (ends : List ℕ) (names n : ℕ) where
+  abbrev there : NamePlace
+  there = record { first = name_start ends n; end = name_end ends n }
+
+  pub place_some : {p : NamePlace} → Some p ≡ place_at ends names n → Lies ends names n p
+  unfolding place_at
+  place_some {p} e = go (ltb n names) refl e
+    where
+      go : (t : Bool) → ltb n names ≡ t → Some p ≡ cond t (Some there) None → Lies ends names n p
+      go true l f =
+          let z : p ≡ there = cc in
+          record { handed = ltb-true _ _ l; first = ap (λ (x : NamePlace). x.first) z; end = ap (λ (x : NamePlace). x.end) z }
+      go false l f = absurd (none-some _ (sym f))
+
+  pub place_none : None ≡ place_at ends names n → names ≤ n
+  unfolding place_at
+  place_none e = go (ltb n names) refl e
+    where
+      go : (t : Bool) → ltb n names ≡ t → None ≡ cond t (Some there) None → names ≤ n
+      go true l f = absurd (none-some _ f)
+      go false l f = ltb-false _ _ l
+
+  -- 3 where there is none
+  pub place_answer : {p : Option NamePlace} → p ≡ place_at ends names n
+      → answer_with place_values (ok_or p UnknownSymbol) ≡ cond (ltb n names) (answer 0 (name_start ends n ∷ name_end ends n ∷ [])) (refused UnknownSymbol)
+  unfolding place_at
+  place_answer e = rw e (go (ltb n names))
+    where
+      go : (t : Bool) → answer_with place_values (ok_or (cond t (Some there) None) UnknownSymbol) ≡ cond t (answer 0 (name_start ends n ∷ name_end ends n ∷ [])) (refused UnknownSymbol)
+      go true = refl
+      go false = refl
+
+module _ (bytes ends : List ℕ) (names n : ℕ) where
+  pub got_some : n < names → slice_get (names_of bytes ends names) n ≡ Some (name_of bytes ends n)
+  got_some h =
+      let l = names_length bytes ends names in
+      slice_get-get_or (names_of bytes ends names) n [] (omega arith) ∙ ap Some (names_at bytes ends names n h)
+
+  pub got_none : names ≤ n → slice_get (names_of bytes ends names) n ≡ None
+  got_none h =
+      let l = names_length bytes ends names in
+      slice_get_past (names_of bytes ends names) n (omega arith)
+
 -- ---- the least number
-
-pub same_refl : (s : List ℕ) → same s s ≡ true
-unfolding same
-same_refl [] = refl
-same_refl (a ∷ s) = rw (eq-eqb a a refl) (same_refl s)
-
-same_head : (a b : ℕ) (s t : List ℕ) (u : Bool) → eqb a b ≡ u → (same s t ≡ true → s ≡ t) → same (a ∷ s) (b ∷ t) ≡ true → a ∷ s ≡ b ∷ t
-unfolding same
-same_head a b s t true e on h = ap₂ (λ (x : ℕ) (l : List ℕ). x ∷ l) (eqb-true a b e) (on (rw e at h))
-same_head a b s t false e on h = let z : false ≡ true = rw e at h in absurd (false≢true z)
-
-pub same_eq : (s t : List ℕ) → same s t ≡ true → s ≡ t
-unfolding same
-same_eq [] [] h = refl
-same_eq [] (b ∷ t) h = absurd (false≢true h)
-same_eq (a ∷ s) [] h = absurd (false≢true h)
-same_eq (a ∷ s) (b ∷ t) h = same_head a b s t (eqb a b) refl (same_eq s t) h
 
 -- what the number n is among the names xs: it is a name's number or the count of them; it is that of an equal name; none before it is
 pub record Least (name : List ℕ) (xs : List (List ℕ)) (n : ℕ) : Type 0 where
@@ -208,7 +246,7 @@ pub record Known (bytes ends : List ℕ) (names : ℕ) (name : List ℕ) (k : �
   pub is : get_or (names_of bytes ends names) k [] ≡ name
   pub first : (i : ℕ) → i < k → get_or (names_of bytes ends names) i [] ≡ name → ⊥
 
-pub named_old : (bytes ends : List ℕ) (names name_bytes : ℕ) (name : List ℕ) {k : ℕ} → naming bytes ends names name_bytes name ≡ Old k → Known bytes ends names name k
+pub named_old : (bytes ends : List ℕ) (names name_bytes : ℕ) (name : List ℕ) {k : ℕ} → naming bytes ends names name_bytes name ≡ Ok (Old k) → Known bytes ends names name k
 named_old bytes ends names name_bytes name {k} e =
     let c = case_old bytes ends names name_bytes name e in
     let l = subst (Least name (names_of bytes ends names)) (sym c.1) (least_is name (names_of bytes ends names)) in
@@ -225,7 +263,7 @@ pub record Joined (bytes ends : List ℕ) (names name_bytes : ℕ) (name : List 
   pub formed : well_formed (name_written bytes name_bytes name) (set ends names (name_bytes + length name)) (names + 1) (name_bytes + length name) ≡ true
   pub memory : list_fits (length (name_written bytes name_bytes name)) (length (set ends names (name_bytes + length name))) (names + 1) (name_bytes + length name) ≡ true
 
-pub named_new : (bytes ends : List ℕ) (names name_bytes : ℕ) (name : List ℕ) {k : ℕ} → naming bytes ends names name_bytes name ≡ New k → Joined bytes ends names name_bytes name k
+pub named_new : (bytes ends : List ℕ) (names name_bytes : ℕ) (name : List ℕ) {k : ℕ} → naming bytes ends names name_bytes name ≡ Ok (New k) → Joined bytes ends names name_bytes name k
 named_new bytes ends names name_bytes name e =
     let c = case_new bytes ends names name_bytes name e in
     let m = c.0.memory in

@@ -1,63 +1,77 @@
 -- What a case of naming says and what naming promises, over the walks of NamesLaws. Assumes nothing.
-use Rattle.std.specs.Prelude.{ℕ, ◌+◌, ◌-◌, ◌≤◌, ◌<◌, List, [], ◌∷◌, Bool, true, false, cond, ◌&&◌, not, ◌≡◌, refl, leb, ltb, length, set}
-use Rattle.std.proofs.Common.{ap, ◌∙◌, arith}
+use Rattle.std.specs.Prelude.{ℕ, ◌+◌, ◌≤◌, ◌<◌, List, [], ◌∷◌, Bool, true, false, cond, ◌&&◌, ◌≡◌, refl, leb, ltb, length, Some, None, Result, Ok, Err}
+use Rattle.std.proofs.Common.{ap, arith}
 use Rattle.std.proofs.Math.Path.{sym}
+use Rattle.std.proofs.lemmas.Option.{none-some}
 use borrow.Author.Tests.{lt-ltb, le-ltb, leb-true, ltb-true, ltb-false}
-use Rattle.std.proofs.Math.Seq.{slice, length-slice}
-use Rattle.theory.specs.Bools.{and_left, and_right, fails, holds}
-use Rattle.theory.specs.Slices.{whole}
-use Rattle.leaves_names.specs.Names.{names_of, is_name, well_formed, list_fits, least, has_room, numbering, naming, naming_answer, name_written, bytes_after, ends_after}
-use Rattle.theory.specs.Answer.{answer}
-use Rattle.leaves.specs.Refusal.{refused}
+use Rattle.theory.specs.Bools.{and_left, and_right}
+use Rattle.leaves_names.specs.Names.{names_of, is_name, well_formed, list_fits, least, has_room, numbering, naming, name_start, name_end, found, check_names, place_of_name}
+use Rattle.theory.specs.Answer.{Answer, answer}
+use Rattle.leaves.specs.Refusal.{number_of, refused}
+use Rattle.leaves.specs.RefusalLaws.{refused_not_done, refused_one}
 use Rattle.leaves.specs.declared.refusal.Refusal.{Refusal}
 use Rattle.leaves_names.specs.declared.names.Naming.{Naming}
-use Rattle.leaves.specs.declared.refusal.Refusal.TheVariants.{BadName, NoNameRoom, IllFormed, BadMemory}
-use Rattle.leaves_names.specs.declared.names.Naming.TheVariants.{Old, New, Refused as Not_named}
+use Rattle.leaves.specs.declared.refusal.Refusal.TheVariants.{UnknownSymbol, BadName, NoNameRoom, IllFormed, BadMemory}
+use Rattle.leaves_names.specs.declared.names.Naming.TheVariants.{Old, New}
 use Rattle.leaves_names.specs.NamesLaws.{Memory, memory, Formed, formed}
 
 -- ---- the case of a valid name
 
-pub numbered_old : (bytes places names name_bytes size number : ℕ) {r : ℕ} → r ≡ number → r < names → Old r ≡ numbering bytes places names name_bytes size number
+pub numbered_old : (bytes places names name_bytes size number : ℕ) {r : ℕ} → r ≡ number → r < names → Ok (Old r) ≡ numbering bytes places names name_bytes size number
 unfolding numbering
 numbered_old bytes places names name_bytes size number e h =
     let l : number < names = omega arith in
-    rw (lt-ltb number names l) (ap Old e)
+    rw (lt-ltb number names l) (ap (λ (n : ℕ). Ok (Old n)) e)
 
 pub numbered_fresh : (bytes places names name_bytes size number : ℕ) {r : ℕ} → r ≡ number → names ≤ r
-    → numbering bytes places names name_bytes size number ≡ cond (has_room bytes places names name_bytes size) (New names) (Not_named NoNameRoom)
+    → numbering bytes places names name_bytes size number ≡ cond (has_room bytes places names name_bytes size) (Ok (New names)) (Err NoNameRoom)
 unfolding numbering
 numbered_fresh bytes places names name_bytes size number e h =
     let l : names ≤ number = omega arith in
     rw (le-ltb number names l)
 
-module _ (bytes places names name_bytes : ℕ) (text : List ℕ) (from to number : ℕ) (k : to ≤ length text) where
-  fresh : {r : ℕ} {f : Bool} → r ≡ number → names ≤ r → f ≡ has_room bytes places names name_bytes (to - from)
-      → numbering bytes places names name_bytes (length (slice from to text)) number ≡ cond f (New names) (Not_named NoNameRoom)
-  fresh e h g = rw (length-slice from to text k) (numbered_fresh bytes places names name_bytes (to - from) number e h ∙ rw (sym g))
+-- ---- what was found
 
-  numbered_new : {r : ℕ} {f : Bool} → r ≡ number → names ≤ r → f ≡ has_room bytes places names name_bytes (to - from) → f ≡ true
-      → New names ≡ numbering bytes places names name_bytes (length (slice from to text)) number
-  numbered_new e h g t = sym (fresh e h g ∙ rw t)
+module _ (name : List ℕ) (xs : List (List ℕ)) where
+  pub found_some : {n : ℕ} → n ≡ least name xs → n < length xs → Some n ≡ found name xs
+  unfolding found
+  found_some {n} e h =
+      let l : least name xs < length xs = omega arith in
+      rw (lt-ltb _ _ l) (ap Some e)
 
-  numbered_none : {r : ℕ} {f : Bool} → r ≡ number → names ≤ r → f ≡ has_room bytes places names name_bytes (to - from) → f ≡ false
-      → Not_named NoNameRoom ≡ numbering bytes places names name_bytes (length (slice from to text)) number
-  numbered_none e h g t = sym (fresh e h g ∙ rw t)
+  pub found_none : {n : ℕ} → n ≡ least name xs → length xs ≤ n → None ≡ found name xs
+  unfolding found
+  found_none e h =
+      let l : length xs ≤ least name xs = omega arith in
+      rw (le-ltb _ _ l)
+
+  pub some_found : {n : ℕ} → Some n ≡ found name xs → (n ≡ least name xs) × (n < length xs)
+  unfolding found
+  some_found {n} e = go (ltb (least name xs) (length xs)) refl e
+    where
+      go : (t : Bool) → ltb (least name xs) (length xs) ≡ t → Some n ≡ cond t (Some (least name xs)) None → (n ≡ least name xs) × (n < length xs)
+      go true l f = let z : n ≡ least name xs = cc in (z, omega (arith, ltb-true _ _ l))
+      go false l f = absurd (none-some _ (sym f))
+
+  pub none_found : None ≡ found name xs → length xs ≤ least name xs
+  unfolding found
+  none_found e = go (ltb (least name xs) (length xs)) refl e
+    where
+      go : (t : Bool) → ltb (least name xs) (length xs) ≡ t → None ≡ cond t (Some (least name xs)) None → length xs ≤ least name xs
+      go true l f = absurd (none-some _ f)
+      go false l f = ltb-false _ _ l
 
 -- ---- what a case of naming says
 
-cond_new : (t : Bool) (x : Naming) (r : Refusal) {k : ℕ} → cond t x (Not_named r) ≡ New k → (t ≡ true) × (x ≡ New k)
-cond_new true x r e = (refl, e)
-cond_new false x r e = let z : ◌≡◌ {A = ℕ} 0 1 = cc in absurd (omega arith)
+cond_ok : (t : Bool) (x : Result Naming Refusal) (r : Refusal) {k : Naming} → cond t x (Err r) ≡ Ok k → (t ≡ true) × (x ≡ Ok k)
+cond_ok true x r e = (refl, e)
+cond_ok false x r e = let z : ◌≡◌ {A = ℕ} 0 1 = cc in absurd (omega arith)
 
-cond_old : (t : Bool) (x : Naming) (r : Refusal) {k : ℕ} → cond t x (Not_named r) ≡ Old k → (t ≡ true) × (x ≡ Old k)
-cond_old true x r e = (refl, e)
-cond_old false x r e = let z : ◌≡◌ {A = ℕ} 0 1 = cc in absurd (omega arith)
-
-not_old : (t : Bool) (n : ℕ) (x : Naming) {k : ℕ} → cond t (Old n) x ≡ New k → (t ≡ false) × (x ≡ New k)
+not_old : (t : Bool) (n : ℕ) (x : Result Naming Refusal) {k : ℕ} → cond t (Ok (Old n)) x ≡ Ok (New k) → (t ≡ false) × (x ≡ Ok (New k))
 not_old true n x e = let z : ◌≡◌ {A = ℕ} 0 1 = cc in absurd (omega arith)
 not_old false n x e = (refl, e)
 
-is_old : (t u : Bool) (n m : ℕ) (r : Refusal) {k : ℕ} → cond t (Old n) (cond u (New m) (Not_named r)) ≡ Old k → (t ≡ true) × (n ≡ k)
+is_old : (t u : Bool) (n m : ℕ) (r : Refusal) {k : ℕ} → cond t (Ok (Old n)) (cond u (Ok (New m)) (Err r)) ≡ Ok (Old k) → (t ≡ true) × (n ≡ k)
 is_old true u n m r e = (refl, cc)
 is_old false true n m r e = let z : ◌≡◌ {A = ℕ} 0 1 = cc in absurd (omega arith)
 is_old false false n m r e = let z : ◌≡◌ {A = ℕ} 0 1 = cc in absurd (omega arith)
@@ -89,26 +103,26 @@ room bytes places names name_bytes size e =
 
 module _ (bytes ends : List ℕ) (names name_bytes : ℕ) (name : List ℕ) {k : ℕ} where
   -- an old name has the least number with equal bytes
-  pub case_old : naming bytes ends names name_bytes name ≡ Old k → Nameable bytes ends names name_bytes name × (k ≡ least name (names_of bytes ends names)) × (k < names)
+  pub case_old : naming bytes ends names name_bytes name ≡ Ok (Old k) → Nameable bytes ends names name_bytes name × (k ≡ least name (names_of bytes ends names)) × (k < names)
   unfolding naming numbering
   case_old e =
-      let a = cond_old (list_fits (length bytes) (length ends) names name_bytes) _ _ e in
-      let b = cond_old (well_formed bytes ends names name_bytes) _ _ a.1 in
-      let c = cond_old (is_name name) _ _ b.1 in
+      let a = cond_ok (list_fits (length bytes) (length ends) names name_bytes) _ _ e in
+      let b = cond_ok (well_formed bytes ends names name_bytes) _ _ a.1 in
+      let c = cond_ok (is_name name) _ _ b.1 in
       let d = is_old (ltb (least name (names_of bytes ends names)) names) (has_room (length bytes) (length ends) names name_bytes (length name)) _ _ _ c.1 in
       let l : least name (names_of bytes ends names) < names = ltb-true _ _ d.0 in
       (record { memory = memory _ _ _ _ a.0; formed = formed _ _ _ _ b.0; valid = c.0 }, sym d.1, omega (arith, d.1))
 
   -- a new name has the next number, is in the list under no number, and there is room for it
-  pub case_new : naming bytes ends names name_bytes name ≡ New k
+  pub case_new : naming bytes ends names name_bytes name ≡ Ok (New k)
       → Nameable bytes ends names name_bytes name × (k ≡ names) × (names ≤ least name (names_of bytes ends names)) × Room (length bytes) (length ends) names name_bytes (length name)
   unfolding naming numbering
   case_new e =
-      let a = cond_new (list_fits (length bytes) (length ends) names name_bytes) _ _ e in
-      let b = cond_new (well_formed bytes ends names name_bytes) _ _ a.1 in
-      let c = cond_new (is_name name) _ _ b.1 in
+      let a = cond_ok (list_fits (length bytes) (length ends) names name_bytes) _ _ e in
+      let b = cond_ok (well_formed bytes ends names name_bytes) _ _ a.1 in
+      let c = cond_ok (is_name name) _ _ b.1 in
       let d = not_old (ltb (least name (names_of bytes ends names)) names) _ _ c.1 in
-      let f = cond_new (has_room (length bytes) (length ends) names name_bytes (length name)) _ _ d.1 in
+      let f = cond_ok (has_room (length bytes) (length ends) names name_bytes (length name)) _ _ d.1 in
       let g = f.1 in (
         record { memory = memory _ _ _ _ a.0; formed = formed _ _ _ _ b.0; valid = c.0 },
         cc,
@@ -116,63 +130,39 @@ module _ (bytes ends : List ℕ) (names name_bytes : ℕ) (name : List ℕ) {k :
         room _ _ _ _ _ f.0,
       )
 
--- ---- what naming promises, case by case
+-- ---- what the check of a list says of naming and of a name's place
 
-module _ (bytes ends : List ℕ) (names name_bytes : ℕ) (name : List ℕ) (became : Naming) where
-  pub promised_old : {k : ℕ} → became ≡ Old k
-      → (answer 0 (k ∷ names ∷ name_bytes ∷ []) ≡ naming_answer names name_bytes name became) × ((bytes ≡ bytes_after bytes name_bytes name became) × (ends ≡ ends_after ends names name_bytes name became))
-  promised_old e = (rw e, (rw e, rw e))
+done_or_refused : (r : Refusal) {vs : List ℕ} → refused r ≡ answer 0 vs → ⊥
+done_or_refused r e = let z : number_of r ≡ 0 = cc in refused_not_done r z
 
-  pub promised_refused : {r : Refusal} → became ≡ Not_named r
-      → (refused r ≡ naming_answer names name_bytes name became) × ((bytes ≡ bytes_after bytes name_bytes name became) × (ends ≡ ends_after ends names name_bytes name became))
-  promised_refused e = (rw e, (rw e, rw e))
+module _ (bytes ends : List ℕ) (names name_bytes : ℕ) (r : Refusal) (e : refused r ≡ check_names bytes ends names name_bytes) where
+  pub naming_refused : (name : List ℕ) → Err r ≡ naming bytes ends names name_bytes name
+  unfolding check_names naming
+  naming_refused name = go (list_fits (length bytes) (length ends) names name_bytes) (well_formed bytes ends names name_bytes) _ e
+    where
+      go : (f g : Bool) (x : Result Naming Refusal) → refused r ≡ cond f (cond g (answer 0 []) (refused IllFormed)) (refused BadMemory)
+          → Err r ≡ cond f (cond g x (Err IllFormed)) (Err BadMemory)
+      go true true x h = absurd (done_or_refused r h)
+      go true false x h = ap Err (refused_one r IllFormed h)
+      go false g x h = ap Err (refused_one r BadMemory h)
 
-  pub promised_new : {k size r : ℕ} {part bytes' ends' : List ℕ} → became ≡ New k → part ≡ name → size ≡ length name → r ≡ name_bytes + size → bytes' ≡ name_written bytes name_bytes part → ends' ≡ set ends names (name_bytes + size)
-      → (answer 0 (k ∷ (names + 1) ∷ r ∷ []) ≡ naming_answer names name_bytes name became) × ((bytes' ≡ bytes_after bytes name_bytes name became) × (ends' ≡ ends_after ends names name_bytes name became))
-  promised_new {k} {size} {r} e p z f g h = (
-    rw e (ap (λ (n : ℕ). answer 0 (k ∷ (names + 1) ∷ n ∷ [])) (f ∙ ap (λ (n : ℕ). name_bytes + n) z)),
-    (rw e (g ∙ ap (name_written bytes name_bytes) p), rw e (h ∙ ap (λ (n : ℕ). set ends names (name_bytes + n)) z)),
-  )
+  pub place_refused : (n : ℕ) → refused r ≡ place_of_name bytes ends names name_bytes n
+  unfolding check_names place_of_name
+  place_refused n = go (list_fits (length bytes) (length ends) names name_bytes) (well_formed bytes ends names name_bytes) _ e
+    where
+      go : (f g : Bool) (x : Answer) → refused r ≡ cond f (cond g (answer 0 []) (refused IllFormed)) (refused BadMemory)
+          → refused r ≡ cond f (cond g x (refused IllFormed)) (refused BadMemory)
+      go true true x h = absurd (done_or_refused r h)
+      go true false x h = h
+      go false g x h = h
 
--- ---- what the tests say of a name; f, g and h are what those of the memory, the list and the name answered
-
-module _ (bytes ends : List ℕ) (names name_bytes : ℕ) (name : List ℕ) where
-  judged : {f g h : Bool} → f ≡ list_fits (length bytes) (length ends) names name_bytes → not f ≡ false → g ≡ well_formed bytes ends names name_bytes → not g ≡ false → h ≡ is_name name → not h ≡ false
-      → naming bytes ends names name_bytes name ≡ numbering (length bytes) (length ends) names name_bytes (length name) (least name (names_of bytes ends names))
+module _ (bytes ends : List ℕ) (names name_bytes : ℕ) (f : list_fits (length bytes) (length ends) names name_bytes ≡ true) (g : well_formed bytes ends names name_bytes ≡ true) where
+  pub naming_checked : (name : List ℕ) → naming bytes ends names name_bytes name
+      ≡ cond (is_name name) (numbering (length bytes) (length ends) names name_bytes (length name) (least name (names_of bytes ends names))) (Err BadName)
   unfolding naming
-  judged e p q r s t = rw (holds e p, holds q r, holds s t)
+  naming_checked name = rw (f, g)
 
-  pub judged_15 : {f : Bool} → f ≡ list_fits (length bytes) (length ends) names name_bytes → not f ≡ true → Not_named BadMemory ≡ naming bytes ends names name_bytes name
-  unfolding naming
-  judged_15 e p = rw (fails e p)
-
-  pub judged_14 : {f g : Bool} → f ≡ list_fits (length bytes) (length ends) names name_bytes → not f ≡ false → g ≡ well_formed bytes ends names name_bytes → not g ≡ true
-      → Not_named IllFormed ≡ naming bytes ends names name_bytes name
-  unfolding naming
-  judged_14 e p q r = rw (holds e p, fails q r)
-
-  pub judged_4 : {f g h : Bool} → f ≡ list_fits (length bytes) (length ends) names name_bytes → not f ≡ false → g ≡ well_formed bytes ends names name_bytes → not g ≡ false → h ≡ is_name name → not h ≡ true
-      → Not_named BadName ≡ naming bytes ends names name_bytes name
-  unfolding naming
-  judged_4 e p q r s t = rw (holds e p, holds q r, fails s t)
-
-  pub judged_old : {f g h : Bool} {n : ℕ} → f ≡ list_fits (length bytes) (length ends) names name_bytes → not f ≡ false → g ≡ well_formed bytes ends names name_bytes → not g ≡ false
-      → h ≡ is_name name → not h ≡ false → n ≡ least name (names_of bytes ends names) → n < names → Old n ≡ naming bytes ends names name_bytes name
-  judged_old e p q r s t m l = numbered_old _ _ _ _ _ _ m l ∙ sym (judged e p q r s t)
-
-module _ (bytes ends : List ℕ) (names name_bytes : ℕ) (text : List ℕ) (from to : ℕ) where
-  pub judged_new : {f g h k : Bool} {n : ℕ} → f ≡ list_fits (length bytes) (length ends) names name_bytes → not f ≡ false → g ≡ well_formed bytes ends names name_bytes → not g ≡ false
-      → h ≡ is_name (slice from to text) → not h ≡ false → n ≡ least (slice from to text) (names_of bytes ends names) → names ≤ n → to ≤ length text
-      → k ≡ has_room (length bytes) (length ends) names name_bytes (to - from) → k ≡ true → New names ≡ naming bytes ends names name_bytes (slice from to text)
-  judged_new e p q r s t m l z a b =
-      numbered_new (length bytes) (length ends) names name_bytes text from to _ z m l a b ∙ sym (judged bytes ends names name_bytes (slice from to text) e p q r s t)
-
-  pub judged_5 : {f g h k : Bool} {n : ℕ} → f ≡ list_fits (length bytes) (length ends) names name_bytes → not f ≡ false → g ≡ well_formed bytes ends names name_bytes → not g ≡ false
-      → h ≡ is_name (slice from to text) → not h ≡ false → n ≡ least (slice from to text) (names_of bytes ends names) → names ≤ n → to ≤ length text
-      → k ≡ has_room (length bytes) (length ends) names name_bytes (to - from) → k ≡ false → Not_named NoNameRoom ≡ naming bytes ends names name_bytes (slice from to text)
-  judged_5 e p q r s t m l z a b =
-      numbered_none (length bytes) (length ends) names name_bytes text from to _ z m l a b ∙ sym (judged bytes ends names name_bytes (slice from to text) e p q r s t)
-
--- what was judged of the text's bytes from 0 to its length is judged of the text
-pub of_whole : (bytes ends : List ℕ) (names name_bytes : ℕ) (text : List ℕ) {r x : Naming} → r ≡ naming bytes ends names name_bytes (slice 0 (length text) text) → r ≡ x → naming bytes ends names name_bytes text ≡ x
-of_whole bytes ends names name_bytes text e f = sym (e ∙ ap (naming bytes ends names name_bytes) (whole text)) ∙ f
+  pub place_checked : (n : ℕ) → place_of_name bytes ends names name_bytes n
+      ≡ cond (ltb n names) (answer 0 (name_start ends n ∷ name_end ends n ∷ [])) (refused UnknownSymbol)
+  unfolding place_of_name
+  place_checked n = rw (f, g)

@@ -1,330 +1,266 @@
 // Names (RULES, Names, numbers, days). A name list is lent memory: the names' bytes, one name after another, and where each
-// name ends; how many names and how many bytes are in use goes by value. Name n lies from the end of the one before it to its own end.
-ghost use Rattle.std.specs.Prelude.{◌≡◌, true, ◌+◌, ◌-◌, ◌<◌, ◌≤◌, length, set};
-ghost use Rattle.std.proofs.Math.Seq.{slice};
-ghost use Rattle.leaves_names.specs.Names.{name_start, name_end, names_of, is_name, well_formed, list_fits, same, least, has_room, name_written, checked_of, check_names, naming, named_of, naming_answer, bytes_after, ends_after, placed_of, place_of_name, standing, Ordered};
+// name ends; how many names and how many bytes are in use goes with it. Name n lies from the end of the one before it to its own end.
+ghost use Rattle.std.specs.Prelude.{◌≡◌, true, ◌+◌, ◌≤◌, ◌<◌, length, set, slice_get, option_copied, IfOk, OnOk};
+ghost use Rattle.theory.specs.Answer.{no_values};
+ghost use Rattle.leaves.specs.Refusal.{answer_with};
 ghost use Rattle.leaves_utf8.specs.Utf8.{Upto};
+ghost use Rattle.leaves_names.specs.Names.{name_start, names_in, is_name, well_formed, list_fits, found, place_at, least, has_room, check_names, numbering};
+ghost use Rattle.leaves_names.specs.Names.{naming, naming_answer, place_values, place_of_name, standing, Ordered};
+ghost use Rattle.leaves_names.specs.Room.{named_values, Added, Named};
 
 use leaves::refusal::Refusal;
 use leaves_limits::{NAME_BYTES, NAME_SIZE, NAMES};
-use leaves_utf8::utf8::{is_plain, is_utf8_within};
+use leaves_utf8::utf8::{is_plain, is_utf8};
 
-// What a check of a name list answers.
+// A name list as it is lent: nothing is known of it.
 #[derive(Clone, Copy)]
-pub enum Checked {
-    Done,
-    Refused(Refusal),
+pub struct NameList<'a> {
+    pub bytes: &'a [u8],
+    pub ends: &'a [u32],
+    // How many names and how many bytes are in use.
+    pub names: usize,
+    pub name_bytes: usize,
 }
 
-// What becomes of a name: it has this number, it is new and gets this number, or it is refused.
+// A name list whose names lie one after another within the bytes lent, as every list does that was checked.
 #[derive(Clone, Copy)]
+pub struct Names<'a> {
+    pub list: NameList<'a>,
+    pub ghost ordered: { Ordered list.bytes.now list.ends.now list.names },
+}
+
+// A name list lent to be written: a name that is new joins it, in the room behind the names and bytes in use.
+#[derive(Drop)]
+pub struct NameRoom<'a> {
+    pub bytes: &'a mut [u8],
+    pub ends: &'a mut [u32],
+    pub names: usize,
+    pub name_bytes: usize,
+}
+
+// What becomes of a name: it has this number, or it is new and gets this number.
+#[derive(Clone, Copy, Debug, PartialEq, Eq)]
 pub enum Naming {
     Old(u32),
     New(u32),
-    Refused(Refusal),
-}
-
-// What naming answers: the name's number, then the names and the name bytes in use.
-#[derive(Clone, Copy)]
-pub enum Named {
-    Number {
-        number: u32,
-        names: usize,
-        name_bytes: usize,
-    },
-    Refused(Refusal),
 }
 
 // Where a name lies: its first byte, and the first past its end.
-#[derive(Clone, Copy)]
-pub enum NamePlace {
-    At { first: usize, end: usize },
-    Refused(Refusal),
+#[derive(Clone, Copy, Debug, PartialEq, Eq)]
+pub struct NamePlace {
+    pub first: usize,
+    pub end: usize,
 }
 
-// An end as a place.
-fn place(x: u32) -> usize
-    ensures { (result ≡ x) × (result < 4294967296) }
+// Whether a text is a name: at most 255 bytes of UTF-8.
+#[tactic(auto, unfolding(crate::specs::Names::is_name))]
+pub fn is_name(text: &[u8]) -> bool
+    ensures { result ≡ is_name text.now }
 {
-    x as usize
-}
-
-// Whether lent memory of so many bytes and places is within the limits, and the numbers in use within the memory; where not, 15.
-pub fn list_fits(bytes: usize, places: usize, names: usize, name_bytes: usize) -> bool
-    ensures { result ≡ list_fits bytes places names name_bytes }
-{
-    if NAMES < places {
-        return false;
-    }
-    if NAME_BYTES < bytes {
-        return false;
-    }
-    if places < names {
-        return false;
-    }
-    name_bytes <= bytes
-}
-
-// Whether the bytes from `from` to before `to` are a name: at most 255 bytes of UTF-8.
-pub fn is_name(text: &[u8], from: usize, to: usize) -> bool
-    requires { (from ≤ to) × (to ≤ length text.now) }
-    ensures { result ≡ is_name (slice from to text.now) }
-{
-    if NAME_SIZE < to - from {
-        return false;
-    }
-    is_utf8_within(text, from, to)
+    text.len() <= NAME_SIZE && is_utf8(text)
 }
 
 // Whether a name lies from `start` to `end`, within the bytes in use. Where all of these are plain, its length alone is asked.
-fn stands(bytes: &[u8], name_bytes: usize, plain: bool, start: usize, end: usize) -> bool
-    requires { (name_bytes ≤ length bytes.now) × (plain ≡ true → Upto bytes.now 0 name_bytes 0x7F) }
-    ensures { result ≡ standing bytes.now name_bytes start end }
+#[tactic(auto, using(crate::specs::NamesLaws::name_plain), unfolding(crate::specs::Names::standing))]
+fn stands(used: &[u8], plain: bool, start: usize, end: usize) -> bool
+    requires { plain ≡ true → Upto used.now 0 (length used.now) 0x7F }
+    ensures { result ≡ standing used.now (length used.now) start end }
 {
-    if end < start {
-        return false;
-    }
-    if name_bytes < end {
+    if end < start || used.len() < end {
         return false;
     }
     if plain {
         return end - start <= NAME_SIZE;
     }
-    is_name(bytes, start, end)
-}
-
-// Whether valid names stand one after another, up to the end of the bytes in use.
-pub fn is_list(bytes: &[u8], ends: &[u32], names: usize, name_bytes: usize) -> bool
-    requires { (names ≤ length ends.now) × (name_bytes ≤ length bytes.now) }
-    ensures { result ≡ well_formed bytes.now ends.now names name_bytes }
-{
-    let plain = is_plain(bytes, 0, name_bytes);
-    let mut start = 0;
-    let mut n = 0;
-    while n < names {
-        let end = place(ends[n]);
-        if stands(bytes, name_bytes, plain, start, end) {
-            start = end;
-            n += 1;
-        } else {
-            return false;
-        }
-    }
-    start == name_bytes
-}
-
-// Whether the name list is well-formed: done, 15 or 14.
-pub fn check_names(bytes: &[u8], ends: &[u32], names: usize, name_bytes: usize) -> Checked
-    ensures { checked_of result ≡ check_names bytes.now ends.now names name_bytes }
-{
-    if !list_fits(bytes.len(), ends.len(), names, name_bytes) {
-        return Checked::Refused(Refusal::BadMemory);
-    }
-    if is_list(bytes, ends, names, name_bytes) {
-        Checked::Done
-    } else {
-        Checked::Refused(Refusal::IllFormed)
-    }
-}
-
-// Whether the bytes from `start` to before `end` are the text's bytes from `from` to before `to`.
-fn is_same(bytes: &[u8], start: usize, end: usize, text: &[u8], from: usize, to: usize) -> bool
-    requires { (start ≤ end) × (end ≤ length bytes.now) × (from ≤ to) × (to ≤ length text.now) }
-    ensures { result ≡ same (slice from to text.now) (slice start end bytes.now) }
-{
-    let size = to - from;
-    if end - start != size {
-        return false;
-    }
-    let mut i = 0;
-    while i < size {
-        if bytes[start + i] == text[from + i] {
-            i += 1;
-        } else {
-            return false;
-        }
-    }
-    true
-}
-
-// The least number of a name equal to the text's bytes from `from` to before `to`; as many as there are names where none is.
-pub fn find_name(
-    bytes: &[u8],
-    ends: &[u32],
-    names: usize,
-    text: &[u8],
-    from: usize,
-    to: usize,
-) -> usize
-    requires ordered { Ordered bytes.now ends.now names }
-    requires from_le_to { (from ≤ to) × (to ≤ length text.now) }
-    ensures { result ≡ least (slice from to text.now) (names_of bytes.now ends.now names) }
-{
-    let mut start = 0;
-    let mut n = 0;
-    while n < names {
-        let end = place(ends[n]);
-        if is_same(bytes, start, end, text, from, to) {
-            return n;
-        }
-        start = end;
-        n += 1;
-    }
-    names
-}
-
-// Whether one name more, of so many bytes, passes neither a limit nor the room lent.
-pub fn has_room(bytes: usize, places: usize, names: usize, name_bytes: usize, size: usize) -> bool
-    requires { list_fits bytes places names name_bytes ≡ true }
-    ensures { result ≡ has_room bytes places names name_bytes size }
-{
-    if places <= names {
-        return false;
-    }
-    size <= bytes - name_bytes
-}
-
-// Writes the text's bytes from `from` to before `to` at place `at`.
-fn copy(bytes: &mut [u8], at: usize, text: &[u8], from: usize, to: usize)
-    requires { (from ≤ to) × (to ≤ length text.now) × (at + (to - from) ≤ length bytes.old) }
-    ensures { bytes.new ≡ name_written bytes.old at (slice from to text.now) }
-{
-    let size = to - from;
-    let mut i = 0;
-    while i < size {
-        bytes[at + i] = text[from + i];
-        i += 1;
-    }
-}
-
-// Adds the text's bytes from `from` to before `to` as a new name, and answers the bytes then in use.
-pub fn add_name(
-    bytes: &mut [u8],
-    ends: &mut [u32],
-    names: usize,
-    name_bytes: usize,
-    text: &[u8],
-    from: usize,
-    to: usize,
-) -> usize
-    requires from_le_to { (from ≤ to) × (to ≤ length text.now) }
-    requires names_in_bounds { (names < length ends.old) × (name_bytes + (to - from) ≤ length bytes.old) × (name_bytes + (to - from) < 4294967296) }
-    ensures value { result ≡ name_bytes + (to - from) }
-    ensures bytes_after { bytes.new ≡ name_written bytes.old name_bytes (slice from to text.now) }
-    ensures ends_after { ends.new ≡ set ends.old names (name_bytes + (to - from)) }
-{
-    let end = name_bytes + (to - from);
-    copy(bytes, name_bytes, text, from, to);
-    ends[names] = end as u32;
-    end
-}
-
-// What becomes of the name that the text's bytes from `from` to before `to` are: its number, a new one, or 15, 14, 4, 5.
-fn judge_name(
-    bytes: &[u8],
-    ends: &[u32],
-    names: usize,
-    name_bytes: usize,
-    text: &[u8],
-    from: usize,
-    to: usize,
-) -> Naming
-    requires { (from ≤ to) × (to ≤ length text.now) }
-    ensures { result ≡ naming bytes.now ends.now names name_bytes (slice from to text.now) }
-{
-    if !list_fits(bytes.len(), ends.len(), names, name_bytes) {
-        return Naming::Refused(Refusal::BadMemory);
-    }
-    if !is_list(bytes, ends, names, name_bytes) {
-        return Naming::Refused(Refusal::IllFormed);
-    }
-    if !is_name(text, from, to) {
-        return Naming::Refused(Refusal::BadName);
-    }
-    let number = find_name(bytes, ends, names, text, from, to);
-    if number < names {
-        return Naming::Old(number as u32);
-    }
-    if has_room(bytes.len(), ends.len(), names, name_bytes, to - from) {
-        Naming::New(names as u32)
-    } else {
-        Naming::Refused(Refusal::NoNameRoom)
-    }
-}
-
-// The number of a name: the least with equal bytes, else the next new one, which joins the list; or 15, 14, 4, 5.
-pub fn number_of(
-    bytes: &mut [u8],
-    ends: &mut [u32],
-    names: usize,
-    name_bytes: usize,
-    text: &[u8],
-) -> Named
-    ensures result_value { named_of result ≡ naming_answer names name_bytes text.now (naming bytes.old ends.old names name_bytes text.now) }
-    ensures bytes_after { bytes.new ≡ bytes_after bytes.old name_bytes text.now (naming bytes.old ends.old names name_bytes text.now) }
-    ensures ends_after { ends.new ≡ ends_after ends.old names name_bytes text.now (naming bytes.old ends.old names name_bytes text.now) }
-{
-    let size = text.len();
-    let judged = judge_name(bytes, ends, names, name_bytes, text, 0, size);
-    match judged {
-        Naming::Old(number) => Named::Number {
-            number,
-            names,
-            name_bytes,
-        },
-        Naming::New(number) => {
-            let end = add_name(bytes, ends, names, name_bytes, text, 0, size);
-            Named::Number {
-                number,
-                names: names + 1,
-                name_bytes: end,
-            }
-        }
-        Naming::Refused(refusal) => Named::Refused(refusal),
-    }
+    is_name(&used[start..end])
 }
 
 // Where a name begins: at 0, or where the one before it ends.
-pub fn name_start(ends: &[u32], number: usize) -> usize
+#[tactic(auto, using(crate::specs::NamesLaws::start_first, crate::specs::NamesLaws::start_after))]
+fn name_start(ends: &[u32], number: usize) -> usize
     requires { number ≤ length ends.now }
     ensures { result ≡ name_start ends.now number }
 {
     if number == 0 {
         0
     } else {
-        place(ends[number - 1])
+        ends[number - 1] as usize
     }
 }
 
-// Where a name ends.
-pub fn name_end(ends: &[u32], number: usize) -> usize
-    requires { number < length ends.now }
-    ensures { result ≡ name_end ends.now number }
-{
-    place(ends[number])
+impl<'a> NameList<'a> {
+    // Whether the memory is within the limits, and the numbers in use within the memory; where not, 15.
+    #[tactic(auto, unfolding(crate::specs::Names::list_fits))]
+    pub fn fits(self) -> bool
+        ensures { result ≡ list_fits (length self.entry.bytes.now) (length self.entry.ends.now) self.entry.names self.entry.name_bytes }
+    {
+        self.ends.len() <= NAMES
+            && self.bytes.len() <= NAME_BYTES
+            && self.names <= self.ends.len()
+            && self.name_bytes <= self.bytes.len()
+    }
+
+    // Whether valid names stand one after another, up to the end of the bytes in use.
+    fn is_formed(self) -> bool
+        requires { (self.names ≤ length self.ends.now) × (self.name_bytes ≤ length self.bytes.now) }
+        ensures { result ≡ well_formed self.entry.bytes.now self.entry.ends.now self.entry.names self.entry.name_bytes }
+    {
+        let used = &self.bytes[..self.name_bytes];
+        let plain = is_plain(used);
+        let mut start = 0;
+        for last in &self.ends[..self.names] {
+            let end = *last as usize;
+            if !stands(used, plain, start, end) {
+                return false;
+            }
+            start = end;
+        }
+        start == self.name_bytes
+    }
+
+    // The list, checked; or 15 or 14.
+    #[tactic(auto, using(crate::specs::NamesLaws::memory, crate::specs::NamesLaws::ordered_list), unfolding(crate::specs::Names::check_names))]
+    pub fn check(self) -> Result<Names<'a>, Refusal>
+        ensures answer { answer_with no_values result ≡ check_names self.entry.bytes.now self.entry.ends.now self.entry.names self.entry.name_bytes }
+        ensures list { IfOk result (λ names. names.list ≡ self.entry) }
+        ensures formed { OnOk result
+            ((list_fits (length self.entry.bytes.now) (length self.entry.ends.now) self.entry.names self.entry.name_bytes ≡ true)
+            × (well_formed self.entry.bytes.now self.entry.ends.now self.entry.names self.entry.name_bytes ≡ true)) }
+    {
+        if !self.fits() {
+            return Err(Refusal::BadMemory);
+        }
+        if !self.is_formed() {
+            return Err(Refusal::IllFormed);
+        }
+        Ok(Names { list: self })
+    }
+
+    // Where a name lies, its first byte and its end; or 15, 14, 3.
+    pub fn place_of_name(self, number: u32) -> Result<NamePlace, Refusal>
+        ensures { answer_with place_values result
+            ≡ place_of_name self.entry.bytes.now self.entry.ends.now self.entry.names self.entry.name_bytes number }
+    {
+        let names = self.check()?;
+        names.place(number).ok_or(Refusal::UnknownSymbol)
+    }
+
+    // What becomes of a name: its number, a new one, or 15, 14, 4, 5.
+    fn naming(self, text: &[u8]) -> Result<Naming, Refusal>
+        ensures { result ≡ naming self.entry.bytes.now self.entry.ends.now self.entry.names self.entry.name_bytes text.now }
+    {
+        let names = self.check()?;
+        if !is_name(text) {
+            return Err(Refusal::BadName);
+        }
+        names.number_for(text)
+    }
 }
 
-// Where a name lies, its first byte and its end; or 15, 14, 3.
-pub fn place_of_name(
-    bytes: &[u8],
-    ends: &[u32],
-    names: usize,
-    name_bytes: usize,
-    number: u32,
-) -> NamePlace
-    ensures { placed_of result ≡ place_of_name bytes.now ends.now names name_bytes number }
-{
-    if !list_fits(bytes.len(), ends.len(), names, name_bytes) {
-        return NamePlace::Refused(Refusal::BadMemory);
+impl<'a> Names<'a> {
+    // Where a name lies; none where the number was never handed out.
+    #[tactic(auto, unfolding(crate::specs::Names::place_at))]
+    fn place(self, number: u32) -> Option<NamePlace>
+        ensures { result ≡ place_at self.entry.list.ends.now self.entry.list.names number }
+    {
+        let n = number as usize;
+        if self.list.names <= n {
+            return None;
+        }
+        let first = name_start(self.list.ends, n);
+        let end = self.list.ends[n] as usize;
+        Some(NamePlace { first, end })
     }
-    if !is_list(bytes, ends, names, name_bytes) {
-        return NamePlace::Refused(Refusal::IllFormed);
+
+    // The name with a number; none where the number was never handed out.
+    pub fn get(self, number: u32) -> Option<&'a [u8]>
+        ensures { option_copied result ≡ slice_get (names_in self.entry.list) number }
+    {
+        let place = self.place(number)?;
+        Some(&self.list.bytes[place.first..place.end])
     }
-    let n = place(number);
-    if names <= n {
-        return NamePlace::Refused(Refusal::UnknownSymbol);
+
+    // The least number of a name equal to the text; none where there is none.
+    pub fn find(self, text: &[u8]) -> Option<usize>
+        ensures { result ≡ found text.now (names_in self.entry.list) }
+    {
+        let mut start = 0;
+        for (n, last) in self.list.ends[..self.list.names].iter().enumerate() {
+            let end = *last as usize;
+            if &self.list.bytes[start..end] == text {
+                return Some(n);
+            }
+            start = end;
+        }
+        None
     }
-    let first = name_start(ends, n);
-    let end = name_end(ends, n);
-    NamePlace::At { first, end }
+
+    // Whether one name more, of so many bytes, passes neither a limit nor the room lent.
+    #[tactic(auto, using(crate::specs::NamesLaws::room_none, crate::specs::NamesLaws::room_some, crate::specs::NamesLaws::memory))]
+    fn has_room(self, size: usize) -> bool
+        requires { list_fits (length self.list.bytes.now) (length self.list.ends.now) self.list.names self.list.name_bytes ≡ true }
+        ensures { result
+            ≡ has_room (length self.entry.list.bytes.now) (length self.entry.list.ends.now) self.entry.list.names self.entry.list.name_bytes size }
+    {
+        self.list.names < self.list.ends.len()
+            && size <= self.list.bytes.len() - self.list.name_bytes
+    }
+
+    // What becomes of a valid name: it has the least number with equal bytes, else it gets the next new one, or 5.
+    #[tactic(auto, using(crate::specs::NamesLaws::memory))]
+    pub fn number_for(self, text: &[u8]) -> Result<Naming, Refusal>
+        requires { list_fits (length self.list.bytes.now) (length self.list.ends.now) self.list.names self.list.name_bytes ≡ true }
+        ensures { result
+            ≡ numbering (length self.entry.list.bytes.now) (length self.entry.list.ends.now) self.entry.list.names self.entry.list.name_bytes
+            (length text.now) (least text.now (names_in self.entry.list)) }
+    {
+        match self.find(text) {
+            Some(number) => Ok(Naming::Old(number as u32)),
+            None if self.has_room(text.len()) => Ok(Naming::New(self.list.names as u32)),
+            None => Err(Refusal::NoNameRoom),
+        }
+    }
+}
+
+impl NameRoom<'_> {
+    // The list as it stands.
+    pub fn list(&self) -> NameList<'_>
+        ensures { (result.bytes.now ≡ self.now.bytes.now) × (result.ends.now ≡ self.now.ends.now)
+            × (result.names ≡ self.now.names) × (result.name_bytes ≡ self.now.name_bytes) }
+    {
+        NameList {
+            bytes: self.bytes,
+            ends: self.ends,
+            names: self.names,
+            name_bytes: self.name_bytes,
+        }
+    }
+
+    // Adds the text as a new name.
+    pub fn add(&mut self, text: &[u8])
+        requires names_in_bounds { (self.old.names < length self.old.ends.now) × (self.old.name_bytes + length text.now ≤ length self.old.bytes.now)
+            × (self.old.name_bytes + length text.now < 4294967296) }
+        ensures { Added self.old text.now self.new }
+    {
+        let end = self.name_bytes + text.len();
+        self.bytes[self.name_bytes..end].copy_from_slice(text);
+        self.ends[self.names] = end as u32;
+        self.names += 1;
+        self.name_bytes = end;
+    }
+
+    // The number of a name: the least with equal bytes, else the next new one, which joins the list; or 15, 14, 4, 5.
+    pub fn number_of(&mut self, text: &[u8]) -> Result<u32, Refusal>
+        ensures answer { answer_with (named_values self.new) result ≡ naming_answer self.old.names self.old.name_bytes text.now
+            (naming self.old.bytes.now self.old.ends.now self.old.names self.old.name_bytes text.now) }
+        ensures after { Named self.old text.now (naming self.old.bytes.now self.old.ends.now self.old.names self.old.name_bytes text.now) self.new }
+    {
+        match self.list().naming(text)? {
+            Naming::Old(number) => Ok(number),
+            Naming::New(number) => {
+                self.add(text);
+                Ok(number)
+            }
+        }
+    }
 }

@@ -30,6 +30,14 @@ utf8_3 a b c =
     || three 0xED 0xED 0x80 0x9F a b c
     || three 0xEE 0xEF 0x80 0xBF a b c
 
+-- its first two bytes
+unfoldable pub begins_3 : ℕ → ℕ → Bool
+begins_3 a b =
+    (within 0xE0 0xE0 a && within 0xA0 0xBF b)
+    || (within 0xE1 0xEC a && is_tail b)
+    || (within 0xED 0xED a && within 0x80 0x9F b)
+    || (within 0xEE 0xEF a && is_tail b)
+
 -- %xFROM-TO %xLOW-HIGH 2( UTF8-tail )
 unfoldable pub four : ℕ → ℕ → ℕ → ℕ → ℕ → ℕ → ℕ → ℕ → Bool
 four from to low high a b c d = three from to low high a b c && is_tail d
@@ -40,6 +48,10 @@ utf8_4 a b c d =
     four 0xF0 0xF0 0x90 0xBF a b c d
     || four 0xF1 0xF3 0x80 0xBF a b c d
     || four 0xF4 0xF4 0x80 0x8F a b c d
+
+-- its first two bytes
+unfoldable pub begins_4 : ℕ → ℕ → Bool
+begins_4 a b = (within 0xF0 0xF0 a && within 0x90 0xBF b) || (within 0xF1 0xF3 a && is_tail b) || (within 0xF4 0xF4 a && within 0x80 0x8F b)
 
 -- RFC 3629, 4: UTF8-octets = *( UTF8-char ), UTF8-char = UTF8-1 / UTF8-2 / UTF8-3 / UTF8-4.
 -- Nothing, or a UTF8-char and then UTF8-octets. No UTF8-char is another's beginning, so the first that fits is the one that stands there.

@@ -2,10 +2,10 @@
 use Rattle.std.specs.Prelude.{ℕ, ◌+◌, ◌≤◌, ◌<◌, Bool, false, ◌&&◌, ◌||◌, ◌≡◌, refl, leb}
 use Rattle.std.proofs.Math.Bool.{true}
 use Rattle.std.proofs.lemmas.Bool.{false≢true}
-use Rattle.std.proofs.Common.{◌∙◌, sym, arith}
+use Rattle.std.proofs.Common.{ap, ◌∙◌, sym, arith}
 use Rattle.std.proofs.Math.Decide.{dec_lt}
 use borrow.Author.Tests.{leb-true, leb-false, le-leb}
-use Rattle.leaves_utf8.specs.Utf8.{within, is_tail, utf8_1, utf8_2, three, utf8_3, four, utf8_4}
+use Rattle.leaves_utf8.specs.Utf8.{within, is_tail, utf8_1, utf8_2, three, begins_3, utf8_3, four, begins_4, utf8_4}
 use Rattle.theory.specs.Bools.{both, and_false}
 
 -- ---- a byte within bounds, or not
@@ -143,6 +143,39 @@ module _ (a b c : ℕ) where
             (three_1st 0xE1 0xEC 0x80 0xBF a b c (λ p q. omega arith))
             (three_1st 0xED 0xED 0x80 0x9F a b c (λ p q. y (omega arith)))
             (three_yes 0xEE 0xEF 0x80 0xBF a b c (rise (omega arith) y) h bounds.0 bounds.1 tc)
+
+or_and : (p q r : Bool) → ((p && r) || (q && r)) ≡ ((p || q) && r)
+or_and true true true = refl
+or_and true true false = refl
+or_and true false true = refl
+or_and true false false = refl
+or_and false q r = refl
+
+-- the first two bytes, then a UTF8-tail
+pub by_two_3 : (a b c : ℕ) → (begins_3 a b && is_tail c) ≡ utf8_3 a b c
+unfolding begins_3 utf8_3 three
+by_two_3 a b c =
+    let t = is_tail c in
+    let p = within 0xE0 0xE0 a && within 0xA0 0xBF b in
+    let q = within 0xE1 0xEC a && is_tail b in
+    let r = within 0xED 0xED a && within 0x80 0x9F b in
+    let s = within 0xEE 0xEF a && is_tail b in
+    sym (ap (λ (x : Bool). x || (r && t) || (s && t)) (or_and p q t) ∙ ap (λ (x : Bool). x || (s && t)) (or_and (p || q) r t) ∙ or_and (p || q || r) s t)
+
+-- and two
+pub by_two_4 : (a b c d : ℕ) → (begins_4 a b && is_tail c && is_tail d) ≡ utf8_4 a b c d
+unfolding begins_4 utf8_4 four three
+by_two_4 a b c d =
+    let t = is_tail c in
+    let u = is_tail d in
+    let p = within 0xF0 0xF0 a && within 0x90 0xBF b in
+    let q = within 0xF1 0xF3 a && is_tail b in
+    let r = within 0xF4 0xF4 a && within 0x80 0x8F b in
+    sym
+    (ap (λ (x : Bool). x || (r && t && u)) (or_and (p && t) (q && t) u)
+    ∙ ap (λ (x : Bool). (x && u) || (r && t && u)) (or_and p q t)
+    ∙ or_and ((p || q) && t) (r && t) u
+    ∙ ap (λ (x : Bool). x && u) (or_and (p || q) r t))
 
 -- ---- what a first byte says of the other productions
 

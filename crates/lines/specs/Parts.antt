@@ -1,14 +1,14 @@
 -- A section of a kind found in place (whole length 4 bytes, kind 2, then the content), and its laws. All little-endian; a section's whole
 -- length counts its own 6 bytes before the content. Assumes nothing.
-use Rattle.std.specs.Prelude.{◌≡◌, ◌≢◌, ℕ, ◌+◌, ◌-◌, ◌≤◌, ◌<◌, Bool, ◌&&◌, List, length}
+use Rattle.std.specs.Prelude.{◌≡◌, ℕ, ◌+◌, ◌-◌, ◌≤◌, ◌<◌, Bool, ◌&&◌, List, length, Option, Some, None}
 use Rattle.std.proofs.Math.Path.{refl, sym}
-use Rattle.std.proofs.Common.{ap, ◌∙◌, add-zero, arith}
+use Rattle.std.proofs.Common.{ap, ◌∙◌, arith, take_all}
 use Rattle.std.proofs.Math.Bool.{true, false, cond}
-use Rattle.std.proofs.Math.ListN.{drop, length-drop}
+use Rattle.std.proofs.Math.ListN.{take, drop, length-drop}
 use Rattle.std.proofs.Math.Dec.{leb, eqb}
 use borrow.Author.Tests.{leb-true, eqb-true, le-leb, eq-eqb}
 use Rattle.theory.specs.Bools.{both}
-use Rattle.theory.specs.Fields.{field, field_drop}
+use Rattle.theory.specs.Fields.{field}
 
 -- the whole length that the section at the front of s says
 abbrev pub size_of : List ℕ → ℕ
@@ -22,13 +22,13 @@ kind_of s = field 2 s 4
 unfoldable pub is_part : ℕ → List ℕ → Bool
 is_part kind s = leb 6 (length s) && leb 6 (size_of s) && leb (size_of s) (length s) && eqb (kind_of s) kind
 
--- its whole length, 0 where none stands there
-unfoldable pub part_size : ℕ → List ℕ → ℕ
-part_size kind s = cond (is_part kind s) (size_of s) 0
+-- its whole length, if one stands there
+unfoldable pub part_size : ℕ → List ℕ → Option ℕ
+part_size kind s = cond (is_part kind s) (Some (size_of s)) None
 
--- where the one that stands at a place ends; 0 where none stands there
-unfoldable pub part_end : ℕ → List ℕ → ℕ → ℕ
-part_end kind b at = cond (is_part kind (drop at b)) (at + size_of (drop at b)) 0
+-- where the one that stands at a place ends, if one stands there
+unfoldable pub part_end : ℕ → List ℕ → ℕ → Option ℕ
+part_end kind b at = cond (is_part kind (drop at b)) (Some (at + size_of (drop at b))) None
 
 -- ---- a section at the front
 
@@ -53,13 +53,13 @@ module _ (kind : ℕ) (s : List ℕ) where
       }
 
   -- what a size says
-  pub size_none : part_size kind s ≡ 0 → is_part kind s ≡ false
+  pub size_none : None ≡ part_size kind s → is_part kind s ≡ false
   unfolding part_size
-  size_none e = go (is_part kind s) refl e
+  size_none e = go (is_part kind s) e
     where
-      go : (b : Bool) → is_part kind s ≡ b → cond b (size_of s) 0 ≡ 0 → b ≡ false
-      go true w z = let h = part_yes w in absurd (omega (arith, h.size))
-      go false w z = refl
+      go : (b : Bool) → None ≡ cond b (Some (size_of s)) None → b ≡ false
+      go true z = cc
+      go false z = refl
 
 -- a section of the kind and of n bytes stands at the front of s
 pub record Sized (kind : ℕ) (s : List ℕ) (n : ℕ) : Type 0 where
@@ -67,67 +67,74 @@ pub record Sized (kind : ℕ) (s : List ℕ) (n : ℕ) : Type 0 where
   pub part : Part kind s
   pub size : n ≡ size_of s
 
-pub size_some : (kind : ℕ) (s : List ℕ) (n : ℕ) → n ≡ part_size kind s → (n ≡ 0 → ⊥) → Sized kind s n
+pub size_some : (kind : ℕ) (s : List ℕ) (n : ℕ) → Some n ≡ part_size kind s → Sized kind s n
 unfolding part_size
-size_some kind s n e d = go (is_part kind s) refl e
+size_some kind s n e = go (is_part kind s) refl e
   where
-    go : (b : Bool) → is_part kind s ≡ b → n ≡ cond b (size_of s) 0 → Sized kind s n
-    go true w z = record { stands = w; part = part_yes kind s w; size = z }
-    go false w z = absurd (d z)
+    go : (b : Bool) → is_part kind s ≡ b → Some n ≡ cond b (Some (size_of s)) None → Sized kind s n
+    go true w z = record { stands = w; part = part_yes kind s w; size = cc }
+    go false w z = cc
 
--- ---- what the code reads at a place
+-- ---- what the code reads
 
-size_at : (b : List ℕ) (at : ℕ) → size_of (drop at b) ≡ field 4 b at
-size_at b at = field_drop 4 b at 0 ∙ ap (field 4 b) (add-zero at)
-
-module _ (kind : ℕ) (b : List ℕ) (at : ℕ) where
-  none_there : (Part kind (drop at b) → ⊥) → 0 ≡ part_size kind (drop at b)
+module _ (kind : ℕ) (s : List ℕ) where
+  none_there : (Part kind s → ⊥) → None ≡ part_size kind s
   unfolding part_size
-  none_there d = go (is_part kind (drop at b)) refl
+  none_there d = go (is_part kind s) refl
     where
-      go : (c : Bool) → is_part kind (drop at b) ≡ c → 0 ≡ cond c (size_of (drop at b)) 0
-      go true e = absurd (d (part_yes kind (drop at b) e))
+      go : (c : Bool) → is_part kind s ≡ c → None ≡ cond c (Some (size_of s)) None
+      go true e = absurd (d (part_yes kind s e))
       go false e = refl
 
-  pub no_head : length b - at < 6 → 0 ≡ part_size kind (drop at b)
-  no_head h = none_there (λ w. omega (arith, w.head, length-drop at b))
+  pub no_head : length s < 6 → None ≡ part_size kind s
+  no_head h = none_there (λ w. omega (arith, w.head))
 
-  pub no_size : {n : ℕ} → n ≡ field 4 b at → n < 6 → 0 ≡ part_size kind (drop at b)
-  no_size e h = none_there (λ w. omega (arith, w.size, size_at b at))
+  pub no_size : {n : ℕ} → n ≡ size_of s → n < 6 → None ≡ part_size kind s
+  no_size e h = none_there (λ w. omega (arith, w.size))
 
-  pub no_end : {n : ℕ} → n ≡ field 4 b at → length b - at < n → 0 ≡ part_size kind (drop at b)
-  no_end e h = none_there (λ w. omega (arith, w.ends, size_at b at, length-drop at b))
+  pub no_end : {n : ℕ} → n ≡ size_of s → length s < n → None ≡ part_size kind s
+  no_end e h = none_there (λ w. omega (arith, w.ends))
 
-  pub no_kind : {k : ℕ} → k ≡ field 2 b (at + 4) → (k ≡ kind → ⊥) → 0 ≡ part_size kind (drop at b)
-  no_kind e d = none_there (λ w. d (e ∙ sym (field_drop 2 b at 4) ∙ w.kind_is))
+  pub no_kind : {k : ℕ} → k ≡ kind_of s → (k ≡ kind → ⊥) → None ≡ part_size kind s
+  no_kind e d = none_there (λ w. d (e ∙ w.kind_is))
 
-  pub size_there : {n k : ℕ} → n ≡ field 4 b at → k ≡ field 2 b (at + 4) → 6 ≤ length b - at → 6 ≤ n → n ≤ length b - at → k ≡ kind
-      → n ≡ part_size kind (drop at b)
+  pub size_there : {n k : ℕ} → n ≡ size_of s → k ≡ kind_of s → 6 ≤ n → n ≤ length s → k ≡ kind → Some n ≡ part_size kind s
   unfolding part_size is_part
-  size_there {n} {k} en ek h l u one =
-      let s = drop at b in
-      let a : leb 6 (length s) ≡ true = le-leb 6 (length s) (omega (arith, length-drop at b)) in
-      let c : leb 6 (size_of s) ≡ true = le-leb 6 (size_of s) (omega (arith, size_at b at)) in
-      let d : leb (size_of s) (length s) ≡ true = le-leb (size_of s) (length s) (omega (arith, size_at b at, length-drop at b)) in
-      let e : eqb (kind_of s) kind ≡ true = eq-eqb (kind_of s) kind (field_drop 2 b at 4 ∙ sym ek ∙ one) in
-      rw (a, c, d, e) (en ∙ sym (size_at b at))
+  size_there {n} {k} en ek l u one =
+      let a : leb 6 (length s) ≡ true = le-leb 6 (length s) (omega arith) in
+      let c : leb 6 (size_of s) ≡ true = le-leb 6 (size_of s) (omega arith) in
+      let d : leb (size_of s) (length s) ≡ true = le-leb (size_of s) (length s) (omega arith) in
+      let e : eqb (kind_of s) kind ≡ true = eq-eqb (kind_of s) kind (sym ek ∙ one) in
+      rw (a, c, d, e) (ap (λ (i : ℕ). Some i) en)
+
+-- the bytes from a place on, as the code takes them
+abbrev pub rest_from : List ℕ → ℕ → List ℕ
+rest_from b at = take (length b - at) (drop at b)
+
+module _ (kind : ℕ) (b : List ℕ) (at : ℕ) where
+  rest_all : part_size kind (rest_from b at) ≡ part_size kind (drop at b)
+  rest_all = ap (part_size kind) (take_all (length b - at) (drop at b) (omega (arith, length-drop at b)))
+
+  pub none_at : None ≡ part_size kind (rest_from b at) → is_part kind (drop at b) ≡ false
+  none_at e = size_none kind (drop at b) (e ∙ rest_all)
+
+  pub some_at : {n : ℕ} → Some n ≡ part_size kind (rest_from b at) → Sized kind (drop at b) n
+  some_at {n} e = size_some kind (drop at b) n (e ∙ rest_all)
 
   -- where it ends: nowhere where it has no size, else behind its bytes
-  pub end_none : {n : ℕ} → n ≡ part_size kind (drop at b) → n ≡ 0 → 0 ≡ part_end kind b at
+  pub end_none : None ≡ part_size kind (rest_from b at) → None ≡ part_end kind b at
   unfolding part_end
-  end_none e z = rw (size_none kind (drop at b) (sym e ∙ z)) refl
+  end_none e = rw (none_at e) refl
 
-  pub end_some : {n : ℕ} → at ≤ length b → n ≡ part_size kind (drop at b) → (n ≡ 0 → ⊥) → (at + n ≡ part_end kind b at) × (at + n ≤ length b)
+  pub end_some : {n : ℕ} → Some n ≡ part_size kind (rest_from b at) → Some (at + n) ≡ part_end kind b at
   unfolding part_end
-  end_some {n} h e d =
-      let x = size_some kind (drop at b) n e d in
-      (rw x.stands (ap (λ (i : ℕ). at + i) x.size), omega (arith, x.part.ends, x.size, length-drop at b))
+  end_some e = let x = some_at e in rw x.stands (ap (λ (i : ℕ). Some (at + i)) x.size)
 
   -- a section takes 6 bytes at least
-  pub part_long : part_end kind b at ≢ 0 → at + 6 ≤ part_end kind b at
+  pub part_long : {e : ℕ} → Some e ≡ part_end kind b at → at + 6 ≤ e
   unfolding part_end
-  part_long d = go (is_part kind (drop at b)) refl d
+  part_long {e} d = go (is_part kind (drop at b)) refl d
     where
-      go : (c : Bool) → is_part kind (drop at b) ≡ c → cond c (at + size_of (drop at b)) 0 ≢ 0 → at + 6 ≤ cond c (at + size_of (drop at b)) 0
-      go true e f = let w = part_yes kind (drop at b) e in omega (arith, w.size)
-      go false e f = absurd (f refl)
+      go : (c : Bool) → is_part kind (drop at b) ≡ c → Some e ≡ cond c (Some (at + size_of (drop at b))) None → at + 6 ≤ e
+      go true w f = let u = part_yes kind (drop at b) w in let g : e ≡ at + size_of (drop at b) = cc in omega (arith, u.size)
+      go false w f = cc

@@ -1,11 +1,11 @@
 -- A bundle (RULES, Merging records): sections of whole length (4 bytes), kind (2, always 1), then one stream.
+use Rattle.std.specs.Prelude as std
 use Rattle.std.specs.Prelude.{◌≡◌, ℕ, zero, suc, ◌+◌, ◌≤◌, ◌<◌, ◌&&◌, cond, List, [], ◌∷◌, ◌++◌, length, get_or, drop, leb, eqb}
 use Rattle.std.proofs.Math.Option.{Option, none, some}
 use Rattle.std.proofs.Math.Seq.{slice}
 use Rattle.leaves_limits.specs.Limits.{most_bundle, most_streams}
 use Rattle.lines.specs.Parts.{size_of, is_part}
 use Rattle.lines.specs.declared.sections.Parted.{Parted}
-use Rattle.lines.specs.declared.sections.Parted.TheVariants.{Streams, Bad}
 
 -- the stream of the section at the front of s: what follows its 6 bytes
 unfoldable pub stream_of : List ℕ → List ℕ
@@ -66,6 +66,6 @@ pub record Apart (bundle buffer cuts : List ℕ) (n bytes : ℕ) : Type 0 where
   pub fits : bytes ≤ most_bundle
 
 -- what an answer says of the bundle
-abbrev pub PartedOk : List ℕ → List ℕ → List ℕ → Parted → Type 0
-PartedOk bundle buffer cuts (Streams n bytes) = Apart bundle buffer cuts n bytes
-PartedOk bundle buffer cuts Bad = streams_in bundle ≡ none
+abbrev pub PartedOk : List ℕ → List ℕ → List ℕ → std.Option Parted → Type 0
+PartedOk bundle buffer cuts (std.Some p) = Apart bundle buffer cuts p.count p.bytes
+PartedOk bundle buffer cuts std.None = streams_in bundle ≡ none

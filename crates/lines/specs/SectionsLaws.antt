@@ -1,6 +1,6 @@
 -- Laws on sections: the equation without a count, and the loop that takes a bundle apart, turn by turn.
 -- Assumes nothing.
-use Rattle.std.specs.Prelude.{◌≡◌, refl, ℕ, zero, suc, ◌+◌, ◌-◌, ◌*◌, ◌≤◌, ◌<◌, Bool, true, false, ◌&&◌, cond, length, leb, eqb}
+use Rattle.std.specs.Prelude.{Some, None, ◌≡◌, refl, ℕ, zero, suc, ◌+◌, ◌-◌, ◌*◌, ◌≤◌, ◌<◌, Bool, true, false, ◌&&◌, cond, length, leb, eqb}
 use Rattle.std.proofs.Math.Path.{sym, ap, ap₂}
 use Rattle.std.proofs.Common.{◌∙◌, zero-le, add-one, arith}
 use Rattle.std.proofs.Math.Nat.{sub-zero}
@@ -9,9 +9,11 @@ use Rattle.std.proofs.Math.Option.{Option, none, some}
 use mathlib.Core.List.{List, [], ◌∷◌, ◌++◌, append_assoc, append-nil}
 use Rattle.std.proofs.Math.ListN.{get_or, set, take, drop, length-append, length-drop, get_or-append}
 use Rattle.std.proofs.Math.Seq.{slice, paste, take-nil, drop-drop, drop_at, take-append-le, length-take-le, take-take, get_or-set_same, get_or-set_other, get_or-append_seam}
-use Rattle.std.proofs.lemmas.List.Edits.{take-paste}
+use Rattle.std.proofs.lemmas.List.Edits.{take-paste, length-paste}
+use Rattle.std.proofs.lemmas.Slice.{put_mid-paste}
+use borrow.Rule.Slice.PartMut.{put_mid}
 use borrow.Author.Tests.{le-leb, lt-leb, eq-eqb, ne_eqb}
-use Rattle.lines.specs.Parts.{size_of, is_part, part_size, part_yes, size_none, Sized, size_some}
+use Rattle.lines.specs.Parts.{size_of, is_part, part_size, part_yes, Sized, rest_from, none_at, some_at}
 use Rattle.lines.specs.Sections.{stream_of, ahead, sections_f, sections, few, streams_in, stream_at, cut_out, Cuts, Apart}
 
 -- ---- sections, with no count
@@ -211,21 +213,27 @@ module _ {bundle buffer cuts : List ℕ} {at bytes count size : ℕ} (t : Taking
       low p h (yes e) = rw e (omega (arith, new_cut))
       low p h (no d) = omega (arith, old_cut p (omega arith), t.below p (omega arith))
 
--- what a turn leans on
-pub record Turned (bundle : List ℕ) (at bytes count size : ℕ) : Type 0 where
-  pub sized : Sized 1 (drop at bundle) size
-  pub least : 6 ≤ size
-  pub ends : at + size ≤ length bundle
-  pub room : bytes + size ≤ 60006
-  pub few : count < 256
+-- a section's content laid behind what the buffer has
+module _ (buffer bundle : List ℕ) (at bytes size : ℕ) {ys : List ℕ} (h : 6 ≤ size) (l : at + size ≤ length bundle)
+    (f : ys ≡ take (at + size - (at + 6)) (drop (at + 6) bundle)) where
+  content : List ℕ
+  content = drop (at + 6) bundle
 
-pub turned : {bundle buffer cuts : List ℕ} {at bytes count size : ℕ} → Taking bundle buffer cuts at bytes count → at < length bundle
-    → length bundle ≤ 60000 → (count ≡ 256 → ⊥) → size ≡ part_size 1 (drop at bundle) → (size ≡ 0 → ⊥) → Turned bundle at bytes count size
-turned {bundle} {buffer} {cuts} {at} {bytes} {count} {size} t more small d e n =
-    let z = size_some 1 (drop at bundle) size e n in
-    let l : length (drop at bundle) ≡ length bundle - at = length-drop at bundle in
-    let u : at + size ≤ length bundle = omega (arith, z.part.ends, z.size) in
-    record { sized = z; least = omega (arith, z.part.size, z.size); ends = u; room = omega (arith, t.laid); few = omega (arith, t.few) }
+  content_long : size - 6 ≤ length content
+  unfolding content
+  content_long = omega (arith, length-drop (at + 6) bundle)
+
+  pub laid_part : put_mid bytes (bytes + size - 6 - bytes) buffer ys ≡ paste buffer bytes (drop (at + 6) bundle) (size - 6)
+  unfolding content
+  laid_part =
+      let n : at + size - (at + 6) ≡ size - 6 = omega arith in
+      put_mid-paste bytes (bytes + size - 6 - bytes) buffer ys (take (size - 6) content) (size - 6) (f ∙ ap (λ (j : ℕ). take j content) n) (omega arith)
+      (sym (length-take-le (size - 6) content content_long))
+      ∙ ap (λ (xs : List ℕ). take bytes buffer ++ xs ++ drop (bytes + (size - 6)) buffer) (take-take (size - 6) (size - 6) content (omega arith))
+
+  pub part_kept : bytes + (size - 6) ≤ length buffer → length (put_mid bytes (bytes + size - 6 - bytes) buffer ys) ≡ length buffer
+  unfolding content
+  part_kept r = ap length laid_part ∙ length-paste buffer bytes content (size - 6) r content_long
 
 -- ---- how the loop ends
 
@@ -273,10 +281,10 @@ module _ {bundle buffer cuts : List ℕ} {at bytes count : ℕ} (t : Taking bund
       ))
 
   -- no section where one should stand
-  pub bad_section : at < length bundle → part_size 1 (drop at bundle) ≡ 0 → streams_in bundle ≡ none
+  pub bad_section : at < length bundle → None ≡ part_size 1 (rest_from bundle at) → streams_in bundle ≡ none
   unfolding few ahead
   bad_section more e =
-      judged ∙ ap (λ (o : Option (List (List ℕ))). few (ahead (cut_out buffer cuts count) o)) (sections_bad (drop at bundle) (omega (arith, length-drop at bundle)) (size_none 1 (drop at bundle) e))
+      judged ∙ ap (λ (o : Option (List (List ℕ))). few (ahead (cut_out buffer cuts count) o)) (sections_bad (drop at bundle) (omega (arith, length-drop at bundle)) (none_at 1 bundle at e))
 
   ended : length bundle ≤ at → streams_in bundle ≡ few (some (cut_out buffer cuts count))
   unfolding ahead

@@ -1,5 +1,5 @@
 // What a program over a table is asked: three sections, the name count (4 bytes), the table's intervals, and one of a last kind.
-ghost use Rattle.std.specs.Prelude.{◌≡◌, length};
+ghost use Rattle.std.specs.Prelude.{◌≡◌, length, IfSome};
 ghost use Rattle.lines.specs.Asked.{table_end, Apart};
 
 use crate::parts::part_end;
@@ -12,24 +12,17 @@ pub const TABLE: u16 = 3;
 // The section with the name count takes so many bytes.
 pub const NAMES_BYTES: usize = 10;
 
-// Where the table's section ends, or 0 where the input is over so many bytes or not the three sections.
-pub fn table_end(input: &[u8], most: usize, last: u16) -> usize
-    ensures { (result ≡ table_end most last input.now) × Apart result (length input.now) }
+// Where the table's section ends; none where the input is over so many bytes or not the three sections.
+pub fn table_end(input: &[u8], most: usize, last: u16) -> Option<usize>
+    ensures whole { result ≡ table_end most last input.now }
+    ensures apart { IfSome result (λ end. Apart end (length input.now)) }
 {
-    if most < input.len() {
-        return 0;
+    if most < input.len() || part_end(input, 0, NAMES)? != NAMES_BYTES {
+        return None;
     }
-    let first = part_end(input, 0, NAMES);
-    if first != NAMES_BYTES {
-        return 0;
+    let end = part_end(input, NAMES_BYTES, TABLE)?;
+    if part_end(input, end, last)? != input.len() {
+        return None;
     }
-    let end = part_end(input, first, TABLE);
-    if end == 0 {
-        return 0;
-    }
-    let behind = part_end(input, end, last);
-    if behind != input.len() {
-        return 0;
-    }
-    end
+    Some(end)
 }

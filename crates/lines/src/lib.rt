@@ -2,7 +2,6 @@
 #![tactic(auto)]
 
 pub mod asked;
-mod copy;
 pub mod lines;
 pub mod parts;
 pub mod sections;

@@ -1,4 +1,5 @@
-// The lines of a replay (RULES, Merging records), laid one behind the other in lent bytes.
+// The lines of a replay (RULES, Merging records), laid one behind the other in lent bytes. A place goes in beside the text and comes out: a
+// struct over both would be no plainer, since each contract would say besides that the lent bytes keep their length.
 ghost use Rattle.std.specs.Prelude.{◌+◌, ◌≤◌, length};
 ghost use Rattle.lines.specs.Lines.{decimal, record_line, damage_line, Lays};
 
@@ -7,8 +8,9 @@ pub fn word(text: &mut [u8], at: usize, word: &[u8]) -> usize
     requires { at + length word.now ≤ length text.old }
     ensures { Lays text.old at word.now result text.new }
 {
-    crate::copy::copy(text, at, word, 0, word.len());
-    at + word.len()
+    let next = at + word.len();
+    text[at..next].copy_from_slice(word);
+    next
 }
 
 // Lays a number's decimal digits at a place, and answers the place behind them.

@@ -10,40 +10,40 @@ use leaves_limits::{BUNDLE_BYTES, STREAMS};
 // The kind of a section that holds a stream.
 const STREAM: u16 = 1;
 
-// A bundle taken apart: this many streams, of this many bytes in all; or bad.
-#[derive(Clone, Copy)]
-pub enum Parted {
-    Streams { count: usize, bytes: usize },
-    Bad,
+// A bundle taken apart: this many streams, of this many bytes in all.
+#[derive(Clone, Copy, Debug, PartialEq, Eq)]
+pub struct Parted {
+    pub count: usize,
+    pub bytes: usize,
 }
 
-// Takes a bundle apart: the streams' bytes one after another in the buffer, and where each begins and ends in the cuts.
-pub fn part(bundle: &[u8], buffer: &mut [u8], cuts: &mut [u64]) -> Parted
+// Takes a bundle apart: the streams' bytes one after another in the buffer, and where each begins and ends in the cuts. None: a bad
+// bundle.
+pub fn part(bundle: &[u8], buffer: &mut [u8], cuts: &mut [u64]) -> Option<Parted>
     requires { (most_bundle ≤ length buffer.old) × (257 ≤ length cuts.old) × (get_or cuts.old 0 0 ≡ 0) }
     ensures { PartedOk bundle.now buffer.new cuts.new result }
 {
     if BUNDLE_BYTES < bundle.len() {
-        return Parted::Bad;
+        return None;
     }
+    // No `for` is plainer: the three places go on by different steps.
     let mut at = 0;
     let mut bytes = 0;
     let mut count = 0;
     while at < bundle.len() {
         if count == STREAMS {
-            return Parted::Bad;
+            return None;
         }
-        let size = part_size(bundle, at, STREAM);
-        if size == 0 {
-            return Parted::Bad;
-        }
-        crate::copy::copy(buffer, bytes, bundle, at + PART_HEAD, size - PART_HEAD);
-        bytes += size - PART_HEAD;
+        let size = part_size(&bundle[at..], STREAM)?;
+        let end = bytes + size - PART_HEAD;
+        buffer[bytes..end].copy_from_slice(&bundle[at + PART_HEAD..at + size]);
+        bytes = end;
         at += size;
         count += 1;
         cuts[count] = bytes as u64;
     }
     if count == 0 {
-        return Parted::Bad;
+        return None;
     }
-    Parted::Streams { count, bytes }
+    Some(Parted { count, bytes })
 }

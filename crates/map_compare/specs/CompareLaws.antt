@@ -1,55 +1,28 @@
 -- What the loops of a comparison keep, and which outcome it has by its tests. Assumes nothing.
-use Rattle.std.specs.Prelude.{◌≡◌, ◌≢◌, ℕ, ◌+◌, ◌-◌, ◌*◌, ◌/◌, ◌%◌, ◌≤◌, ◌<◌, Bool, true, false, not, ◌&&◌, ◌||◌, cond, List, [], ◌∷◌, length, ltb}
+use Rattle.std.specs.Prelude.{◌≡◌, ℕ, ◌+◌, ◌*◌, ◌/◌, ◌%◌, ◌≤◌, ◌<◌, Bool, true, false, not, ◌&&◌, cond, List, [], ◌∷◌, length, Result, Ok, Err, IsErrAnd, Option, Some, None}
 use Rattle.std.proofs.Math.Path.{refl, sym, ap}
 use Rattle.std.proofs.Common.{◌∙◌, arith}
 use Rattle.std.proofs.Math.Dec.{eqb}
-use Rattle.std.proofs.Math.Facts.{ltb_yes, ltb_no}
 use Rattle.theory.specs.Bools.{both, true_T, false_T, fails, holds}
 use Rattle.theory.specs.Answer.{Answer, answer}
 use Rattle.theory.specs.RunsTools.{cond_yes, cond_no, cond_lt, cond_ge}
-use Rattle.map_rules.specs.Table.{Row, Outcome, refused_by, stored, if_room, names_fit, well_formed}
-use Rattle.map_rules.specs.Memory.{same_value, known_value, width, rows, rows_from, table_fits}
+use Rattle.map_rules.specs.Table.{Row, refused_by, if_room, names_fit, well_formed}
+use Rattle.map_rules.specs.Memory.{same_value, known_value, width, rows, table_fits}
 use Rattle.map_rules.specs.MemoryLaws.{length_rows}
 use Rattle.map_rules.specs.Outcomes.{Lent, table_lent, checked_ordered}
-use Rattle.map_compare_rules.specs.Compare.{Difference, Stretches, compared}
+use Rattle.map_compare_rules.specs.Compare.{Difference, Stretches}
 use Rattle.map_compare_rules.specs.Laws.{compared_length}
-use Rattle.map_compare_rules.specs.Memory.{Value, stretch_width, put_stretch, compare_fits, both_formed, stretches_of, compare_outcome, compared_answer, compared_memory, Compares, lay_stretches}
+use Rattle.map_compare_rules.specs.Memory.{Value, nothing, symbol_in, stretch_width, put_stretch, compare_fits, both_formed, stretches_of, compare_outcome, compared_answer, compared_memory, Compares, lay_stretches}
 use Rattle.map_compare_rules.specs.MemoryLaws.{length_put_stretch, lay_memory}
-use Rattle.map_compare.specs.Compare.{Needed}
-use Rattle.map_compare_walk.specs.declared.walk.Position.{Position}
-use Rattle.map_compare_walk.specs.declared.walk.Stretch.{Stretch}
-use Rattle.map_compare_walk.specs.declared.walk.Step.{Step}
-use Rattle.map_compare_walk.specs.Walk.{headed, from, ahead, InOrder, Ready, More, Stepped, stretch_of, told, told_of, tells_of, written_of}
-use Rattle.map_compare_walk.specs.WalkLaws.{from_end, headed_zero, row_not_empty}
+use Rattle.map_compare.specs.Compare.{tables_answer, Holds, Needed}
+use Rattle.map_compare_walk.specs.declared.tables.Tables.{Tables}
+use Rattle.std.specs.Option.{unwrap_or}
+use Rattle.map_compare_walk.specs.Walk.{InOrder, said}
+use Rattle.leaves.specs.declared.refusal.Refusal.{Refusal}
+use Rattle.leaves.specs.Refusal.{refused, answer_with}
+use Rattle.leaves.specs.RefusalLaws.{refused_not_done}
 
--- ---- the walk from its start to its end
-
-abbrev pub start : Position
-start = record { place = 0; from = 0 }
-
-from_start : (t : List ℕ) (n : ℕ) → from t n start ≡ rows t n
-unfolding from
-from_start t n = let e : n - 0 ≡ n = omega arith in ap (λ (k : ℕ). headed 0 (rows_from t 0 k)) e ∙ headed_zero (rows t n)
-
-pub ahead_start : (left : List ℕ) (n : ℕ) (right : List ℕ) (m : ℕ) → ahead left n right m start start ≡ stretches_of left n right m
-unfolding ahead
-ahead_start left n right m = λ i. compared same_value (from_start left n i) (from_start right m i)
-
-pub ready_start : (left : List ℕ) (n : ℕ) (right : List ℕ) (m : ℕ) → InOrder left n right m → Ready left n right m start start
-ready_start left n right m w = record {
-  tables = w;
-  at_left = record { within = omega arith; not_over = λ h. omega (arith, row_not_empty left n 0 w.left_order h) };
-  at_right = record { within = omega arith; not_over = λ h. omega (arith, row_not_empty right m 0 w.right_order h) };
-}
-
-pub ahead_end : (left : List ℕ) (n : ℕ) (right : List ℕ) (m : ℕ) (l r : Position) → n ≤ l.place → m ≤ r.place → ahead left n right m l r ≡ []
-unfolding ahead compared
-ahead_end left n right m l r h k = λ i. compared same_value (from_end left n l h i) (from_end right m r k i)
-
--- at most two stretches an interval
-pub few_stretches : (left : List ℕ) (n : ℕ) (right : List ℕ) (m : ℕ) → InOrder left n right m → length (stretches_of left n right m) ≤ 262144
-few_stretches left n right m w =
-    omega (arith, compared_length same_value (rows left n) (rows right m), length_rows left 0 n, length_rows right 0 m, w.left_few, w.right_few)
+-- ---- the room
 
 -- two places an interval suffice, and a count tells exactly
 pub needed_none : (left : List ℕ) (n : ℕ) (right : List ℕ) (m room : ℕ) → 2 * (n + m) ≤ room → Needed 0 room (length (stretches_of left n right m))
@@ -61,113 +34,40 @@ needed_none left n right m room h = record {
 pub needed_counted : {r room many : ℕ} → r ≡ many → Needed r room many
 needed_counted e = record { fits = λ k. omega arith; over = λ k. omega arith }
 
--- ---- a turn's stretch
+-- ---- the list
 
-pub told_length : (s : Stretch) (ds : Stretches Value) → length (told_of s ds) ≡ tells_of s + length ds
-unfolding told_of told tells_of
-told_length s ds = go (s.left || s.right)
-  where
-    go : (b : Bool) → length (cond b (stretch_of s ∷ ds) ds) ≡ cond b 1 0 + length ds
-    go true = omega arith
-    go false = omega arith
-
-pub written_length : (t : List ℕ) (i : ℕ) (s : Stretch) → length (written_of t i s) ≡ length t
-unfolding written_of
-written_length t i s = go (s.left || s.right)
-  where
-    go : (b : Bool) → length (cond b (put_stretch t i (stretch_of s)) t) ≡ length t
-    go true = length_put_stretch t i (stretch_of s)
-    go false = refl
-
-pub lay_written : (t : List ℕ) (i : ℕ) (s : Stretch) (ds : Stretches Value) → lay_stretches (written_of t i s) (i + tells_of s) ds ≡ lay_stretches t i (told_of s ds)
-unfolding written_of tells_of told_of told lay_stretches
-lay_written t i s ds = go (s.left || s.right)
-  where
-    go : (b : Bool) → lay_stretches (cond b (put_stretch t i (stretch_of s)) t) (i + cond b 1 0) ds ≡ lay_stretches t i (cond b (stretch_of s ∷ ds) ds)
-    go true = refl
-    go false = let e : i + 0 ≡ i = omega arith in ap (λ (k : ℕ). lay_stretches t k ds) e
-
-pub written_one : (t : List ℕ) (i : ℕ) (s : Stretch) {k : ℕ} {t' : List ℕ} → k ≡ tells_of s → k ≡ 1 → t' ≡ put_stretch t i (stretch_of s) → t' ≡ written_of t i s
-unfolding written_of tells_of
-written_one t i s {t' = t'} e h q = go (s.left || s.right) (sym e ∙ h)
-  where
-    go : (b : Bool) → ◌≡◌ {A = ℕ} (cond b 1 0) 1 → t' ≡ cond b (put_stretch t i (stretch_of s)) t
-    go true f = q
-    go false f = absurd (omega arith)
-
-pub written_none : (t : List ℕ) (i : ℕ) (s : Stretch) {k : ℕ} → k ≡ tells_of s → k ≢ 1 → t ≡ written_of t i s
-unfolding written_of tells_of
-written_none t i s e h = go (s.left || s.right) (λ f. h (e ∙ f))
-  where
-    go : (b : Bool) → (◌≡◌ {A = ℕ} (cond b 1 0) 1 → ⊥) → t ≡ cond b (put_stretch t i (stretch_of s)) t
-    go true f = absurd (f refl)
-    go false f = refl
-
--- ---- one turn of the loops
-
--- one of the tables is not used up
-pub more_left : {n m : ℕ} {l r : Position} → l.place < n → More n m l r
-more_left h = record { some_left = λ k. absurd (omega arith) }
-
-pub more_right : {n m : ℕ} {l r : Position} → ltb r.place m ≡ true → More n m l r
-more_right e = record { some_left = λ k. ltb_yes (rw e tt) }
-
--- so many stretches were told, and with those to come they are all
-pub record Counting (left : List ℕ) (n : ℕ) (right : List ℕ) (m : ℕ) (l r : Position) (total : ℕ) : Type 0 where
-  pub ready : Ready left n right m l r
-  pub sum : total + length (ahead left n right m l r) ≡ length (stretches_of left n right m)
-
-pub count_start : (left : List ℕ) (n : ℕ) (right : List ℕ) (m : ℕ) → InOrder left n right m → Counting left n right m start start 0
-count_start left n right m w = record { ready = ready_start left n right m w; sum = omega (arith, ap length (ahead_start left n right m)) }
+-- a side in bytes
+pub symbol_said : (o : Option ℕ) → unwrap_or o nothing ≡ symbol_in (said o)
+unfolding symbol_in
+symbol_said None = refl
+symbol_said (Some v) = refl
 
 -- so many were laid, and with those to come they are the whole list
-pub record Laying (left : List ℕ) (n : ℕ) (right : List ℕ) (m : ℕ) (t₀ t : List ℕ) (l r : Position) (i : ℕ) : Type 0 where
-  pub counting : Counting left n right m l r i
+pub record Laying (all : Stretches Value) (t₀ t : List ℕ) (i : ℕ) (ds : Stretches Value) : Type 0 where
+  pub sum : i + length ds ≡ length all
   pub kept : length t ≡ length t₀
-  pub laid : lay_stretches t i (ahead left n right m l r) ≡ lay_stretches t₀ 0 (stretches_of left n right m)
+  pub laid : lay_stretches t i ds ≡ lay_stretches t₀ 0 all
 
-pub lay_start : (left : List ℕ) (n : ℕ) (right : List ℕ) (m : ℕ) (t : List ℕ) → InOrder left n right m → Laying left n right m t t start start 0
-lay_start left n right m t w = record {
-  counting = count_start left n right m w;
-  kept = refl;
-  laid = ap (λ (ds : Stretches Value). lay_stretches t 0 ds) (ahead_start left n right m);
-}
+pub lay_start : {all ds : Stretches Value} (t : List ℕ) → ds ≡ all → Laying all t t 0 ds
+lay_start t e = record { sum = omega (arith, ap length e); kept = refl; laid = ap (lay_stretches t 0) e }
 
-module _ {left : List ℕ} {n : ℕ} {right : List ℕ} {m : ℕ} {l r : Position} {s : Step} (g : Stepped left n right m l r s) where
-  turn_length : tells_of s.stretch + length (ahead left n right m s.left s.right) ≡ length (ahead left n right m l r)
-  turn_length = sym (told_length s.stretch (ahead left n right m s.left s.right)) ∙ ap length g.comes
-
-  pub count_few : {total k : ℕ} → Counting left n right m l r total → k ≡ tells_of s.stretch → total + k ≤ 262144
-  count_few w f = omega (arith, w.sum, turn_length, few_stretches left n right m w.ready.tables)
-
-  pub count_on : {total k : ℕ} → Counting left n right m l r total → k ≡ tells_of s.stretch → Counting left n right m s.left s.right (total + k)
-  count_on w f = record { ready = g.ready; sum = omega (arith, w.sum, turn_length) }
-
-  -- there is room for a turn's stretch
-  pub lay_room : {t₀ t : List ℕ} {i : ℕ} → Laying left n right m t₀ t l r i → length (stretches_of left n right m) * stretch_width ≤ length t₀
-      → (i + tells_of s.stretch) * stretch_width ≤ length t
-  lay_room w h = omega (arith, w.counting.sum, w.kept, turn_length)
-
-  pub lay_on : {t₀ t t' : List ℕ} {i k : ℕ} → Laying left n right m t₀ t l r i → t' ≡ written_of t i s.stretch → k ≡ tells_of s.stretch
-      → Laying left n right m t₀ t' s.left s.right (i + k)
-  lay_on {t = t} {i = i} w a b = record {
-    counting = count_on w.counting b;
-    kept = ap length a ∙ written_length t i s.stretch ∙ w.kept;
-    laid =
-        (λ j. lay_stretches (a j) (i + b j) (ahead left n right m s.left s.right))
-        ∙ lay_written t i s.stretch (ahead left n right m s.left s.right)
-        ∙ ap (λ (ds : Stretches Value). lay_stretches t i ds) g.comes ∙ w.laid;
+module _ {all : Stretches Value} {t₀ t : List ℕ} {i : ℕ} {ds : Stretches Value} (w : Laying all t₀ t i ds) where
+  pub lay_on : {d : Row (Difference Value)} {es : Stretches Value} → ds ≡ d ∷ es → Laying all t₀ (put_stretch t i d) (i + 1) es
+  unfolding lay_stretches
+  lay_on {d} e = record {
+    sum = omega (arith, w.sum, ap length e);
+    kept = length_put_stretch t i d ∙ w.kept;
+    laid = sym (ap (lay_stretches t i) e) ∙ w.laid;
   }
 
--- both tables are used up
-module _ {left : List ℕ} {n : ℕ} {right : List ℕ} {m : ℕ} {l r : Position} where
-  pub count_end : {total : ℕ} → Counting left n right m l r total → n ≤ l.place → ltb r.place m ≡ false → total ≡ length (stretches_of left n right m)
-  count_end w h e = omega (arith, w.sum, ap length (ahead_end left n right m l r h (ltb_no (rw e tt))))
+  -- there is room for the next one
+  pub lay_room : {d : Row (Difference Value)} {es : Stretches Value} → ds ≡ d ∷ es → length all * stretch_width ≤ length t₀
+      → i * stretch_width + stretch_width ≤ length t
+  lay_room e h = omega (arith, w.sum, w.kept, ap length e)
 
-  pub lay_end : {t₀ t : List ℕ} {i : ℕ} → Laying left n right m t₀ t l r i → n ≤ l.place → ltb r.place m ≡ false
-      → t ≡ lay_stretches t₀ 0 (stretches_of left n right m)
+  pub lay_end : ds ≡ [] → t ≡ lay_stretches t₀ 0 all
   unfolding lay_stretches
-  lay_end {t = t} {i = i} w h e = sym (ap (λ (ds : Stretches Value). lay_stretches t i ds) (ahead_end left n right m l r h (ltb_no (rw e tt)))) ∙ w.laid
+  lay_end e = sym (ap (lay_stretches t i) e) ∙ w.laid
 
 -- ---- 15 and 14
 
@@ -186,6 +86,11 @@ module _ (left n right m names long : ℕ) where
       → c ≡ eqb (long % stretch_width) 0 → c ≡ compare_fits left n right m names long
   unfolding compare_fits
   fit_rest e h f k g = g ∙ sym (λ i. (sym e ∙ h) i && ((sym f ∙ k) i && eqb (long % stretch_width) 0))
+
+-- what the tables that passed disagree in
+pub holds_stretches : {left : List ℕ} {n : ℕ} {right : List ℕ} {m : ℕ} {t : Tables} → Holds left n right m t
+    → stretches_of t.left.now t.left_used t.right.now t.right_used ≡ stretches_of left n right m
+holds_stretches w = λ i. stretches_of (w.left_same i) (w.left_used i) (w.right_same i) (w.right_used i)
 
 -- what good memory is, as numbers
 pub record Lends (left n right m long : ℕ) : Type 0 where
@@ -233,43 +138,67 @@ module _ (left : List ℕ) (n : ℕ) (right : List ℕ) (m names : ℕ) where
       }
 
   module _ (t : List ℕ) where
-    gives : (o : Outcome (Row (Difference Value))) (a : Answer) (t' : List ℕ) → o ≡ compare_outcome left n right m names t → a ≡ compared_answer o → t' ≡ compared_memory t o
-        → Compares (compare_outcome left n right m names t) t a t'
-    gives o a t' e f g = rw (sym e) (record { answers = f; memory = g })
+    abbrev number : Answer → ℕ
+    number (answer c vs) = c
 
-    pub compared_unfit : {b : Bool} → b ≡ compare_fits (length left) n (length right) m names (length t) → not b ≡ true
-        → Compares (compare_outcome left n right m names t) t (answer 15 []) t
-    unfolding compare_outcome compared_answer compared_memory
-    compared_unfit e h = gives (refused_by 15) (answer 15 []) t (sym (cond_no (compare_fits (length left) n (length right) m names (length t)) _ _ (false_T _ (fails e h)))) refl refl
+    -- a refusal of the tables is the call's
+    pub compared_refused : (r : Refusal) → refused r ≡ tables_answer left n right m names (length t)
+        → Compares (compare_outcome left n right m names t) t (refused r) t
+    unfolding tables_answer compare_outcome compared_answer compared_memory
+    compared_refused r e = go (compare_fits (length left) n (length right) m names (length t)) (both_formed left n right m names) e
+      where
+        go : (b f : Bool) → refused r ≡ cond b (cond f (answer 0 []) (answer 14 [])) (answer 15 [])
+            → Compares (cond b (cond f (if_room (length t / stretch_width) (stretches_of left n right m)) (refused_by 14)) (refused_by 15)) t (refused r) t
+        go true true q = absurd (refused_not_done r (ap number q))
+        go true false q = record { answers = q; memory = refl }
+        go false f q = record { answers = q; memory = refl }
 
-    pub compared_ill : {b c : Bool} → b ≡ compare_fits (length left) n (length right) m names (length t) → not b ≡ false
-        → c ≡ both_formed left n right m names → c ≡ false → Compares (compare_outcome left n right m names t) t (answer 14 []) t
-    unfolding compare_outcome compared_answer compared_memory
-    compared_ill e h f k =
-        gives (refused_by 14) (answer 14 []) t
-        (sym (cond_yes (compare_fits (length left) n (length right) m names (length t)) _ _ (true_T _ (holds e h))
-        ∙ cond_no (both_formed left n right m names) _ _ (false_T _ (sym f ∙ k)))) refl refl
+    -- so is it as a result with another value
+    pub compared_err : {X : Type 0} (f : X → List ℕ) (x : Result X Refusal) (r : Refusal) → IsErrAnd x (λ s. s ≡ r)
+        → refused r ≡ tables_answer left n right m names (length t) → Compares (compare_outcome left n right m names t) t (answer_with f x) t
+    compared_err f (Ok v) r h e = absurd h
+    compared_err f (Err s) r h e = rw h (compared_refused r e)
 
-    passes : {b c : Bool} → b ≡ compare_fits (length left) n (length right) m names (length t) → not b ≡ false → c ≡ both_formed left n right m names → c ≡ true
+    -- tables that pass leave the room to judge
+    passes : answer 0 [] ≡ tables_answer left n right m names (length t)
         → compare_outcome left n right m names t ≡ if_room (length t / stretch_width) (stretches_of left n right m)
-    unfolding compare_outcome
-    passes e h f k =
-        cond_yes (compare_fits (length left) n (length right) m names (length t)) _ _ (true_T _ (holds e h))
-        ∙ cond_yes (both_formed left n right m names) _ _ (true_T _ (sym f ∙ k))
+    unfolding tables_answer compare_outcome
+    passes e = go (compare_fits (length left) n (length right) m names (length t)) (both_formed left n right m names) e
+      where
+        go : (b f : Bool) → answer 0 [] ≡ cond b (cond f (answer 0 []) (answer 14 [])) (answer 15 [])
+            → cond b (cond f (if_room (length t / stretch_width) (stretches_of left n right m)) (refused_by 14)) (refused_by 15)
+            ≡ if_room (length t / stretch_width) (stretches_of left n right m)
+        go true true q = refl
+        go true false q = absurd (let z : ◌≡◌ {A = ℕ} 0 14 = ap number q in omega arith)
+        go false f q = absurd (let z : ◌≡◌ {A = ℕ} 0 15 = ap number q in omega arith)
 
-    pub compared_no_room : {b c : Bool} {total : ℕ} → b ≡ compare_fits (length left) n (length right) m names (length t) → not b ≡ false
-        → c ≡ both_formed left n right m names → c ≡ true → total ≡ length (stretches_of left n right m) → length t / stretch_width < total
-        → Compares (compare_outcome left n right m names t) t (answer 2 []) t
-    unfolding if_room compared_answer compared_memory
-    compared_no_room e h f k g l =
-        gives (refused_by 2) (answer 2 []) t (sym (passes e h f k ∙ cond_lt (length t / stretch_width) (length (stretches_of left n right m)) _ _ (omega arith))) refl refl
+    module _ (e : answer 0 [] ≡ tables_answer left n right m names (length t)) where
+      pub compared_no_room : length t / stretch_width < length (stretches_of left n right m) → Compares (compare_outcome left n right m names t) t (answer 2 []) t
+      unfolding if_room compared_answer compared_memory
+      compared_no_room l =
+          rw (passes e ∙ cond_lt (length t / stretch_width) (length (stretches_of left n right m)) _ _ l) (record { answers = refl; memory = refl })
 
-    pub compared_done : {b c : Bool} {total : ℕ} {t' : List ℕ} → b ≡ compare_fits (length left) n (length right) m names (length t) → not b ≡ false
-        → c ≡ both_formed left n right m names → c ≡ true → total ≡ length (stretches_of left n right m) → total ≤ length t / stretch_width
-        → t' ≡ lay_stretches t 0 (stretches_of left n right m)
-        → Compares (compare_outcome left n right m names t) t (answer 0 (total ∷ [])) t'
-    unfolding if_room compared_answer compared_memory
-    compared_done e h f k g l q =
-        gives (stored (stretches_of left n right m)) _ _
-        (sym (passes e h f k ∙ cond_ge (length t / stretch_width) (length (stretches_of left n right m)) _ _ (omega arith)))
-        (ap (λ (c : ℕ). answer 0 (c ∷ [])) g) (q ∙ lay_memory t (stretches_of left n right m) (omega arith))
+      pub compared_done : {total : ℕ} {t' : List ℕ} → total ≡ length (stretches_of left n right m) → total ≤ length t / stretch_width
+          → t' ≡ lay_stretches t 0 (stretches_of left n right m) → Compares (compare_outcome left n right m names t) t (answer 0 (total ∷ [])) t'
+      unfolding if_room compared_answer compared_memory
+      compared_done g l q =
+          rw (passes e ∙ cond_ge (length t / stretch_width) (length (stretches_of left n right m)) _ _ (omega arith))
+          (record { answers = ap (λ (c : ℕ). answer 0 (c ∷ [])) g; memory = q ∙ lay_memory t (stretches_of left n right m) (omega arith) })
+
+  -- the check's answer by its tests
+  module _ (long : ℕ) where
+    pub tables_unfit : {b : Bool} → b ≡ compare_fits (length left) n (length right) m names long → not b ≡ true
+        → answer 15 [] ≡ tables_answer left n right m names long
+    unfolding tables_answer
+    tables_unfit e h = sym (cond_no (compare_fits (length left) n (length right) m names long) _ _ (false_T _ (fails e h)))
+
+    module _ {b c : Bool} (e : b ≡ compare_fits (length left) n (length right) m names long) (h : not b ≡ false) (f : c ≡ both_formed left n right m names) where
+      fitting : tables_answer left n right m names long ≡ cond (both_formed left n right m names) (answer 0 []) (answer 14 [])
+      unfolding tables_answer
+      fitting = cond_yes (compare_fits (length left) n (length right) m names long) _ _ (true_T _ (holds e h))
+
+      pub tables_ill : not c ≡ true → answer 14 [] ≡ tables_answer left n right m names long
+      tables_ill k = sym (fitting ∙ cond_no (both_formed left n right m names) _ _ (false_T _ (fails f k)))
+
+      pub tables_fine : not c ≡ false → answer 0 [] ≡ tables_answer left n right m names long
+      tables_fine k = sym (fitting ∙ cond_yes (both_formed left n right m names) _ _ (true_T _ (holds f k)))

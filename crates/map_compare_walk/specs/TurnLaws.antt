@@ -1,5 +1,5 @@
 -- Each way through the tests of a turn is one law. Assumes nothing.
-use Rattle.std.specs.Prelude.{◌≡◌, ◌≢◌, ℕ, ◌≤◌, ◌<◌, Bool, not, ◌&&◌, ◌||◌, cond, ltb, eqb}
+use Rattle.std.specs.Prelude.{◌≡◌, ◌≢◌, ℕ, ◌≤◌, ◌<◌, Bool, not, ◌&&◌, ◌||◌, ltb, eqb}
 use Rattle.std.proofs.Math.Path.{sym, ap}
 use Rattle.std.proofs.Common.{◌∙◌, arith, lt→ltb}
 use Rattle.std.proofs.Math.Bool.{true, false}
@@ -11,11 +11,9 @@ use Rattle.theory.specs.RunsTools.{cond_yes, cond_no, cond_lt, cond_ge}
 use Rattle.map_rules.specs.Table.{Row}
 use Rattle.map_rules.specs.Memory.{same_value}
 use Rattle.map_compare_rules.specs.Compare.{over}
-use Rattle.map_compare_rules.specs.Memory.{Value, symbol_in, nothing}
-use Rattle.map_compare_walk.specs.declared.walk.Onward.{Onward}
+use Rattle.map_compare_rules.specs.Memory.{Value}
 use Rattle.map_compare_walk.specs.declared.walk.Turn.{Turn}
-use Rattle.map_compare_walk.specs.declared.walk.Stretch.{Stretch}
-use Rattle.map_compare_walk.specs.Walk.{goes_on, cut_to, turn_by, both_of, turn_of, saying, instrument_of, tells_of}
+use Rattle.map_compare_walk.specs.Walk.{goes_on, cut_to, turn_by, both_of, turn_of, instrument_of}
 
 module _ (x y : Row Value) where
   -- one is over before the other starts
@@ -43,52 +41,46 @@ module _ (x y : Row Value) where
       (T_false (eqb x.instrument y.instrument) (not_T (eqb x.instrument y.instrument) (λ t. d (eqb_yes t)))))
 
   -- two heads that start at the same moment
-  module _ {s : Bool} {t : Turn} {u v : Onward} (e : s ≡ same_value x.value y.value) where
-    pub both_left : x.end < y.end → u ≡ goes_on → v ≡ cut_to x.end → t ≡ turn_by (not s) (not s) x.start x.end u v → t ≡ both_of same_value x y
+  module _ {s : Bool} {t : Turn} (e : s ≡ same_value x.value y.value) where
+    pub both_left : x.end < y.end → t ≡ turn_by (not s) (not s) x.start x.end goes_on (cut_to x.end) → t ≡ both_of same_value x y
     unfolding both_of
-    both_left h p q w = w ∙ (λ i. turn_by (not (e i)) (not (e i)) x.start x.end (p i) (q i)) ∙ sym (cond_lt x.end y.end _ _ h)
+    both_left h w = w ∙ (λ i. turn_by (not (e i)) (not (e i)) x.start x.end goes_on (cut_to x.end)) ∙ sym (cond_lt x.end y.end _ _ h)
 
-    pub both_right : y.end < x.end → u ≡ cut_to y.end → v ≡ goes_on → t ≡ turn_by (not s) (not s) x.start y.end u v → t ≡ both_of same_value x y
+    pub both_right : y.end < x.end → t ≡ turn_by (not s) (not s) x.start y.end (cut_to y.end) goes_on → t ≡ both_of same_value x y
     unfolding both_of
-    both_right h p q w =
-        w ∙ (λ i. turn_by (not (e i)) (not (e i)) x.start y.end (p i) (q i))
+    both_right h w =
+        w ∙ (λ i. turn_by (not (e i)) (not (e i)) x.start y.end (cut_to y.end) goes_on)
         ∙ sym (cond_ge x.end y.end _ _ (omega arith) ∙ cond_lt y.end x.end _ _ h)
 
-    pub both_whole : y.end ≤ x.end → x.end ≤ y.end → u ≡ goes_on → v ≡ goes_on → t ≡ turn_by (not s) (not s) x.start x.end u v
+    pub both_whole : y.end ≤ x.end → x.end ≤ y.end → t ≡ turn_by (not s) (not s) x.start x.end goes_on goes_on
         → t ≡ both_of same_value x y
     unfolding both_of
-    both_whole h k p q w =
-        w ∙ (λ i. turn_by (not (e i)) (not (e i)) x.start x.end (p i) (q i))
+    both_whole h k w =
+        w ∙ (λ i. turn_by (not (e i)) (not (e i)) x.start x.end goes_on goes_on)
         ∙ sym (cond_ge x.end y.end _ _ h ∙ cond_ge y.end x.end _ _ k)
 
   -- two heads
-  pub turn_left : {a : Bool} {t : Turn} {u v : Onward} → a ≡ over x y → a ≡ true → u ≡ goes_on → v ≡ cut_to y.start
-      → t ≡ turn_by true false x.start x.end u v → t ≡ turn_of same_value x y
+  pub turn_left : {a : Bool} {t : Turn} → a ≡ over x y → a ≡ true → t ≡ turn_by true false x.start x.end goes_on (cut_to y.start)
+      → t ≡ turn_of same_value x y
   unfolding turn_of
-  turn_left e h p q w =
-      w ∙ (λ i. turn_by true false x.start x.end (p i) (q i)) ∙ sym (cond_yes (over x y) _ _ (rw (sym e ∙ h) tt))
+  turn_left e h w = w ∙ sym (cond_yes (over x y) _ _ (rw (sym e ∙ h) tt))
 
   module _ {a b : Bool} {t : Turn} (e : a ≡ over x y) (h : a ≡ false) (f : b ≡ over y x) where
-    pub turn_right : {u v : Onward} → b ≡ true → u ≡ cut_to x.start → v ≡ goes_on → t ≡ turn_by false true y.start y.end u v
+    pub turn_right : b ≡ true → t ≡ turn_by false true y.start y.end (cut_to x.start) goes_on → t ≡ turn_of same_value x y
+    unfolding turn_of
+    turn_right k w = w ∙ sym (cond_no (over x y) _ _ (rw (sym e ∙ h) tt) ∙ cond_yes (over y x) _ _ (rw (sym f ∙ k) tt))
+
+    pub turn_left_part : b ≡ false → x.start < y.start → t ≡ turn_by true false x.start y.start (cut_to y.start) (cut_to y.start)
         → t ≡ turn_of same_value x y
     unfolding turn_of
-    turn_right k p q w =
-        w ∙ (λ i. turn_by false true y.start y.end (p i) (q i))
-        ∙ sym (cond_no (over x y) _ _ (rw (sym e ∙ h) tt) ∙ cond_yes (over y x) _ _ (rw (sym f ∙ k) tt))
+    turn_left_part k l w =
+        w ∙ sym (cond_no (over x y) _ _ (rw (sym e ∙ h) tt) ∙ cond_no (over y x) _ _ (rw (sym f ∙ k) tt) ∙ cond_lt x.start y.start _ _ l)
 
-    pub turn_left_part : {u v : Onward} → b ≡ false → x.start < y.start → u ≡ cut_to y.start → v ≡ cut_to y.start
-        → t ≡ turn_by true false x.start y.start u v → t ≡ turn_of same_value x y
+    pub turn_right_part : b ≡ false → y.start < x.start → t ≡ turn_by false true y.start x.start (cut_to x.start) (cut_to x.start)
+        → t ≡ turn_of same_value x y
     unfolding turn_of
-    turn_left_part k l p q w =
-        w ∙ (λ i. turn_by true false x.start y.start (p i) (q i))
-        ∙ sym (cond_no (over x y) _ _ (rw (sym e ∙ h) tt) ∙ cond_no (over y x) _ _ (rw (sym f ∙ k) tt) ∙ cond_lt x.start y.start _ _ l)
-
-    pub turn_right_part : {u v : Onward} → b ≡ false → y.start < x.start → u ≡ cut_to x.start → v ≡ cut_to x.start
-        → t ≡ turn_by false true y.start x.start u v → t ≡ turn_of same_value x y
-    unfolding turn_of
-    turn_right_part k l p q w =
-        w ∙ (λ i. turn_by false true y.start x.start (p i) (q i))
-        ∙ sym (cond_no (over x y) _ _ (rw (sym e ∙ h) tt) ∙ cond_no (over y x) _ _ (rw (sym f ∙ k) tt)
+    turn_right_part k l w =
+        w ∙ sym (cond_no (over x y) _ _ (rw (sym e ∙ h) tt) ∙ cond_no (over y x) _ _ (rw (sym f ∙ k) tt)
         ∙ cond_ge x.start y.start _ _ (omega arith) ∙ cond_lt y.start x.start _ _ l)
 
     pub turn_both : b ≡ false → y.start ≤ x.start → x.start ≤ y.start → t ≡ both_of same_value x y → t ≡ turn_of same_value x y
@@ -96,15 +88,6 @@ module _ (x y : Row Value) where
     turn_both k l m w =
         w ∙ sym (cond_no (over x y) _ _ (rw (sym e ∙ h) tt) ∙ cond_no (over y x) _ _ (rw (sym f ∙ k) tt)
         ∙ cond_ge x.start y.start _ _ l ∙ cond_ge y.start x.start _ _ m)
-
--- a side in bytes
-pub symbol_said : (s : Bool) (v : Value) → s ≡ true → v ≡ symbol_in (saying s v)
-unfolding symbol_in saying
-symbol_said s v e = ap (λ (b : Bool). symbol_in (saying b v)) (sym e)
-
-pub symbol_none : (s : Bool) (v : Value) → s ≡ false → nothing ≡ symbol_in (saying s v)
-unfolding symbol_in saying
-symbol_none s v e = ap (λ (b : Bool). symbol_in (saying b v)) (sym e)
 
 -- the instrument of a turn's stretch
 pub instrument_left : (s : Bool) (i j : ℕ) → s ≡ true → i ≡ instrument_of s i j
@@ -114,16 +97,3 @@ instrument_left s i j e = ap (λ (b : Bool). instrument_of b i j) (sym e)
 pub instrument_right : (s : Bool) (i j : ℕ) → s ≡ false → j ≡ instrument_of s i j
 unfolding instrument_of
 instrument_right s i j e = ap (λ (b : Bool). instrument_of b i j) (sym e)
-
--- how many stretches a turn gives
-pub tells_left : (s : Stretch) → s.left ≡ true → 1 ≡ tells_of s
-unfolding tells_of
-tells_left s e = ap (λ (b : Bool). cond (b || s.right) 1 0) (sym e)
-
-pub tells_right : (s : Stretch) → s.left ≡ false → s.right ≡ true → 1 ≡ tells_of s
-unfolding tells_of
-tells_right s e f = λ i. cond (sym e i || sym f i) 1 0
-
-pub tells_none : (s : Stretch) → s.left ≡ false → s.right ≡ false → 0 ≡ tells_of s
-unfolding tells_of
-tells_none s e f = λ i. cond (sym e i || sym f i) 1 0

@@ -1,15 +1,17 @@
 -- The walk over two tables side by side: what two heads give, what is still to come from two positions, and what a turn promises.
-use Rattle.std.specs.Prelude.{◌≡◌, ℕ, zero, suc, ◌+◌, ◌-◌, ◌*◌, ◌≤◌, ◌<◌, max, Bool, true, false, not, ◌||◌, cond, ◌⊎◌, List, [], ◌∷◌, length, ltb, eqb}
+use Rattle.std.specs.Prelude as std
+use Rattle.std.specs.Prelude.{◌≡◌, ℕ, zero, suc, ◌+◌, ◌-◌, ◌*◌, ◌≤◌, ◌<◌, max, Bool, true, false, not, ◌&&◌, ◌||◌, cond, ◌⊎◌, List, [], ◌∷◌, length, leb, ltb, eqb}
+use Rattle.std.specs.Bool.{then_some}
 use Rattle.std.proofs.Math.Option.{Option, none, some}
 use Rattle.theory.specs.Answer.{bit}
 use Rattle.map_rules.specs.Table.{Row, Ordered}
 use Rattle.map_rules.specs.Memory.{same_value, width, row_at, rows_from, rows}
 use Rattle.map_table.specs.declared.interval.Interval.{Interval}
-use Rattle.map_table.specs.Interval.{row_of}
 use Rattle.map_compare_rules.specs.Compare.{Difference, Stretches, stretch, over, since, compared}
-use Rattle.map_compare_rules.specs.Memory.{Value, put_stretch}
+use Rattle.map_compare_rules.specs.Memory.{Value}
 use Rattle.map_compare_walk.specs.declared.walk.Position.{Position}
 use Rattle.map_compare_walk.specs.declared.walk.Onward.{Onward}
+use Rattle.map_compare_walk.specs.declared.walk.Onward.TheVariants.{On, Stays}
 use Rattle.map_compare_walk.specs.declared.walk.Turn.{Turn}
 use Rattle.map_compare_walk.specs.declared.walk.Stretch.{Stretch}
 use Rattle.map_compare_walk.specs.declared.walk.Step.{Step}
@@ -18,10 +20,19 @@ use Rattle.map_compare_walk.specs.declared.walk.Step.{Step}
 
 -- the head goes on; it stays, and counts from a moment
 abbrev pub goes_on : Onward
-goes_on = record { by = 1; from = 0 }
+goes_on = On
 
 abbrev pub cut_to : ℕ → Onward
-cut_to m = record { by = 0; from = m }
+cut_to m = Stays m
+
+-- by how many places it goes on, and the moment from which the head then counts
+abbrev pub step_of : Onward → ℕ
+step_of On = 1
+step_of (Stays m) = 0
+
+abbrev pub moment_of : Onward → ℕ
+moment_of On = 0
+moment_of (Stays m) = m
 
 abbrev pub turn_by : Bool → Bool → ℕ → ℕ → Onward → Onward → Turn
 turn_by l r a b x y = record { left = l; right = r; start = a; end = b; x = x; y = y }
@@ -108,6 +119,10 @@ pub record Sound (t : List ℕ) (n : ℕ) (p : Position) : Type 0 where
   pub within : p.place ≤ n
   pub not_over : p.place < n → p.from < (row_at t p.place).end
 
+-- the test for it
+unfoldable pub sound : List ℕ → ℕ → Position → Bool
+sound t n p = leb p.place n && (leb n p.place || ltb p.from (row_at t p.place).end)
+
 pub record Ready (left : List ℕ) (n : ℕ) (right : List ℕ) (m : ℕ) (l r : Position) : Type 0 where
   pub tables : InOrder left n right m
   pub at_left : Sound left n l
@@ -117,43 +132,42 @@ pub record Ready (left : List ℕ) (n : ℕ) (right : List ℕ) (m : ℕ) (l r :
 pub record More (n m : ℕ) (l r : Position) : Type 0 where
   pub some_left : n ≤ l.place → r.place < m
 
+-- the position of a table after a turn
+abbrev pub moved : Position → Onward → Position
+moved p o = record { place = p.place + step_of o; from = moment_of o }
+
+-- a side of the code that says something, or nothing
+abbrev pub said : std.Option ℕ → Option Value
+said std.None = none
+said (std.Some v) = some v
+
+-- the stretch of a turn, if one of the heads says something
+unfoldable pub spoken : Interval → Interval → Turn → std.Option Stretch
+unfolding instrument_of
+spoken x y t = then_some (t.left || t.right) (record {
+  instrument = instrument_of t.left x.instrument y.instrument;
+  start = t.start;
+  end = t.end;
+  left = then_some t.left x.symbol;
+  right = then_some t.right y.symbol;
+})
+
 -- a step of the code: the stretch of a turn, and the new positions
 unfoldable pub taken_of : Interval → Interval → Turn → Position → Position → Step
-unfolding instrument_of
-taken_of x y t l r = record {
-  stretch = record {
-    instrument = instrument_of t.left x.instrument y.instrument;
-    start = t.start;
-    end = t.end;
-    left = t.left;
-    right = t.right;
-    x = x;
-    y = y;
-  };
-  left = record { place = l.place + t.x.by; from = t.x.from };
-  right = record { place = r.place + t.y.by; from = t.y.from };
-}
+unfolding spoken
+taken_of x y t l r = record { stretch = spoken x y t; left = moved l t.x; right = moved r t.y }
 
 -- a stretch of the code as a row
-unfoldable pub stretch_of : Stretch → Row (Difference Value)
-unfolding saying
-stretch_of s = stretch s.instrument s.start s.end (saying s.left (row_of s.x).value) (saying s.right (row_of s.y).value)
+abbrev pub stretch_of : Stretch → Row (Difference Value)
+stretch_of s = stretch s.instrument s.start s.end (said s.left) (said s.right)
 
 -- in front of others, if it is one
-unfoldable pub told_of : Stretch → Stretches Value → Stretches Value
-unfolding told stretch_of
-told_of s ds = told s.left s.right (stretch_of s) ds
-
--- how many it is
-unfoldable pub tells_of : Stretch → ℕ
-tells_of s = cond (s.left || s.right) 1 0
+abbrev pub told_of : std.Option Stretch → Stretches Value → Stretches Value
+told_of std.None ds = ds
+told_of (std.Some s) ds = stretch_of s ∷ ds
 
 -- a step: its stretch, then what is to come from the new positions, is what was to come; and it comes nearer to the end
 pub record Stepped (left : List ℕ) (n : ℕ) (right : List ℕ) (m : ℕ) (l r : Position) (s : Step) : Type 0 where
   pub comes : told_of s.stretch (ahead left n right m s.left s.right) ≡ ahead left n right m l r
   pub ready : Ready left n right m s.left s.right
   pub nearer : turns_left left n right m s.left s.right < turns_left left n right m l r
-
--- the memory once a turn's stretch stands at place i, if it is one
-unfoldable pub written_of : List ℕ → ℕ → Stretch → List ℕ
-written_of t i s = cond (s.left || s.right) (put_stretch t i (stretch_of s)) t

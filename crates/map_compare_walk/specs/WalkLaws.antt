@@ -19,15 +19,15 @@ use Rattle.map_compare_rules.specs.Memory.{Value}
 use Rattle.map_compare_walk.specs.declared.walk.Position.{Position}
 use Rattle.map_compare_walk.specs.declared.walk.Onward.{Onward}
 use Rattle.map_compare_walk.specs.declared.walk.Turn.{Turn}
-use Rattle.map_compare_walk.specs.Walk.{goes_on, cut_to, turn_by, both_of, turn_of, saying, instrument_of, part_of, told, remains, head_at, headed, from}
+use Rattle.map_compare_walk.specs.Walk.{goes_on, cut_to, step_of, moment_of, moved, turn_by, both_of, turn_of, saying, instrument_of, part_of, told, remains, head_at, headed, from}
 use Rattle.map_compare_walk.specs.Walk.{Sound}
 
 -- what becomes of a head: it goes on, or counts from a moment of its own
 pub record Kept {A : Type 0} (o : Onward) (x : Row A) : Type 0 where
-  pub few : o.by ≤ 1
-  pub goes : 1 ≤ o.by → o.from ≡ 0
-  pub stays : o.by ≡ 0 → x.start ≤ o.from
-  pub in_time : o.by ≡ 0 → o.from < x.end
+  pub few : (step_of o) ≤ 1
+  pub goes : 1 ≤ (step_of o) → (moment_of o) ≡ 0
+  pub stays : (step_of o) ≡ 0 → x.start ≤ (moment_of o)
+  pub in_time : (step_of o) ≡ 0 → (moment_of o) < x.end
 
 pub kept_on : {A : Type 0} (x : Row A) → Kept goes_on x
 kept_on x = record { few = omega arith; goes = λ h. refl; stays = λ h. absurd (omega arith); in_time = λ h. absurd (omega arith) }
@@ -70,11 +70,11 @@ module _ {A : Type 0} (same : A → A → Bool) where
   -- a turn of two heads is right
   pub record TurnRight (x : Row A) (xs : List (Row A)) (y : Row A) (ys : List (Row A)) (t : Turn) : Type 0 where
     pub comes : compared same (x ∷ xs) (y ∷ ys)
-        ≡ told t.left t.right (part_of t x y) (compared same (remains t.x.by t.x.from x xs) (remains t.y.by t.y.from y ys))
+        ≡ told t.left t.right (part_of t x y) (compared same (remains (step_of t.x) (moment_of t.x) x xs) (remains (step_of t.y) (moment_of t.y) y ys))
     pub left_kept : Kept t.x x
     pub right_kept : Kept t.y y
-    pub starts : t.x.by ≡ 0 → t.y.by ≡ 0 → x.start ≢ y.start
-    pub level : t.x.by ≡ 0 → t.y.by ≡ 0 → t.x.from ≡ t.y.from
+    pub starts : (step_of t.x) ≡ 0 → (step_of t.y) ≡ 0 → x.start ≢ y.start
+    pub level : (step_of t.x) ≡ 0 → (step_of t.y) ≡ 0 → (moment_of t.x) ≡ (moment_of t.y)
 
   module _ (x : Row A) (xs : List (Row A)) (y : Row A) (ys : List (Row A)) (w : x.start < x.end) (v : y.start < y.end) where
     abbrev Holds : Turn → Type 0
@@ -248,25 +248,22 @@ unfolding from headed rows_from
 from_end t n p h = let e : n - p.place ≡ 0 = omega arith in ap (λ (k : ℕ). headed p.from (rows_from t p.place k)) e
 
 -- a position, its head kept so
-abbrev pub moved : Position → Onward → Position
-moved p o = record { place = p.place + o.by; from = o.from }
-
 module _ (t : List ℕ) (n : ℕ) (p : Position) (o : Onward) (h : p.place < n) (k : Kept o (head_at t p)) where
-  stay_start : o.by ≡ 0 → max o.from (row_at t p.place).start ≡ o.from
+  stay_start : (step_of o) ≡ 0 → max (moment_of o) (row_at t p.place).start ≡ (moment_of o)
   unfolding head_at
-  stay_start e = let s : max p.from (row_at t p.place).start ≤ o.from = k.stays e in omega arith
+  stay_start e = let s : max p.from (row_at t p.place).start ≤ (moment_of o) = k.stays e in omega arith
 
-  pub from_moved : from t n (moved p o) ≡ remains o.by o.from (head_at t p) (tail t n p)
+  pub from_moved : from t n (moved p o) ≡ remains (step_of o) (moment_of o) (head_at t p) (tail t n p)
   unfolding from headed head_at remains rows_from
-  from_moved = go o.by refl
+  from_moved = go (step_of o) refl
     where
-      go : (b : ℕ) → b ≡ o.by
-          → headed o.from (rows_from t (p.place + b) (n - (p.place + b))) ≡ remains b o.from (head_at t p) (tail t n p)
+      go : (b : ℕ) → b ≡ (step_of o)
+          → headed (moment_of o) (rows_from t (p.place + b) (n - (p.place + b))) ≡ remains b (moment_of o) (head_at t p) (tail t n p)
       go zero e =
           let a : p.place + 0 ≡ p.place = omega arith in
           let c : n - (p.place + 0) ≡ suc (n - suc p.place) = omega arith in
-          let m : max o.from (row_at t p.place).start ≡ o.from = stay_start (sym e) in
-          (λ i. headed o.from (rows_from t (a i) (c i))) ∙ (λ i. since (m i) (row_at t p.place) ∷ tail t n p)
+          let m : max (moment_of o) (row_at t p.place).start ≡ (moment_of o) = stay_start (sym e) in
+          (λ i. headed (moment_of o) (rows_from t (a i) (c i))) ∙ (λ i. since (m i) (row_at t p.place) ∷ tail t n p)
       go (suc zero) e =
           let a : p.place + 1 ≡ suc p.place = omega arith in
           let c : n - (p.place + 1) ≡ n - suc p.place = omega arith in
@@ -275,20 +272,20 @@ module _ (t : List ℕ) (n : ℕ) (p : Position) (o : Onward) (h : p.place < n) 
 
   pub sound_moved : Ordered (rows t n) → Sound t n (moved p o)
   unfolding head_at
-  sound_moved w = record { within = omega (arith, k.few); not_over = λ l. go o.by refl l }
+  sound_moved w = record { within = omega (arith, k.few); not_over = λ l. go (step_of o) refl l }
     where
-      go : (b : ℕ) → b ≡ o.by → p.place + b < n → o.from < (row_at t (p.place + b)).end
+      go : (b : ℕ) → b ≡ (step_of o) → p.place + b < n → (moment_of o) < (row_at t (p.place + b)).end
       go zero e l = rw (add-zero p.place) (k.in_time (sym e))
       go (suc b) e l =
-          let z : o.from ≡ 0 = k.goes (omega arith) in
+          let z : (moment_of o) ≡ 0 = k.goes (omega arith) in
           omega (arith, row_not_empty t n (p.place + suc b) w l)
 
   -- where it stays, its head starts where it counts from
-  pub start_moved : o.by ≡ 0 → (head_at t (moved p o)).start ≡ o.from
+  pub start_moved : (step_of o) ≡ 0 → (head_at t (moved p o)).start ≡ (moment_of o)
   unfolding head_at
   start_moved e =
-      let a : p.place + o.by ≡ p.place = omega arith in
-      ap (λ (i : ℕ). max o.from (row_at t i).start) a ∙ stay_start e
+      let a : p.place + (step_of o) ≡ p.place = omega arith in
+      ap (λ (i : ℕ). max (moment_of o) (row_at t i).start) a ∙ stay_start e
 
 pub head_some : (t : List ℕ) (n : ℕ) (p : Position) → Ordered (rows t n) → Sound t n p → p.place < n → (head_at t p).start < (head_at t p).end
 unfolding head_at

@@ -5,27 +5,29 @@ ghost use Rattle.leaves_limits.specs.Limits.{most_room};
 ghost use Rattle.map_rules.specs.Memory.{same_value, width};
 ghost use Rattle.map_table.specs.Interval.{row_of};
 ghost use Rattle.map_compare_rules.specs.Compare.{over};
-ghost use Rattle.map_compare_walk.specs.Walk.{turn_by, goes_on, cut_to, both_of, turn_of, instrument_of, head_at, taken_of, More, Ready, Stepped};
+ghost use Rattle.map_compare_walk.specs.Walk.{turn_by, both_of, turn_of, step_of, moved, spoken, head_at, taken_of, More, Ready, Stepped};
 
-use map_table::interval::Interval;
+use self::Onward::{On, Stays};
+use crate::tables::Tables;
+use map_table::interval::{Interval, interval_at, same_value};
 
 // How far a table is walked: the place of its head, and the moment from which that still counts.
-#[derive(Clone, Copy)]
+#[derive(Clone, Copy, Debug, Default, PartialEq, Eq)]
 pub struct Position {
     pub place: usize,
     pub from: u64,
 }
 
-// What becomes of a head: it goes on by 1 or stays, and the head then counts from a moment.
-#[derive(Clone, Copy)]
-pub struct Onward {
-    pub by: usize,
-    pub from: u64,
+// What becomes of a head: it goes on, or it stays and then counts from a moment.
+#[derive(Clone, Copy, Debug, PartialEq, Eq)]
+pub enum Onward {
+    On,
+    Stays(u64),
 }
 
 // What two heads give: which of them say something from start to before end, neither where both say the same, and what becomes of
-// them.
-#[derive(Clone, Copy)]
+// them. It holds no value, so that its laws are over any type of value.
+#[derive(Clone, Copy, Debug, PartialEq, Eq)]
 pub struct Turn {
     pub left: bool,
     pub right: bool,
@@ -35,32 +37,22 @@ pub struct Turn {
     pub y: Onward,
 }
 
-// A stretch: from start to before end the left table says what x says, or nothing, and the right one what y says, or nothing. It is
-// none where neither says something.
-#[derive(Clone, Copy)]
+// A stretch: from start to before end the left table says one symbol, or nothing, and the right one another, or nothing.
+#[derive(Clone, Copy, Debug, PartialEq, Eq)]
 pub struct Stretch {
     pub instrument: u32,
     pub start: u64,
     pub end: u64,
-    pub left: bool,
-    pub right: bool,
-    pub x: Interval,
-    pub y: Interval,
+    pub left: Option<u32>,
+    pub right: Option<u32>,
 }
 
-// A turn's stretch, and how far both tables are walked after it.
-#[derive(Clone, Copy)]
+// The stretch that a turn tells of, if it does, and how far both tables are walked after it.
+#[derive(Clone, Copy, Debug, PartialEq, Eq)]
 pub struct Step {
-    pub stretch: Stretch,
+    pub stretch: Option<Stretch>,
     pub left: Position,
     pub right: Position,
-}
-
-// The later of two moments.
-fn later(a: u64, b: u64) -> u64
-    ensures { result ≡ max a b }
-{
-    if a <= b { b } else { a }
 }
 
 // The head of a table at a position.
@@ -68,8 +60,8 @@ fn head(table: &[u8], p: Position) -> Interval
     requires { p.place * width + width ≤ length table.now }
     ensures { row_of result ≡ head_at table.now p }
 {
-    let x = map_table::interval::interval_at(table, p.place);
-    let start = later(p.from, x.start);
+    let x = interval_at(table, p.place);
+    let start = p.from.max(x.start);
     Interval { start, ..x }
 }
 
@@ -77,13 +69,7 @@ fn head(table: &[u8], p: Position) -> Interval
 fn is_over(x: Interval, y: Interval) -> bool
     ensures { result ≡ over (row_of x) (row_of y) }
 {
-    if x.instrument < y.instrument {
-        true
-    } else if x.instrument == y.instrument {
-        x.end <= y.start
-    } else {
-        false
-    }
+    x.instrument < y.instrument || (x.instrument == y.instrument && x.end <= y.start)
 }
 
 // A turn by its parts.
@@ -100,31 +86,17 @@ fn made(left: bool, right: bool, start: u64, end: u64, x: Onward, y: Onward) -> 
     }
 }
 
-// The head goes on.
-fn gone() -> Onward
-    ensures { result ≡ goes_on }
-{
-    Onward { by: 1, from: 0 }
-}
-
-// The head stays, and counts from a moment.
-fn cut(from: u64) -> Onward
-    ensures { result ≡ cut_to from }
-{
-    Onward { by: 0, from }
-}
-
 // What two heads give that start at the same moment, where they overlap.
 fn both(x: Interval, y: Interval) -> Turn
     ensures { result ≡ both_of same_value (row_of x) (row_of y) }
 {
-    let differ = !map_table::interval::same_value(x, y);
+    let differ = !same_value(x, y);
     if x.end < y.end {
-        made(differ, differ, x.start, x.end, gone(), cut(x.end))
+        made(differ, differ, x.start, x.end, On, Stays(x.end))
     } else if y.end < x.end {
-        made(differ, differ, x.start, y.end, cut(y.end), gone())
+        made(differ, differ, x.start, y.end, Stays(y.end), On)
     } else {
-        made(differ, differ, x.start, x.end, gone(), gone())
+        made(differ, differ, x.start, x.end, On, On)
     }
 }
 
@@ -133,75 +105,79 @@ fn turn_of(x: Interval, y: Interval) -> Turn
     ensures { result ≡ turn_of same_value (row_of x) (row_of y) }
 {
     if is_over(x, y) {
-        made(true, false, x.start, x.end, gone(), cut(y.start))
+        made(true, false, x.start, x.end, On, Stays(y.start))
     } else if is_over(y, x) {
-        made(false, true, y.start, y.end, cut(x.start), gone())
+        made(false, true, y.start, y.end, Stays(x.start), On)
     } else if x.start < y.start {
-        made(true, false, x.start, y.start, cut(y.start), cut(y.start))
+        let later = Stays(y.start);
+        made(true, false, x.start, y.start, later, later)
     } else if y.start < x.start {
-        made(false, true, y.start, x.start, cut(x.start), cut(x.start))
+        let later = Stays(x.start);
+        made(false, true, y.start, x.start, later, later)
     } else {
         both(x, y)
     }
 }
 
-// The instrument of a turn's stretch: the left head's, where that says something.
-fn instrument_of(left: bool, x: Interval, y: Interval) -> u32
-    ensures { result ≡ instrument_of left x.instrument y.instrument }
+// The position of a table after a turn.
+fn moved(p: Position, o: Onward) -> Position
+    requires { p.place + step_of o ≤ most_room }
+    ensures { result ≡ moved p o }
 {
-    if left { x.instrument } else { y.instrument }
-}
-
-// The stretch of a turn of the heads x and y, and how far both tables are walked after it.
-fn taken(x: Interval, y: Interval, t: Turn, l: Position, r: Position) -> Step
-    requires { (l.place + t.x.by ≤ most_room) × (r.place + t.y.by ≤ most_room) }
-    ensures { result ≡ taken_of x y t l r }
-{
-    let instrument = instrument_of(t.left, x, y);
-    let stretch = Stretch {
-        instrument,
-        start: t.start,
-        end: t.end,
-        left: t.left,
-        right: t.right,
-        x,
-        y,
-    };
-    let k = l.place + t.x.by;
-    let j = r.place + t.y.by;
-    let left = Position {
-        place: k,
-        from: t.x.from,
-    };
-    let right = Position {
-        place: j,
-        from: t.y.from,
-    };
-    Step {
-        stretch,
-        left,
-        right,
+    match o {
+        On => Position {
+            place: p.place + 1,
+            from: 0,
+        },
+        Stays(from) => Position { from, ..p },
     }
 }
 
-// One turn of the walk over two tables that are in order, where one of them is not used up: both heads, or the one that is left.
-pub fn next_step(left: &[u8], n: usize, right: &[u8], m: usize, l: Position, r: Position) -> Step
-    requires { Ready left.now n right.now m l r × More n m l r }
-    ensures { Stepped left.now n right.now m l r result }
+// The stretch that a turn of the heads x and y tells of, if one of them says something.
+fn spoken(x: Interval, y: Interval, t: Turn) -> Option<Stretch>
+    ensures { result ≡ spoken x y t }
 {
-    if l.place < n {
-        let x = head(left, l);
-        if r.place < m {
-            let y = head(right, r);
+    let instrument = if t.left { x.instrument } else { y.instrument };
+    let says = t.left || t.right;
+    says.then_some(Stretch {
+        instrument,
+        start: t.start,
+        end: t.end,
+        left: t.left.then_some(x.symbol),
+        right: t.right.then_some(y.symbol),
+    })
+}
+
+// A step: the stretch of a turn of the heads x and y, and how far both tables are walked after it.
+fn taken(x: Interval, y: Interval, t: Turn, l: Position, r: Position) -> Step
+    requires { (l.place + step_of t.x ≤ most_room) × (r.place + step_of t.y ≤ most_room) }
+    ensures { result ≡ taken_of x y t l r }
+{
+    Step {
+        stretch: spoken(x, y, t),
+        left: moved(l, t.x),
+        right: moved(r, t.y),
+    }
+}
+
+// One turn of the walk over two tables, where one of them is not used up: both heads, or the one that is left.
+pub fn next_step(tables: Tables<'_>, l: Position, r: Position) -> Step
+    requires { Ready tables.left.now tables.left_used tables.right.now tables.right_used l r × More tables.left_used tables.right_used l r }
+    ensures { let t = tables.entry in Stepped t.left.now t.left_used t.right.now t.right_used l r result }
+{
+    if l.place < tables.left_used {
+        let x = head(tables.left, l);
+        if r.place < tables.right_used {
+            let y = head(tables.right, r);
             let t = turn_of(x, y);
             taken(x, y, t, l, r)
         } else {
-            let t = made(true, false, x.start, x.end, gone(), cut(0));
+            let t = made(true, false, x.start, x.end, On, Stays(0));
             taken(x, x, t, l, r)
         }
     } else {
-        let y = head(right, r);
-        let t = made(false, true, y.start, y.end, cut(0), gone());
+        let y = head(tables.right, r);
+        let t = made(false, true, y.start, y.end, Stays(0), On);
         taken(y, y, t, l, r)
     }
 }

@@ -2,11 +2,14 @@
 -- reason that holds, names stored intervals and agrees with lookup at any hint; on any other it gives the check's refusal. Assumes nothing.
 use Rattle.std.specs.Prelude.{◌≡◌, ◌≢◌, ℕ, Bool, ◌&&◌, length}
 use Rattle.std.proofs.Math.Path.{refl, ap}
-use Rattle.std.proofs.Common.{◌∙◌, arith}
+use Rattle.std.proofs.Common.{◌∙◌, sym}
 use Rattle.std.proofs.Math.Bool.{true, false, cond}
 use mathlib.Core.List.{List, []}
 use Rattle.theory.specs.Answer.{answer}
 use Rattle.theory.specs.Runs.{Mem, Interval}
+use Rattle.leaves.specs.declared.refusal.Refusal.{Refusal}
+use Rattle.leaves.specs.Refusal.{refused}
+use Rattle.leaves.specs.RefusalLaws.{refused_not_done}
 use Rattle.map_rules.specs.Table.{row_of, group, Ordered, names_fit, well_formed}
 use Rattle.map_rules.specs.Groups.{formed_iff}
 use Rattle.map_rules.specs.Lookup.{Finding, lookup_rows}
@@ -15,6 +18,7 @@ use Rattle.map_rules.specs.Outcomes.{checked_ordered}
 use Rattle.map_rules.specs.Looks.{number_in, finding_answer, lookup_answer, lookup_hint}
 use Rattle.map_explain.specs.Reason.{Reason, explained_rows, Holds, named_by, hint_by, finding_by}
 use Rattle.map_explain.specs.ReasonLaws.{reason_holds, reason_only, reason_looked, reason_stored}
+use Rattle.map_explain.specs.ExplainLaws.{Accepted, accepted}
 use Rattle.map_explain.specs.Explain.{Value, reason_answer, rows_answer, explain_answer}
 
 -- what a done call says of the table, the instrument and the moment
@@ -27,24 +31,7 @@ pub record Explains (t : List ℕ) (used names i m : ℕ) (r : Reason Value) : T
   pub hinted : (h : ℕ) → lookup_hint t used i m h ≡ hint_by r h
 
 module _ (t : List ℕ) (used names i m : ℕ) where
-  -- a table that is accepted: its memory fits, and it is well-formed
-  record Accepted : Type 0 where
-    fits : table_fits (length t) used ≡ true
-    few : names_fit names ≡ true
-    formed : well_formed same_value known_value names (rows t used) ≡ true
-
-  accepted : check_answer t used names ≡ answer 0 [] → Accepted
-  unfolding check_answer
-  accepted e = go (table_fits (length t) used) (names_fit names) (well_formed same_value known_value names (rows t used)) refl refl refl e
-    where
-      go : (a b c : Bool) → table_fits (length t) used ≡ a → names_fit names ≡ b → well_formed same_value known_value names (rows t used) ≡ c
-          → cond (a && b) (cond c (answer 0 []) (answer 14 [])) (answer 15 []) ≡ answer 0 [] → Accepted
-      go true true true p q r z = record { fits = p; few = q; formed = r }
-      go true true false p q r z = absurd (let n : 14 ≡ 0 = ap number_in z in omega arith)
-      go true false c p q r z = absurd (let n : 15 ≡ 0 = ap number_in z in omega arith)
-      go false b c p q r z = absurd (let n : 15 ≡ 0 = ap number_in z in omega arith)
-
-  module _ (w : Accepted) where
+  module _ (w : Accepted t used names) where
     in_order : Ordered (rows t used)
     in_order = checked_ordered t used names refl w.formed
 
@@ -63,7 +50,7 @@ module _ (t : List ℕ) (used names i m : ℕ) where
   pub call_explains : check_answer t used names ≡ answer 0 [] → Explains t used names i m (explained_rows (rows t used) i m)
   unfolding explained_rows
   call_explains e =
-      let w : Accepted = accepted e in
+      let w : Accepted t used names = accepted t used names e in
       let o : Ordered (rows t used) = in_order w in
       record {
         answers = told w;
@@ -84,3 +71,7 @@ module _ (t : List ℕ) (used names i m : ℕ) where
       go true true f = absurd (f refl)
       go true false f = refl
       go false c f = refl
+
+  -- so a refusal of the check's is the call's
+  pub refused_first : (r : Refusal) → refused r ≡ check_answer t used names → refused r ≡ explain_answer t used names i m
+  refused_first r e = e ∙ sym (call_refused (λ z. refused_not_done r (ap number_in (e ∙ z))))

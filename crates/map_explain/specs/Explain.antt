@@ -3,14 +3,13 @@
 use Rattle.std.specs.Prelude.{ℕ, ◌+◌, ◌*◌, ◌≤◌, Bool, ◌&&◌, cond, List, [], ◌∷◌, ◌++◌, length, ltb, eqb}
 use Rattle.theory.specs.Answer.{Answer, answer}
 use Rattle.theory.specs.Runs.{Interval}
-use Rattle.leaves.specs.Refusal.{refused}
 use Rattle.map_rules.specs.Table.{Ordered, names_fit, well_formed}
 use Rattle.map_rules.specs.Memory.{same_value, known_value, width, row_at, rows, table_fits}
 use Rattle.map_rules.specs.Looks.{Begun, Reach}
 use Rattle.map_explain.specs.Reason.{Reason, in_one, unknown, before, after, between, explained_rows}
 use Rattle.map_explain.specs.declared.explain.Named.{Named}
 use Rattle.map_explain.specs.declared.explain.Explained.{Explained}
-use Rattle.map_explain.specs.declared.explain.Explained.TheVariants.{In, Unknown, Before, After, Between, Refused}
+use Rattle.map_explain.specs.declared.explain.Explained.TheVariants.{In, Unknown, Before, After, Between}
 
 -- what an interval says: a symbol number
 abbrev pub Value : Type 0
@@ -43,14 +42,17 @@ explain_answer t used names i m =
 abbrev pub named_of : Named → List ℕ
 named_of x = x.index ∷ x.start ∷ x.end ∷ x.symbol ∷ []
 
+-- the numbers of an explanation: the reason's, and those of each interval that it names
+abbrev pub explained_values : Explained → List ℕ
+explained_values (In x) = 1 ∷ named_of x
+explained_values Unknown = 2 ∷ []
+explained_values (Before x) = 3 ∷ named_of x
+explained_values (After x) = 4 ∷ named_of x
+explained_values (Between x y) = 5 ∷ named_of x ++ named_of y
+
 -- an explanation's answer in the rules' terms
 abbrev pub explained_of : Explained → Answer
-explained_of (In x) = answer 0 (1 ∷ named_of x)
-explained_of Unknown = answer 0 (2 ∷ [])
-explained_of (Before x) = answer 0 (3 ∷ named_of x)
-explained_of (After x) = answer 0 (4 ∷ named_of x)
-explained_of (Between x y) = answer 0 (5 ∷ named_of x ++ named_of y)
-explained_of (Refused r) = refused r
+explained_of e = answer 0 (explained_values e)
 
 -- the place k holds one of the `used` intervals, of the instrument
 unfoldable pub own_at : List ℕ → ℕ → ℕ → ℕ → Bool

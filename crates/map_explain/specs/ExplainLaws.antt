@@ -1,6 +1,6 @@
 -- The code's way to the reason: where the instrument begins and how far the moment reaches tell the last interval that has started, and
 -- the interval at the place behind tells the rest. Each way ends in a reason that holds, and no other does. Assumes nothing.
-use Rattle.std.specs.Prelude.{◌≡◌, ◌≢◌, Bool, true, not, ◌&&◌, cond, length}
+use Rattle.std.specs.Prelude.{◌≡◌, ◌≢◌, Bool, true, ◌&&◌, cond, length}
 use Rattle.std.proofs.Math.Path.{refl, sym, ap}
 use Rattle.std.proofs.Common.{◌∙◌, add-zero, lt→ltb}
 use Prim.Native.Nat.{ℕ, zero, suc, ◌+◌, ◌-◌, ◌≤◌, ◌<◌}
@@ -14,34 +14,33 @@ use Rattle.std.proofs.Math.ListN.{get_elem?}
 use Rattle.std.proofs.Math.Dec.{T, ltb, eqb, eqb_refl}
 use Rattle.std.proofs.Math.Arith.{le→nltb}
 use Rattle.std.proofs.Math.Facts.{eqb_yes, ltb_yes}
-use borrow.Author.Tests.{not-true, not-false}
-use Rattle.theory.specs.Answer.{Answer, answer}
-use Rattle.theory.specs.Bools.{true_T, false_T, T_true, T_false}
+use Rattle.theory.specs.Answer.{answer}
+use Rattle.theory.specs.Bools.{true_T, T_true, T_false}
 use Rattle.theory.specs.Runs.{Interval}
-use Rattle.theory.specs.RunsTools.{cond_lt, cond_ge, cond_yes, cond_no, T_fst, T_snd, T_nor_l, none_some, some_same}
+use Rattle.theory.specs.RunsTools.{cond_lt, cond_ge, T_fst, T_snd, T_nor_l, none_some, some_same}
 use Rattle.map_rules.specs.Table.{Row, interval_of, group, Ordered, names_fit, well_formed}
 use Rattle.map_rules.specs.Groups.{Sorted, formed_iff}
 use Rattle.map_rules.specs.Lookup.{started}
 use Rattle.map_rules.specs.Places.{own, own_yes, own_no, lower, group_place, started_place}
-use Rattle.map_rules.specs.Memory.{same_value, known_value, row_at, rows, table_fits}
+use Rattle.map_rules.specs.Memory.{same_value, known_value, row_at, rows, table_fits, check_answer}
 use Rattle.map_rules.specs.Outcomes.{Lent, memory_lent, memory_holds, checked_ordered}
 use Rattle.map_rules.specs.Search.{row_in, row_out}
-use Rattle.map_rules.specs.Looks.{Begun, Reach}
+use Rattle.map_rules.specs.Looks.{number_in, Begun, Reach}
 use Rattle.map_explain.specs.Reason.{Reason, in_one, unknown, before, after, between, explained_rows, Holds}
 use Rattle.map_explain.specs.ReasonLaws.{reason_only}
-use Rattle.map_explain.specs.Explain.{Value, numbers_of, reason_answer, rows_answer, explain_answer, own_at, InOrder, Placed}
+use Rattle.map_explain.specs.Explain.{Value, numbers_of, reason_answer, rows_answer, own_at, InOrder, Placed}
 
 -- ---- the interval at a place
 
 module _ (t : List ℕ) (used k i : ℕ) where
   -- how the code finds out whose it is
-  pub own_out : used ≤ k → false ≡ own_at t used k i
+  pub own_out : used ≤ k → own_at t used k i ≡ false
   unfolding own_at
-  own_out h = sym (T_false _ (T_nor_l (ltb k used) _ (le→nltb k used h)))
+  own_out h = T_false _ (T_nor_l (ltb k used) _ (le→nltb k used h))
 
-  pub own_in : {x : Row Value} {b : Bool} → x ≡ row_at t k → k < used → b ≡ eqb x.instrument i → b ≡ own_at t used k i
+  pub own_in : {b : Bool} → k < used → eqb (row_at t k).instrument i ≡ b → own_at t used k i ≡ b
   unfolding own_at
-  own_in e h f = f ∙ (λ j. sym (T_true (ltb k used) (lt→ltb k used h)) j && eqb (e j).instrument i)
+  own_in h e j = T_true (ltb k used) (lt→ltb k used h) j && e j
 
   row_own : k < used → (row_at t k).instrument ≡ i → own i (get_elem? (rows t used) k) ≡ some (interval_of (row_at t k))
   row_own h e = ap (own i) (row_in t used k h) ∙ own_yes i (row_at t k) e
@@ -53,30 +52,23 @@ module _ (t : List ℕ) (used k i : ℕ) where
   unfolding own
   row_past h = ap (own i) (row_out t used k h)
 
-  pub own_yes_row : {b : Bool} → b ≡ own_at t used k i → b ≡ true → own i (get_elem? (rows t used) k) ≡ some (interval_of (row_at t k))
+  own_yes_row : own_at t used k i ≡ true → own i (get_elem? (rows t used) k) ≡ some (interval_of (row_at t k))
   unfolding own_at
-  own_yes_row e f =
-      let a : T (ltb k used && eqb (row_at t k).instrument i) = true_T _ (sym e ∙ f) in
+  own_yes_row e =
+      let a : T (ltb k used && eqb (row_at t k).instrument i) = true_T _ e in
       row_own (ltb_yes (T_fst (ltb k used) _ a)) (eqb_yes (T_snd (ltb k used) _ a))
 
-  pub own_within : {b : Bool} → b ≡ own_at t used k i → b ≡ true → k < used
+  own_no_row : own_at t used k i ≡ false → own i (get_elem? (rows t used) k) ≡ none
   unfolding own_at
-  own_within e f = ltb_yes (T_fst (ltb k used) (eqb (row_at t k).instrument i) (true_T _ (sym e ∙ f)))
-
-  pub own_no_row : {b : Bool} → b ≡ own_at t used k i → b ≡ false → own i (get_elem? (rows t used) k) ≡ none
-  unfolding own_at
-  own_no_row e f = go (dec_lt k used) (ℕ_discrete (row_at t k).instrument i)
+  own_no_row e = go (dec_lt k used) (ℕ_discrete (row_at t k).instrument i)
     where
-      is_no : ltb k used && eqb (row_at t k).instrument i ≡ false
-      is_no = sym e ∙ f
-
       go : Dec (k < used) → Dec ((row_at t k).instrument ≡ i) → own i (get_elem? (rows t used) k) ≡ none
       go (no h) d = row_past (omega arith)
       go (yes h) (no d) = row_other h d
       go (yes h) (yes d) =
           let a : ltb k used ≡ true = T_true (ltb k used) (lt→ltb k used h) in
           let b : eqb (row_at t k).instrument i ≡ true = T_true _ (rw d (eqb_refl i)) in
-          absurd (false≢true (sym is_no ∙ (λ j. a j && b j)))
+          absurd (false≢true (sym e ∙ (λ j. a j && b j)))
 
   -- an own interval there is the stored one
   own_is : (x : Interval Value) → own i (get_elem? (rows t used) k) ≡ some x → x ≡ interval_of (row_at t k)
@@ -162,15 +154,15 @@ module _ {t : List ℕ} {used i m g u : ℕ} (p : Placed t used i m g u) where
     first_place : get_elem? G 0 ≡ own i (get_elem? (rows t used) g)
     first_place = at_place 0 ∙ ap (λ (c : ℕ). own i (get_elem? (rows t used) c)) (add-zero g)
 
-    pub unknown_told : {o : Bool} → o ≡ own_at t used g i → o ≡ false → answer 0 (2 ∷ []) ≡ rows_answer t used i m
+    pub unknown_told : own_at t used g i ≡ false → answer 0 (2 ∷ []) ≡ rows_answer t used i m
     unfolding reason_answer
-    unknown_told e f = gives unknown (none_there G (first_place ∙ own_no_row t used g i e f))
+    unknown_told e = gives unknown (none_there G (first_place ∙ own_no_row t used g i e))
 
-    pub before_told : {o : Bool} {x : Row Value} {vs : List ℕ} → o ≡ own_at t used g i → o ≡ true → x ≡ row_at t g
+    pub before_told : {x : Row Value} {vs : List ℕ} → own_at t used g i ≡ true → x ≡ row_at t g
         → vs ≡ numbers_of 0 (interval_of x) → answer 0 (3 ∷ vs) ≡ rows_answer t used i m
     unfolding reason_answer
-    before_told e f d n =
-        let there : get_elem? G 0 ≡ some (interval_of (row_at t g)) = first_place ∙ own_yes_row t used g i e f in
+    before_told e d n =
+        let there : get_elem? G 0 ≡ some (interval_of (row_at t g)) = first_place ∙ own_yes_row t used g i e in
         let none_yet : started G m ≡ 0 = omega (arith, started_is) in
         let later : m < (row_at t g).start = next_later G m (interval_of (row_at t g)) (ap (get_elem? G) none_yet ∙ there) in
         (λ j. answer 0 (3 ∷ (n ∙ ap (λ (y : Row Value). numbers_of 0 (interval_of y)) d) j))
@@ -205,53 +197,51 @@ module _ {t : List ℕ} {used i m g u : ℕ} (p : Placed t used i m g u) where
           (λ j. answer 0 (1 ∷ numbers j))
           ∙ gives (in_one (u - 1 - g) (interval_of (row_at t (u - 1)))) (last_row.0, last_row.1, rw d at l)
 
-      pub after_told : {o : Bool} → x.end ≤ m → o ≡ own_at t used u i → o ≡ false → answer 0 (4 ∷ vs) ≡ rows_answer t used i m
+      pub after_told : x.end ≤ m → own_at t used u i ≡ false → answer 0 (4 ∷ vs) ≡ rows_answer t used i m
       unfolding reason_answer
-      after_told l e f =
+      after_told l e =
           (λ j. answer 0 (4 ∷ numbers j))
           ∙ gives (after (u - 1 - g) (interval_of (row_at t (u - 1))))
-          (last_row.0, next_place ∙ own_no_row t used u i e f, rw d at l)
+          (last_row.0, next_place ∙ own_no_row t used u i e, rw d at l)
 
-      pub between_told : {o : Bool} {y : Row Value} {us : List ℕ} → x.end ≤ m → o ≡ own_at t used u i → o ≡ true → y ≡ row_at t u
+      pub between_told : {y : Row Value} {us : List ℕ} → x.end ≤ m → own_at t used u i ≡ true → y ≡ row_at t u
           → us ≡ numbers_of (u - 1 - g + 1) (interval_of y) → answer 0 (5 ∷ vs ++ us) ≡ rows_answer t used i m
       unfolding reason_answer
-      between_told l e f d' n' =
-          let next : get_elem? G (suc (u - 1 - g)) ≡ some (interval_of (row_at t u)) = next_place ∙ own_yes_row t used u i e f in
+      between_told l e d' n' =
+          let next : get_elem? G (suc (u - 1 - g)) ≡ some (interval_of (row_at t u)) = next_place ∙ own_yes_row t used u i e in
           let later : m < (row_at t u).start = next_later G m (interval_of (row_at t u)) (ap (get_elem? G) count ∙ next) in
           (λ j. answer 0 (5 ∷ numbers j ++ (n' ∙ ap (λ (z : Row Value). numbers_of (u - 1 - g + 1) (interval_of z)) d') j))
           ∙ gives (between (u - 1 - g) (interval_of (row_at t (u - 1))) (interval_of (row_at t u)))
           (last_row.0, next, rw d at l, later)
 
--- ---- 15 and 14
+-- ---- a table that the check accepts
 
-module _ (t : List ℕ) (used names i m : ℕ) where
-  pub explained_unfit : {b : Bool} → b ≡ table_fits (length t) used && names_fit names → not b ≡ true
-      → answer 15 [] ≡ explain_answer t used names i m
-  unfolding explain_answer
-  explained_unfit {b} e h = sym (cond_no (table_fits (length t) used && names_fit names) _ _ (false_T _ (sym e ∙ not-true b h)))
+module _ (t : List ℕ) (used names : ℕ) where
+  -- a table that is accepted: its memory fits, and it is well-formed
+  pub record Accepted : Type 0 where
+    pub fits : table_fits (length t) used ≡ true
+    pub few : names_fit names ≡ true
+    pub formed : well_formed same_value known_value names (rows t used) ≡ true
 
-  module _ {b c : Bool} (e : b ≡ table_fits (length t) used && names_fit names) (h : not b ≡ false)
-      (f : c ≡ well_formed same_value known_value names (rows t used)) where
-    passed : explain_answer t used names i m
-        ≡ cond (well_formed same_value known_value names (rows t used)) (rows_answer t used i m) (answer 14 [])
-    unfolding explain_answer
-    passed = cond_yes (table_fits (length t) used && names_fit names) _ _ (true_T _ (sym e ∙ not-false b h))
+  pub accepted : check_answer t used names ≡ answer 0 [] → Accepted
+  unfolding check_answer
+  accepted e = go (table_fits (length t) used) (names_fit names) (well_formed same_value known_value names (rows t used)) refl refl refl e
+    where
+      go : (a b c : Bool) → table_fits (length t) used ≡ a → names_fit names ≡ b → well_formed same_value known_value names (rows t used) ≡ c
+          → cond (a && b) (cond c (answer 0 []) (answer 14 [])) (answer 15 []) ≡ answer 0 [] → Accepted
+      go true true true p q r z = record { fits = p; few = q; formed = r }
+      go true true false p q r z = absurd (let n : 14 ≡ 0 = ap number_in z in omega arith)
+      go true false c p q r z = absurd (let n : 15 ≡ 0 = ap number_in z in omega arith)
+      go false b c p q r z = absurd (let n : 15 ≡ 0 = ap number_in z in omega arith)
 
-    pub explained_ill : c ≡ false → answer 14 [] ≡ explain_answer t used names i m
-    explained_ill k =
-        sym (passed ∙ cond_no (well_formed same_value known_value names (rows t used)) _ _ (false_T _ (sym f ∙ k)))
-
-    pub explained_good : {a : Answer} → c ≡ true → a ≡ rows_answer t used i m → a ≡ explain_answer t used names i m
-    explained_good k r =
-        r ∙ sym (passed ∙ cond_yes (well_formed same_value known_value names (rows t used)) _ _ (true_T _ (sym f ∙ k)))
-
--- a table that passed is in order
-pub checked_order : (t : List ℕ) (used names : ℕ) {b c : Bool} → b ≡ table_fits (length t) used && names_fit names → not b ≡ false
-    → c ≡ well_formed same_value known_value names (rows t used) → c ≡ true → InOrder t used
-checked_order t used names e h f k =
-    let l : Lent (length t) used = memory_lent (length t) used names e h in
-    record {
-      fits = memory_holds (length t) used names e h;
-      few = omega (arith, l.limit, l.in_use);
-      order = checked_ordered t used names f k;
-    }
+  -- it is in order
+  pub checked_order : check_answer t used names ≡ answer 0 [] → InOrder t used
+  checked_order e =
+      let w : Accepted = accepted e in
+      let f : true ≡ table_fits (length t) used && names_fit names = sym (λ j. w.fits j && w.few j) in
+      let l : Lent (length t) used = memory_lent (length t) used names f refl in
+      record {
+        fits = memory_holds (length t) used names f refl;
+        few = omega (arith, l.limit, l.in_use);
+        order = checked_ordered t used names refl w.formed;
+      }

@@ -1,16 +1,17 @@
 // Why an instrument has a symbol at a moment, or none (RULES, Requests, No. 4): two searches in a table that is in order, then at most
 // three intervals are looked at. Nothing but the check is linear in the table.
-ghost use Rattle.std.specs.Prelude.{◌≡◌, ℕ, ◌*◌, ◌≤◌, ◌<◌, length};
+ghost use Rattle.std.specs.Prelude.{◌≡◌, true, false, ℕ, ◌*◌, ◌≤◌, ◌<◌, length, MatchOption};
+ghost use Rattle.leaves.specs.Refusal.{answer_with};
 ghost use Rattle.map_rules.specs.Table.{interval_of};
-ghost use Rattle.map_rules.specs.Memory.{width};
+ghost use Rattle.map_rules.specs.Memory.{width, row_at};
 ghost use Rattle.map_table.specs.Interval.{row_of};
-ghost use Rattle.map_explain.specs.Explain.{numbers_of, named_of, own_at, InOrder, Placed, rows_answer, explain_answer, explained_of};
+ghost use Rattle.map_explain.specs.Explain.{numbers_of, named_of, own_at, InOrder, Placed, rows_answer, explain_answer, explained_values, explained_of};
 
 use leaves::refusal::Refusal;
 use map_table::interval::Interval;
 
 // An interval that a reason names: its number within the instrument, from 0, and what is stored.
-#[derive(Clone, Copy)]
+#[derive(Clone, Copy, Debug, PartialEq, Eq)]
 pub struct Named {
     pub index: u64,
     pub start: u64,
@@ -19,15 +20,14 @@ pub struct Named {
 }
 
 // Why there is a symbol, or none: in this interval; the instrument is unknown; before its first interval; after its last; between
-// these two neighbours. Or it is refused.
-#[derive(Clone, Copy)]
+// these two neighbours.
+#[derive(Clone, Copy, Debug, PartialEq, Eq)]
 pub enum Explained {
     In(Named),
     Unknown,
     Before(Named),
     After(Named),
     Between(Named, Named),
-    Refused(Refusal),
 }
 
 // An interval with its number within the instrument.
@@ -42,16 +42,20 @@ fn numbered(index: u64, x: Interval) -> Named
     }
 }
 
-// Whether the place holds one of the intervals in use, of the instrument.
-fn is_own(table: &[u8], used: usize, place: usize, instrument: u32) -> bool
+// The interval at the place, where that is one of those in use, of the instrument.
+fn own(table: &[u8], used: usize, place: usize, instrument: u32) -> Option<Interval>
     requires { used * width ≤ length table.now }
-    ensures { result ≡ own_at table.now used place instrument }
+    ensures { MatchOption result (own_at table.now used place instrument ≡ false) (λ x.
+        (own_at table.now used place instrument ≡ true) × (row_of x ≡ row_at table.now place)) }
 {
-    if place < used {
-        let x = map_table::interval::interval_at(table, place);
-        x.instrument == instrument
+    if used <= place {
+        return None;
+    }
+    let x = map_table::interval::interval_at(table, place);
+    if x.instrument == instrument {
+        Some(x)
     } else {
-        false
+        None
     }
 }
 
@@ -60,12 +64,9 @@ fn not_started(table: &[u8], used: usize, begin: usize, instrument: u32) -> Expl
     requires { InOrder table.now used }
     ensures { (m end : ℕ) → Placed table.now used instrument m begin end → end ≤ begin → explained_of result ≡ rows_answer table.now used instrument m }
 {
-    if is_own(table, used, begin, instrument) {
-        let x = map_table::interval::interval_at(table, begin);
-        let first = numbered(0, x);
-        Explained::Before(first)
-    } else {
-        Explained::Unknown
+    match own(table, used, begin, instrument) {
+        Some(x) => Explained::Before(numbered(0, x)),
+        None => Explained::Unknown,
     }
 }
 
@@ -85,13 +86,11 @@ fn started(
     let index = (end - 1 - begin) as u64;
     let last = numbered(index, x);
     if moment < x.end {
-        Explained::In(last)
-    } else if is_own(table, used, end, instrument) {
-        let y = map_table::interval::interval_at(table, end);
-        let next = numbered(index + 1, y);
-        Explained::Between(last, next)
-    } else {
-        Explained::After(last)
+        return Explained::In(last);
+    }
+    match own(table, used, end, instrument) {
+        Some(y) => Explained::Between(last, numbered(index + 1, y)),
+        None => Explained::After(last),
     }
 }
 
@@ -110,14 +109,15 @@ pub fn explain_checked(table: &[u8], used: usize, instrument: u32, moment: u64) 
 }
 
 // Why the instrument has a symbol at the moment, or none, where so many names are known: 15, 14, else the reason.
-pub fn explain(table: &[u8], used: usize, names: usize, instrument: u32, moment: u64) -> Explained
-    ensures { explained_of result ≡ explain_answer table.now used names instrument moment }
+pub fn explain(
+    table: &[u8],
+    used: usize,
+    names: usize,
+    instrument: u32,
+    moment: u64,
+) -> Result<Explained, Refusal>
+    ensures { answer_with explained_values result ≡ explain_answer table.now used names instrument moment }
 {
-    if !map_table::table::memory_fits(table.len(), used, names) {
-        Explained::Refused(Refusal::BadMemory)
-    } else if map_table::table::well_formed(table, used, names) {
-        explain_checked(table, used, instrument, moment)
-    } else {
-        Explained::Refused(Refusal::IllFormed)
-    }
+    map_table::table::check(table, used, names)?;
+    Ok(explain_checked(table, used, instrument, moment))
 }

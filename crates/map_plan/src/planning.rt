@@ -1,149 +1,92 @@
 // What a mapping call asks (RULES, The map over time and Merging records): the table's check, the name list and the record are
 // judged in the rules' order, before anything is stored.
-ghost use Rattle.std.specs.Prelude.{◌≡◌, true, ◌≤◌, length};
-ghost use Rattle.std.proofs.Math.Seq.{slice};
-ghost use Rattle.leaves_names.specs.Names.{list_fits, well_formed};
+ghost use Rattle.std.specs.Prelude.{◌≡◌, [], true, length};
 ghost use Rattle.leaves.specs.Frame.{mapped_in, name_in};
-ghost use Rattle.map_table.specs.Table.{checked_of};
-ghost use Rattle.map_plan.specs.Wanted.{numbering_in, numbered, wanted, judged_by, plan_of, Placed, Forward, Ready};
+ghost use Rattle.leaves.specs.Refusal.{answer_with};
+ghost use Rattle.theory.specs.Answer.{answer, no_values};
+ghost use Rattle.leaves_names.specs.Names.{list_fits};
+ghost use Rattle.map_plan.specs.Wanted.{wanted, judged_by, plan_of, number_in, is_new, Ready};
 
-use leaves::frame::{Mapping, read_mapping};
+use leaves::frame::read_mapping;
 use leaves::refusal::Refusal;
-use leaves_names::names::{find_name, has_room, is_list, is_name, list_fits};
-use map_table::table::Checked;
+use leaves_names::names::{NameList, Names, Naming, is_name};
 
-// What a mapping call comes to before the room of the table is judged.
+// A symbol to be stored for an instrument: a name of the record, by what becomes of it. A new name joins the list.
 #[derive(Clone, Copy)]
-pub enum Plan {
-    // Done, and nothing changes.
-    Nothing,
-    Refuse(Refusal),
-    // A symbol for an instrument. Its name lies in the record from `from` to `to`, and joins the list if it is new.
-    Store {
-        instrument: u32,
-        start: u64,
-        end: u64,
-        number: u32,
-        new: bool,
-        from: usize,
-        to: usize,
-    },
+pub struct Store<'a> {
+    pub instrument: u32,
+    pub start: u64,
+    pub end: u64,
+    pub name: &'a [u8],
+    pub naming: Naming,
 }
 
-// A symbol stored by the number of its name, a valid one, or 5.
-fn plan_name(
-    bytes: &[u8],
-    ends: &[u32],
-    names: usize,
-    name_bytes: usize,
-    rec: &[u8],
-    instrument: u32,
-    start: u64,
-    end: u64,
-    from: usize,
-    to: usize,
-) -> Plan
-    requires name_bytes_value { (list_fits (length bytes.now) (length ends.now) names name_bytes ≡ true) × (well_formed bytes.now ends.now names name_bytes ≡ true) }
-    requires from_le_to { (from ≤ to) × (to ≤ length rec.now) × (slice from to rec.now ≡ name_in rec.now) }
-    ensures result_value { plan_of result ≡ numbered instrument start end (numbering_in bytes.now ends.now names name_bytes (name_in rec.now)) }
-    ensures placed { Placed bytes.now ends.now names name_bytes rec.now result }
-{
-    let number = find_name(bytes, ends, names, rec, from, to);
-    if number < names {
-        return Plan::Store {
-            instrument,
-            start,
-            end,
-            number: number as u32,
-            new: false,
-            from,
-            to,
-        };
-    }
-    if has_room(bytes.len(), ends.len(), names, name_bytes, to - from) {
-        Plan::Store {
-            instrument,
-            start,
-            end,
-            number: names as u32,
-            new: true,
-            from,
-            to,
+impl Store<'_> {
+    // The name's number.
+    pub fn number(self) -> u32
+        ensures { result ≡ number_in self.entry.naming }
+    {
+        match self.naming {
+            Naming::Old(number) | Naming::New(number) => number,
         }
-    } else {
-        Plan::Refuse(Refusal::NoNameRoom)
+    }
+
+    // Whether the name joins the list.
+    pub fn is_new(self) -> bool
+        ensures { result ≡ is_new self.entry.naming }
+    {
+        matches!(self.naming, Naming::New(_))
     }
 }
 
-// What a record asks of a well-formed name list and a table: 13, 4; over time 1, and start = end is done; 5.
-fn plan_record(
-    bytes: &[u8],
-    ends: &[u32],
-    names: usize,
-    name_bytes: usize,
-    rec: &[u8],
+// What a record asks of a well-formed name list and a table, or nothing: 13, 4; over time 1, and start = end is done; 5.
+fn plan_record<'a>(
+    names: Names<'_>,
+    rec: &'a [u8],
     over_time: bool,
-) -> Plan
-    requires { (list_fits (length bytes.now) (length ends.now) names name_bytes ≡ true) × (well_formed bytes.now ends.now names name_bytes ≡ true) }
-    ensures result_value { plan_of result ≡ wanted over_time bytes.now ends.now names name_bytes (name_in rec.now) (mapped_in rec.now) }
-    ensures placed { Placed bytes.now ends.now names name_bytes rec.now result }
-    ensures forward { Forward over_time result }
+) -> Result<Option<Store<'a>>, Refusal>
+    requires { list_fits (length names.list.bytes.now) (length names.list.ends.now) names.list.names names.list.name_bytes ≡ true }
+    ensures result_value { plan_of result ≡ wanted over_time names.entry.list.bytes.now names.entry.list.ends.now names.entry.list.names names.entry.list.name_bytes (name_in rec.now) (mapped_in rec.now) }
+    ensures ready { Ready over_time (answer 0 []) names.entry.list.bytes.now names.entry.list.ends.now names.entry.list.names names.entry.list.name_bytes rec.now result }
 {
-    let asked = read_mapping(rec);
-    match asked {
-        Mapping::Other => Plan::Nothing,
-        Mapping::Refused(refusal) => Plan::Refuse(refusal),
-        Mapping::Symbol {
-            instrument,
-            start,
-            end,
-            name_from,
-            name_to,
-        } => {
-            if !is_name(rec, name_from, name_to) {
-                return Plan::Refuse(Refusal::BadName);
-            }
-            let named = plan_name(
-                bytes, ends, names, name_bytes, rec, instrument, start, end, name_from, name_to,
-            );
-            if !over_time {
-                named
-            } else if end < start {
-                Plan::Refuse(Refusal::Reversed)
-            } else if start < end {
-                named
-            } else {
-                Plan::Nothing
-            }
-        }
+    let Some(mapping) = read_mapping(rec)? else {
+        return Ok(None);
+    };
+    let name = &rec[mapping.name_from..mapping.name_to];
+    if !is_name(name) {
+        return Err(Refusal::BadName);
     }
+    if over_time && mapping.end < mapping.start {
+        return Err(Refusal::Reversed);
+    }
+    if over_time && mapping.start == mapping.end {
+        return Ok(None);
+    }
+    let naming = names.number_for(name)?;
+    Ok(Some(Store {
+        instrument: mapping.instrument,
+        start: mapping.start,
+        end: mapping.end,
+        name,
+        naming,
+    }))
 }
 
-// What a call comes to, where the table's check says `checked`: 15, 14, then as above.
-pub fn judge(
-    checked: Checked,
-    bytes: &[u8],
-    ends: &[u32],
-    names: usize,
-    name_bytes: usize,
-    rec: &[u8],
+// What a call comes to before the room of the table is judged, where the table's check says `checked`: 15, 14, then as above.
+pub fn judge<'a>(
+    checked: Result<(), Refusal>,
+    list: NameList<'_>,
+    rec: &'a [u8],
     over_time: bool,
-) -> Plan
-    ensures result_value { plan_of result ≡ judged_by (checked_of checked) bytes.now ends.now names name_bytes
-        (wanted over_time bytes.now ends.now names name_bytes (name_in rec.now) (mapped_in rec.now)) }
-    ensures ready { Ready over_time (checked_of checked) bytes.now ends.now names name_bytes rec.now result }
+) -> Result<Option<Store<'a>>, Refusal>
+    ensures result_value { plan_of result ≡ judged_by (answer_with no_values checked) list.entry.bytes.now list.entry.ends.now list.entry.names list.entry.name_bytes
+        (wanted over_time list.entry.bytes.now list.entry.ends.now list.entry.names list.entry.name_bytes (name_in rec.now) (mapped_in rec.now)) }
+    ensures ready { Ready over_time (answer_with no_values checked) list.entry.bytes.now list.entry.ends.now list.entry.names list.entry.name_bytes rec.now result }
 {
-    if !list_fits(bytes.len(), ends.len(), names, name_bytes) {
-        return Plan::Refuse(Refusal::BadMemory);
+    if !list.fits() {
+        return Err(Refusal::BadMemory);
     }
-    match checked {
-        Checked::Refused(refusal) => Plan::Refuse(refusal),
-        Checked::WellFormed => {
-            if is_list(bytes, ends, names, name_bytes) {
-                plan_record(bytes, ends, names, name_bytes, rec, over_time)
-            } else {
-                Plan::Refuse(Refusal::IllFormed)
-            }
-        }
-    }
+    checked?;
+    let names = list.check()?;
+    plan_record(names, rec, over_time)
 }

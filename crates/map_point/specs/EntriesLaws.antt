@@ -1,10 +1,12 @@
 -- Entries and bytes determine each other: stores at different places commute, what is stored is read back, and storing what
 -- stands there changes nothing. Assumes nothing.
 use Rattle.std.specs.Prelude.{◌≡◌, refl, ◌≢◌, ℕ, zero, suc, ◌+◌, ◌-◌, ◌*◌, ◌/◌, ◌%◌, ◌^◌, ◌≤◌, ◌<◌, List, [], ◌∷◌, ◌++◌, length, get_or, set, take, drop}
-use Rattle.std.proofs.Common.{sym, ap, ◌∙◌, not-suc-le-zero, add-zero, add-one, arith}
+use Rattle.std.proofs.Common.{sym, ap, ◌∙◌, not-suc-le-zero, add-zero, add-one, arith, length-drop}
 use Rattle.std.proofs.Math.Nat.{sub-zero}
-use Rattle.std.proofs.lemmas.List.{set_comm, set-get_or}
-use Rattle.theory.specs.Fields.{field, put_field, Bytes, field_same, length_put, put_byte, put_same, put_other, field_below}
+use Rattle.std.proofs.lemmas.List.{set_comm, set-get_or, get_or-drop}
+use Rattle.std.proofs.lemmas.List.Edits.{paste_more, paste_none}
+use Rattle.std.proofs.Math.Seq.{paste}
+use Rattle.theory.specs.Fields.{field, put_field, Bytes, field_same, length_put, put_byte, put_same, put_other, field_below, field_drop}
 use Rattle.map_point.specs.declared.entries.Entry.{Entry}
 use Rattle.map_point.specs.Entries.{entry_at, entries_from, put_entry, put_entries}
 
@@ -212,37 +214,73 @@ unfolding entries_from
 entries_small t k zero h = tt
 entries_small t k (suc n) h = (entry_small t k h, entries_small t (suc k) n h)
 
--- ---- moving entries up by one place, the last first
+-- ---- entries moved as bytes
 
--- t is t₀ with the entries from k up to n one place up
-pub record Moved (t₀ : List ℕ) (k n : ℕ) (t : List ℕ) : Type 0 where
-  pub bytes : t ≡ put_entries t₀ (k + 1) (entries_from t₀ k (n - k))
+-- a field copied behind what was copied
+copied_field : (w : ℕ) (d s : List ℕ) (at j : ℕ) → Bytes s → at + j + w ≤ length d → j + w ≤ length s → put_field w (paste d at s j) (at + j) (field w s j) ≡ paste d at s (j + w)
+unfolding put_field field
+copied_field zero d s at j b h k = ap (paste d at s) (sym (add-zero j))
+copied_field (suc w) d s at j b h k =
+    let f = field w s (j + 1) in
+    let g = get_or s j 0 in
+    let small : g < 256 = b j in
+    let low : (g + 256 * f) % 256 ≡ g = omega arith in
+    let high : (g + 256 * f) / 256 ≡ f = omega arith in
+    let next : at + j + 1 ≡ at + (j + 1) = omega arith in
+    let all : j + 1 + w ≡ j + suc w = omega arith in
+    (λ q. put_field w (set (paste d at s j) (at + j) (low q)) (next q) (high q))
+    ∙ ap (λ (l : List ℕ). put_field w l (at + (j + 1)) f) (paste_more d at s j 0 (omega arith) (omega arith))
+    ∙ copied_field w d s at (j + 1) b (omega arith) (omega arith)
+    ∙ ap (paste d at s) all
 
-pub move_none : (t : List ℕ) (n : ℕ) → Moved t n n t
+copied_entry : (d s : List ℕ) (k i : ℕ) → Bytes s → (k + i) * 8 + 8 ≤ length d → i * 8 + 8 ≤ length s
+    → put_entry (paste d (k * 8) s (i * 8)) (k + i) (entry_at s i) ≡ paste d (k * 8) s (suc i * 8)
+unfolding put_entry entry_at
+copied_entry d s k i b h l =
+    let first : (k + i) * 8 ≡ k * 8 + i * 8 = omega arith in
+    let second : (k + i) * 8 + 4 ≡ k * 8 + (i * 8 + 4) = omega arith in
+    let all : i * 8 + 4 + 4 ≡ suc i * 8 = omega arith in
+    (λ q. put_field 4 (put_field 4 (paste d (k * 8) s (i * 8)) (first q) (field 4 s (i * 8))) (second q) (field 4 s (i * 8 + 4)))
+    ∙ ap (λ (l : List ℕ). put_field 4 l (k * 8 + (i * 8 + 4)) (field 4 s (i * 8 + 4))) (copied_field 4 d s (k * 8) (i * 8) b (omega arith) (omega arith))
+    ∙ copied_field 4 d s (k * 8) (i * 8 + 4) b (omega arith) (omega arith)
+    ∙ ap (paste d (k * 8) s) all
+
+copied_entries : (d s : List ℕ) (k i m : ℕ) → Bytes s → (k + i + m) * 8 ≤ length d → (i + m) * 8 ≤ length s
+    → put_entries (paste d (k * 8) s (i * 8)) (k + i) (entries_from s i m) ≡ paste d (k * 8) s ((i + m) * 8)
 unfolding put_entries entries_from
-move_none t n =
-    let e : n - n ≡ 0 = omega arith in
-    record { bytes = ap (λ (m : ℕ). put_entries t (n + 1) (entries_from t n m)) (sym e) }
+copied_entries d s k i zero b h l = ap (λ (n : ℕ). paste d (k * 8) s (n * 8)) (sym (add-zero i))
+copied_entries d s k i (suc m) b h l =
+    let next : suc (k + i) ≡ k + suc i = omega arith in
+    let all : suc i + m ≡ i + suc m = omega arith in
+    ap (λ (t : List ℕ). put_entries t (suc (k + i)) (entries_from s (suc i) m)) (copied_entry d s k i b (omega arith) (omega arith))
+    ∙ ap (λ (n : ℕ). put_entries (paste d (k * 8) s (suc i * 8)) n (entries_from s (suc i) m)) next
+    ∙ copied_entries d s k (suc i) m b (omega arith) (omega arith)
+    ∙ ap (λ (n : ℕ). paste d (k * 8) s (n * 8)) all
 
-pub move_more : {t₀ t t' : List ℕ} {x : Entry} {p k n : ℕ} → p < k → k ≤ n → Moved t₀ k n t → x ≡ entry_at t (k - 1) → t' ≡ put_entry t k x
-    → Moved t₀ (k - 1) n t'
-unfolding put_entries
-move_more {t₀} {t} {t'} {x} {p} {k} {n} h l m r w =
-    let i = k - 1 in
-    let back : i + 1 ≡ k = omega arith in
-    let read : x ≡ entry_at t₀ i = r ∙ ap (λ (b : List ℕ). entry_at b i) m.bytes ∙ put_entries_before t₀ (k + 1) (entries_from t₀ k (n - k)) i (omega arith) in
-    let left : t' ≡ put_entries (put_entry t₀ k x) (k + 1) (entries_from t₀ k (n - k)) =
-    w ∙ ap (λ (b : List ℕ). put_entry b k x) m.bytes ∙ put_entries_comm t₀ (k + 1) (entries_from t₀ k (n - k)) k x (omega arith) in
-    let right : entries_from t₀ i (n - i) ≡ x ∷ entries_from t₀ k (n - k) =
-    entries_cons t₀ i n (omega arith) ∙ (λ q. sym read q ∷ entries_from t₀ (back q) (n - back q)) in
-    record {
-      bytes =
-          left
-          ∙ ap (λ (j : ℕ). put_entries (put_entry t₀ k x) j (entries_from t₀ k (n - k))) (add-one k)
-          ∙ (λ q. put_entries t₀ (sym back q) (sym right q));
-    }
+-- the entries behind those that are dropped
+entries_dropped : (t : List ℕ) (p i m : ℕ) → entries_from (drop (p * 8) t) i m ≡ entries_from t (p + i) m
+unfolding entries_from entry_at
+entries_dropped t p i zero = refl
+entries_dropped t p i (suc m) =
+    let first : p * 8 + i * 8 ≡ (p + i) * 8 = omega arith in
+    let second : p * 8 + (i * 8 + 4) ≡ (p + i) * 8 + 4 = omega arith in
+    let next : p + suc i ≡ suc (p + i) = omega arith in
+    let x : field 4 (drop (p * 8) t) (i * 8) ≡ field 4 t ((p + i) * 8) = field_drop 4 t (p * 8) (i * 8) ∙ ap (field 4 t) first in
+    let y : field 4 (drop (p * 8) t) (i * 8 + 4) ≡ field 4 t ((p + i) * 8 + 4) = field_drop 4 t (p * 8) (i * 8 + 4) ∙ ap (field 4 t) second in
+    (λ q. record { instrument = x q; symbol = y q } ∷ entries_from (drop (p * 8) t) (suc i) m)
+    ∙ ap (λ (es : List Entry). entry_at t (p + i) ∷ es) (entries_dropped t p (suc i) m ∙ ap (λ (n : ℕ). entries_from t n m) next)
 
-pub move_all : {t₀ t : List ℕ} {p k n : ℕ} → p ≤ k → k ≤ p → Moved t₀ k n t → t ≡ put_entries t₀ (p + 1) (entries_from t₀ p (n - p))
-move_all {t₀} {p = p} {k = k} {n = n} h l m =
-    let s : k ≡ p = omega arith in
-    m.bytes ∙ ap (λ (j : ℕ). put_entries t₀ (j + 1) (entries_from t₀ j (n - j))) s
+-- bytes of the entries from place p up to n, copied one place up
+pub moved_up : (t : List ℕ) {t' : List ℕ} {p n : ℕ} → Bytes t → p ≤ n → (n + 1) * 8 ≤ length t → t' ≡ paste t ((p + 1) * 8) (drop (p * 8) t) (n * 8 - p * 8)
+    → t' ≡ put_entries t (p + 1) (entries_from t p (n - p))
+moved_up t {t'} {p} {n} b h l e =
+    let s = drop (p * 8) t in
+    let long : length s ≡ length t - p * 8 = length-drop (p * 8) t in
+    let bytes : Bytes s = λ x. omega (arith, get_or-drop (p * 8) t x 0, b (p * 8 + x)) in
+    let size : n * 8 - p * 8 ≡ (0 + (n - p)) * 8 = omega arith in
+    let from : p + 0 ≡ p = omega arith in
+    let at : p + 1 + 0 ≡ p + 1 = omega arith in
+    e
+    ∙ ap (paste t ((p + 1) * 8) s) size
+    ∙ sym (copied_entries t s (p + 1) 0 (n - p) bytes (omega arith) (omega (arith, long)))
+    ∙ (λ q. put_entries (sym (paste_none t ((p + 1) * 8) s) q) (at q) ((entries_dropped t p 0 (n - p) ∙ ap (λ (k : ℕ). entries_from t k (n - p)) from) q))

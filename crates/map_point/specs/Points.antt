@@ -1,7 +1,7 @@
 -- The point-in-time table (RULES, The map over time): "sorted by instrument, each once, known symbols". The record or the build
 -- "sets the instrument's entry", "a later entry for one instrument replaces the earlier one"; "its lookup takes the instrument
 -- alone; its length counts entries".
-use Rattle.std.specs.Prelude.{ℕ, ◌/◌, ◌%◌, Bool, true, ◌&&◌, cond, List, [], ◌∷◌, length, ltb, leb, eqb}
+use Rattle.std.specs.Prelude.{Option as Found, Some, None, ℕ, ◌/◌, ◌%◌, Bool, true, ◌&&◌, cond, List, [], ◌∷◌, length, ltb, leb, eqb}
 use Rattle.std.proofs.Math.Option.{Option, none, some}
 use Rattle.theory.specs.Answer.{Answer, answer}
 use Rattle.leaves.specs.Refusal.{refused}
@@ -9,10 +9,6 @@ use Rattle.leaves.specs.declared.refusal.Refusal.TheVariants.{NoRoom, IllFormed,
 use Rattle.map_rules.specs.Table.{room_fits, names_fit}
 use Rattle.map_point.specs.Entries.{entries, put_entries}
 use Rattle.map_point.specs.declared.entries.Entry.{Entry}
-use Rattle.map_look.specs.declared.lookup.Found.{Found}
-use Rattle.map_look.specs.declared.lookup.Found.TheVariants.{Symbol, Nothing, Refused as FindRefused}
-use Rattle.map_point.specs.declared.points.Stored.{Stored}
-use Rattle.map_point.specs.declared.points.Stored.TheVariants.{Done, Refused as StoreRefused}
 
 -- ---- lists of entries
 
@@ -75,10 +71,10 @@ unfoldable pub point_found : List ℕ → ℕ → ℕ → Answer
 unfolding points_fit symbol_for
 point_found t used i = cond (points_fit (length t) used) (symbol_answer (symbol_for i (entries t used))) (refused BadMemory)
 
-abbrev pub point_found_of : Found → Answer
-point_found_of (Symbol symbol) = answer 0 (symbol ∷ [])
-point_found_of Nothing = answer 0 []
-point_found_of (FindRefused r) = refused r
+-- the values of what a lookup finds: a symbol, or nothing
+abbrev pub symbol_values : Found ℕ → List ℕ
+symbol_values None = []
+symbol_values (Some symbol) = symbol ∷ []
 
 -- whether an outcome fits the room of a table's bytes
 unfoldable pub has_room : List ℕ → List Entry → Bool
@@ -102,7 +98,3 @@ used_then t used out = cond (has_room t out) (length out) used
 unfoldable pub entries_then : List ℕ → ℕ → List Entry → List Entry
 unfolding has_room
 entries_then t used out = cond (has_room t out) out (entries t used)
-
-abbrev pub stored_of : Stored → Answer
-stored_of (Done used) = answer 0 (used ∷ [])
-stored_of (StoreRefused r) = refused r

@@ -24,13 +24,13 @@ and_false : (a b : Bool) → b ≡ false → (a && b) ≡ false
 and_false true b e = e
 and_false false b e = refl
 
-pub fit_odd : (bytes used : ℕ) → bytes % 8 ≢ 0 → points_fit bytes used ≡ false
+pub fit_odd : (bytes used : ℕ) → bytes % 8 ≢ 0 → false ≡ points_fit bytes used
 unfolding points_fit
 fit_odd bytes used h = rw (ne_eqb (bytes % 8) 0 h) refl
 
-pub fit_large : (bytes used : ℕ) → 65536 < bytes / 8 → points_fit bytes used ≡ false
+pub fit_large : (bytes used : ℕ) → 65536 < bytes / 8 → false ≡ points_fit bytes used
 unfolding points_fit room_fits
-fit_large bytes used h = and_false (eqb (bytes % 8) 0) (room_fits (bytes / 8) used) (rw (lt-leb (bytes / 8) 65536 h) refl)
+fit_large bytes used h = sym (and_false (eqb (bytes % 8) 0) (room_fits (bytes / 8) used) (rw (lt-leb (bytes / 8) 65536 h) refl))
 
 pub fit_used : (bytes used : ℕ) → bytes % 8 ≡ 0 → bytes / 8 ≤ 65536 → leb used (bytes / 8) ≡ points_fit bytes used
 unfolding points_fit room_fits
@@ -223,18 +223,18 @@ module _ (t : List ℕ) (used : ℕ) {b : Bool} (e : b ≡ points_fit (length t)
   unfolding points_checked names_fit
   check_names_lem names f h = rw (fits f, lt-leb names 4096 h) refl
 
-  pub check_no : (names : ℕ) {w : Bool} → not b ≡ false → names ≤ 4096 → w ≡ well_formed names (entries t used) → not w ≡ true
+  pub check_no : (names : ℕ) {w : Bool} → not b ≡ false → names ≤ 4096 → w ≡ well_formed names (entries t used) → w ≡ false
       → refused IllFormed ≡ points_checked t used names
   unfolding points_checked names_fit
   check_no names {w} f h g n =
-      let i : well_formed names (entries t used) ≡ false = sym g ∙ not-true w n in
+      let i : well_formed names (entries t used) ≡ false = sym g ∙ n in
       rw (fits f, le-leb names 4096 h, i) refl
 
-  pub check_yes : (names : ℕ) {w : Bool} → not b ≡ false → names ≤ 4096 → w ≡ well_formed names (entries t used) → not w ≡ false
+  pub check_yes : (names : ℕ) {w : Bool} → not b ≡ false → names ≤ 4096 → w ≡ well_formed names (entries t used) → w ≡ true
       → answer 0 [] ≡ points_checked t used names
   unfolding points_checked names_fit
   check_yes names {w} f h g n =
-      let i : well_formed names (entries t used) ≡ true = sym g ∙ not-false w n in
+      let i : well_formed names (entries t used) ≡ true = sym g ∙ n in
       rw (fits f, le-leb names 4096 h, i) refl
 
   pub get_memory : (i : ℕ) → not b ≡ true → refused BadMemory ≡ point_found t used i
@@ -248,20 +248,20 @@ module _ (t : List ℕ) (used : ℕ) {b : Bool} (e : b ≡ points_fit (length t)
   sorted : not b ≡ false → T (not (points_fit (length t) used) || rising (entries t used)) → T (rising (entries t used))
   sorted f s = rw (fits f) at s
 
-  pub get_nothing : (i : ℕ) {place : ℕ} {h : Bool} → not b ≡ false → EntryPlaced t used i place → h ≡ holds_at t used place i → not h ≡ true
+  pub get_nothing : (i : ℕ) {place : ℕ} {h : Bool} → not b ≡ false → EntryPlaced t used i place → h ≡ holds_at t used place i → h ≡ false
       → T (not (points_fit (length t) used) || rising (entries t used)) → answer 0 [] ≡ point_found t used i
   unfolding point_found
   get_nothing i {place} {h} f p g n s =
-      let o : symbol_for i (entries t used) ≡ none = symbol_not_held t used i place p (sorted f s) (not_held t used place i (sym g ∙ not-true h n)) in
+      let o : symbol_for i (entries t used) ≡ none = symbol_not_held t used i place p (sorted f s) (not_held t used place i (sym g ∙ n)) in
       rw (fits f, o) refl
 
-  pub get_symbol : (i : ℕ) {place : ℕ} {h : Bool} {x : Entry} → not b ≡ false → EntryPlaced t used i place → h ≡ holds_at t used place i → not h ≡ false → x ≡ entry_at t place
+  pub get_symbol : (i : ℕ) {place : ℕ} {h : Bool} {x : Entry} → not b ≡ false → EntryPlaced t used i place → h ≡ holds_at t used place i → h ≡ true → x ≡ entry_at t place
       → T (not (points_fit (length t) used) || rising (entries t used)) → answer 0 (x.symbol ∷ []) ≡ point_found t used i
   unfolding point_found
   get_symbol i {place} {h} {x} f p g n q s =
-      let o : symbol_for i (entries t used) ≡ some (entry_at t place).symbol = symbol_held t used i place p (sorted f s) (held t used place i (sym g ∙ not-false h n)) in
+      let o : symbol_for i (entries t used) ≡ some (entry_at t place).symbol = symbol_held t used i place p (sorted f s) (held t used place i (sym g ∙ n)) in
       rw (fits f, o, ← q) refl
 
-  pub get_within : (i place : ℕ) {h : Bool} → not b ≡ false → h ≡ holds_at t used place i → not h ≡ false → place * 8 + 8 ≤ length t
+  pub get_within : (i place : ℕ) {h : Bool} → not b ≡ false → h ≡ holds_at t used place i → h ≡ true → place * 8 + 8 ≤ length t
   get_within i place {h} f g n =
-      omega (arith, fit_in_lem f, (held t used place i (sym g ∙ not-false h n)).within)
+      omega (arith, fit_in_lem f, (held t used place i (sym g ∙ n)).within)

@@ -11,7 +11,7 @@ pub const WIDTH: usize = 8;
 const SYMBOL: usize = 4;
 
 // An instrument and its symbol number.
-#[derive(Clone, Copy)]
+#[derive(Clone, Copy, Debug, PartialEq, Eq)]
 pub struct Entry {
     pub instrument: u32,
     pub symbol: u32,
@@ -39,15 +39,10 @@ pub fn put_entry(table: &mut [u8], place: usize, x: Entry)
     put_u32(table, at + SYMBOL, x.symbol);
 }
 
-// Moves the entries from a place up to `used` up by one place, the last first.
+// Moves the entries from a place up to `used` up by one place.
 pub fn move_up(table: &mut [u8], place: usize, used: usize)
     requires { (place ≤ used) × ((used + 1) * 8 ≤ length table.old) }
     ensures { table.new ≡ put_entries table.old (place + 1) (entries_from table.old place (used - place)) }
 {
-    let mut k = used;
-    while place < k {
-        let x = entry_at(table, k - 1);
-        put_entry(table, k, x);
-        k -= 1;
-    }
+    table.copy_within(place * WIDTH..used * WIDTH, (place + 1) * WIDTH);
 }

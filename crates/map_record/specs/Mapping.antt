@@ -1,22 +1,20 @@
 -- The mapping call: what a record's bytes leave of a table and a name list (RULES, The map over time: "A symbol mapping record
 -- inserts"; Merging records: "The mapping call takes a record's bytes").
-use Rattle.std.specs.Prelude.{◌≡◌, ℕ, ◌+◌, ◌*◌, ◌≤◌, ◌<◌, Bool, true, false, cond, List, [], ◌∷◌, length, set, T}
+use Rattle.std.specs.Prelude.{◌≡◌, ℕ, ◌+◌, Bool, true, false, cond, List, [], ◌∷◌, length, set}
 use Rattle.theory.specs.Answer.{Answer, answer}
 use Rattle.leaves.specs.Refusal.{refused}
 use Rattle.leaves.specs.declared.refusal.Refusal.TheVariants.{NoRoom}
 use Rattle.leaves.specs.Frame.{mapped_in, name_in}
 use Rattle.leaves_names.specs.Names.{name_written}
-use Rattle.map_rules.specs.Table.{Row, Outcome, refused_by, stored, if_room, insert_rows, well_formed as wellFormedRows, Ordered}
-use Rattle.map_rules.specs.Memory.{same_value, known_value, rows, room_of, table_fits, rows_written, width}
+use Rattle.map_rules.specs.Table.{Row, Outcome, refused_by, stored, if_room, insert_rows, well_formed as wellFormedRows}
+use Rattle.map_rules.specs.Memory.{same_value, known_value, rows, room_of, table_fits, rows_written}
 use Rattle.map_point.specs.Entries.{entries, put_entries}
-use Rattle.map_point.specs.Points.{well_formed, set_entry, points_fit, has_room, rising}
+use Rattle.map_point.specs.Points.{well_formed, set_entry, points_fit, has_room}
 use Rattle.map_point.specs.declared.entries.Entry.{Entry}
 use Rattle.map_plan.specs.Wanted.{Wanted, nothing, refuses, stores, wanted, judged}
-use Rattle.map_record.specs.declared.mapping.Recorded.{Recorded}
-use Rattle.map_record.specs.declared.mapping.Recorded.TheVariants.{Done, Refused}
 use Rattle.leaves.specs.declared.refusal.Refusal.{Refusal}
-use Rattle.map_plan.specs.declared.planning.Plan.{Plan}
-use Rattle.map_plan.specs.declared.planning.Plan.TheVariants.{Nothing, Store, Refuse}
+use Rattle.leaves_names.specs.Room.{SameMemory}
+use Rattle.leaves_names.specs.declared.names.NameRoom.{NameRoom}
 
 -- ---- what is wanted
 
@@ -133,6 +131,25 @@ abbrev pub held_by : {X : Type 0} → List X → Comes X → List X
 held_by xs (refusing a) = xs
 held_by xs (holding ys t joins) = ys
 
+-- whether a name joins the list
+abbrev pub joins_by : {X : Type 0} → Comes X → Bool
+joins_by (refusing a) = false
+joins_by (holding xs t joins) = joins
+
+abbrev pub time_joins : List ℕ → ℕ → NameRoom → List ℕ → Bool
+time_joins t used s record' = joins_by (time_comes t used (time_judged t used s.bytes.now s.ends.now s.names s.name_bytes record'))
+
+abbrev pub point_joins : List ℕ → ℕ → NameRoom → List ℕ → Bool
+point_joins t used s record' = joins_by (point_comes t used (point_judged t used s.bytes.now s.ends.now s.names s.name_bytes record'))
+
+-- a name has joined a list that is lent, or not
+pub record Joins (joins : Bool) (s : NameRoom) (name : List ℕ) (t : NameRoom) : Type 0 where
+  pub bytes : t.bytes.now ≡ bytes_then joins s.bytes.now s.name_bytes name
+  pub ends : t.ends.now ≡ ends_then joins s.ends.now s.names s.name_bytes name
+  pub names : t.names ≡ names_then joins s.names
+  pub name_bytes : t.name_bytes ≡ name_bytes_then joins s.name_bytes name
+  pub memory : SameMemory s t
+
 -- a call gave this answer and left this memory: they are what it leaves, and the table's are those that it comes to
 pub record Leaves {X : Type 0} (read : List ℕ → ℕ → List X) (comes : Comes X) (left : Left) (t : List ℕ) (used : ℕ) (a : Answer) (t' b' e' : List ℕ) : Type 0 where
   pub says : a ≡ left.says
@@ -148,22 +165,6 @@ TimeLeaves t used bytes ends names name_bytes record' a t' b' e' =
 abbrev pub PointLeaves : List ℕ → ℕ → List ℕ → List ℕ → ℕ → ℕ → List ℕ → Answer → List ℕ → List ℕ → List ℕ → Type 0
 PointLeaves t used bytes ends names name_bytes record' a t' b' e' =
     Leaves entries (point_comes t used (point_judged t used bytes ends names name_bytes record')) (point_left t used bytes ends names name_bytes record') t used a t' b' e'
-
--- the answer of a mapping call
-abbrev pub recorded_of : Recorded → Answer
-recorded_of (Done used names name_bytes) = answer 0 (used ∷ names ∷ name_bytes ∷ [])
-recorded_of (Refused r) = refused r
-
-abbrev pub Insertable : List ℕ → ℕ → Plan → Type 0
-Insertable t used Nothing = Unit {0}
-Insertable t used (Refuse r) = Unit {0}
-Insertable t used (Store instrument start end number new from to) =
-    (length t ≡ room_of t * width) × (used ≤ room_of t) × (start < end) × Ordered (rows t used)
-
-abbrev pub Settable : List ℕ → ℕ → Plan → Type 0
-Settable t used Nothing = Unit {0}
-Settable t used (Refuse r) = Unit {0}
-Settable t used (Store instrument start end number new from to) = (used * 8 ≤ length t) × T (rising (entries t used))
 
 -- a step that refuses is what the call comes to, and leaves the table; one that is done leaves what the call comes to
 pub record Keeps {X : Type 0} (read : List ℕ → ℕ → List X) (comes : Comes X) (new : Bool) (t : List ℕ) (a : Answer) (t' : List ℕ) : Type 0 where

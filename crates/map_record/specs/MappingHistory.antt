@@ -1,6 +1,6 @@
 -- A mapping call that stores is an insert of the trace of calls, with the name's number and the names known once it has joined;
 -- any other leaves the table as it was. Assumes nothing.
-use Rattle.std.specs.Prelude.{◌≡◌, ◌≢◌, ℕ, ◌+◌, ◌%◌, ◌≤◌, ◌<◌, Bool, true, false, ◌&&◌, cond, length, ltb, eqb}
+use Rattle.std.specs.Prelude.{◌≡◌, ◌≢◌, ℕ, ◌+◌, ◌%◌, ◌≤◌, ◌<◌, Bool, true, false, ◌&&◌, cond, length, ltb, eqb, Result, Ok, Err}
 use Rattle.std.proofs.Math.Path.{refl, ap, subst}
 use Rattle.std.proofs.Common.{sym, ◌∙◌, arith, lt→ltb, lt-ltb, le-ltb, le-leb, ltb-true, ltb-false, ne_eqb}
 use mathlib.Core.List.{List, [], ◌∷◌}
@@ -11,13 +11,14 @@ use Rattle.theory.specs.Answer.{Answer}
 use Rattle.theory.specs.Bools.{and_left, and_right, true_T, T_true}
 use Rattle.theory.specs.RunsTools.{cond_case, cond_yes, T_and, T_fst, T_snd}
 use Rattle.leaves.specs.Refusal.{refused}
+use Rattle.leaves.specs.declared.refusal.Refusal.{Refusal}
 use Rattle.leaves.specs.declared.refusal.Refusal.TheVariants.{Reversed, BadName, NoNameRoom, IllFormed, BadMemory}
 use Rattle.leaves.specs.Frame.{Mapped, other, symbol, not_one, mapped_in, name_in}
 use Rattle.leaves_names.specs.Names.{list_fits, well_formed as wellFormedNames, is_name, names_of, least, numbering, naming, has_room}
 use Rattle.leaves_names.specs.NamesLaws.{Memory, memory}
 use Rattle.leaves_names.specs.NamingLaws.{room}
 use Rattle.leaves_names.specs.declared.names.Naming.{Naming}
-use Rattle.leaves_names.specs.declared.names.Naming.TheVariants.{Old, New, Refused as NotNamed}
+use Rattle.leaves_names.specs.declared.names.Naming.TheVariants.{Old, New}
 use Rattle.map_rules.specs.Table.{Row, Outcome, refused_by, stored, now_stored, room_fits, names_fit, well_formed, ordered, all_known, entered, inserted}
 use Rattle.map_rules.specs.Memory.{width, same_value, known_value, rows, room_of, table_fits, insert_outcome, rows_written, memory_after, outcome_answer, used_after, Gives}
 use Rattle.map_rules.specs.MemoryLaws.{length_rows}
@@ -45,7 +46,7 @@ pub record Passed (over_time lent well : Bool) (bytes ends : List ℕ) (names na
   pub forward : over_time ≡ true → s < e
   pub known : n < names_then new names
   pub few : names_then new names ≤ 4096
-  pub naming_is : naming bytes ends names name_bytes name ≡ named new n
+  pub naming_is : naming bytes ends names name_bytes name ≡ Ok (named new n)
 
 -- a choice that is not a refusal
 chosen : (b : Bool) (w : Wanted) (a : Answer) {i s e n : ℕ} {new : Bool} → cond b w (refuses a) ≡ stores i s e n new → (b ≡ true) × (w ≡ stores i s e n new)
@@ -73,7 +74,7 @@ numbered_known bytes places names name_bytes size number i s e {i'} {s'} {e'} {n
         let b : false ≡ new = cc in
         rw (← b, ← a) (l, few, cc, cc)
 
-    fresh : (b : Bool) → has_room bytes places names name_bytes size ≡ b → numbered i s e (cond b (New names) (NotNamed NoNameRoom)) ≡ stores i' s' e' n new
+    fresh : (b : Bool) → has_room bytes places names name_bytes size ≡ b → numbered i s e (cond b (Ok (New names)) (Err NoNameRoom)) ≡ stores i' s' e' n new
         → (n < names_then new names) × (names_then new names ≤ 4096) × (s ≡ s') × (e ≡ e')
     fresh true r q =
         let a : names ≡ n = cc in
@@ -83,21 +84,21 @@ numbered_known bytes places names name_bytes size number i s e {i'} {s'} {e'} {n
     fresh false r q = let z : ◌≡◌ {A = ℕ} 0 1 = cc in absurd (omega arith)
 
     first : (b : Bool) → ltb number names ≡ b
-        → numbered i s e (cond b (Old number) (cond (has_room bytes places names name_bytes size) (New names) (NotNamed NoNameRoom))) ≡ stores i' s' e' n new
+        → numbered i s e (cond b (Ok (Old number)) (cond (has_room bytes places names name_bytes size) (Ok (New names)) (Err NoNameRoom))) ≡ stores i' s' e' n new
         → (n < names_then new names) × (names_then new names ≤ 4096) × (s ≡ s') × (e ≡ e')
     first true l q = old (ltb-true number names l) q
     first false l q = fresh (has_room bytes places names name_bytes size) refl q
 
-numbered_is : (x : Naming) (i s e : ℕ) {i' s' e' n : ℕ} {new : Bool} → numbered i s e x ≡ stores i' s' e' n new → x ≡ named new n
-numbered_is (Old k) i s e {i'} {s'} {e'} {n} {new} h =
+numbered_is : (x : Result Naming Refusal) (i s e : ℕ) {i' s' e' n : ℕ} {new : Bool} → numbered i s e x ≡ stores i' s' e' n new → x ≡ Ok (named new n)
+numbered_is (Ok (Old k)) i s e {i'} {s'} {e'} {n} {new} h =
     let a : k ≡ n = cc in
     let b : false ≡ new = cc in
     rw (← b, a) refl
-numbered_is (New k) i s e {i'} {s'} {e'} {n} {new} h =
+numbered_is (Ok (New k)) i s e {i'} {s'} {e'} {n} {new} h =
     let a : k ≡ n = cc in
     let b : true ≡ new = cc in
     rw (← b, a) refl
-numbered_is (NotNamed r) i s e h = let z : ◌≡◌ {A = ℕ} 0 1 = cc in absurd (omega arith)
+numbered_is (Err r) i s e h = let z : ◌≡◌ {A = ℕ} 0 1 = cc in absurd (omega arith)
 
 -- in a well-formed list in lent memory, a valid name is named so
 named_so : (bytes ends : List ℕ) (names name_bytes : ℕ) (name : List ℕ) → list_fits (length bytes) (length ends) names name_bytes ≡ true → wellFormedNames bytes ends names name_bytes ≡ true
@@ -107,7 +108,7 @@ named_so bytes ends names name_bytes name m w v = rw (m, w, v) refl
 
 wanted_known : (over_time : Bool) (bytes ends : List ℕ) (names name_bytes : ℕ) (name : List ℕ) (m : Mapped) {i s e n : ℕ} {new : Bool} → names ≤ 4096
     → wanted over_time bytes ends names name_bytes name m ≡ stores i s e n new
-    → (over_time ≡ true → s < e) × (n < names_then new names) × (names_then new names ≤ 4096) × (is_name name ≡ true) × (numbering_in bytes ends names name_bytes name ≡ named new n)
+    → (over_time ≡ true → s < e) × (n < names_then new names) × (names_then new names ≤ 4096) × (is_name name ≡ true) × (numbering_in bytes ends names name_bytes name ≡ Ok (named new n))
 unfolding wanted numbering_in
 wanted_known over_time bytes ends names name_bytes name other few h = let z : ◌≡◌ {A = ℕ} 0 1 = cc in absurd (omega arith)
 wanted_known over_time bytes ends names name_bytes name (not_one reason) few h = let z : ◌≡◌ {A = ℕ} 0 1 = cc in absurd (omega arith)
@@ -226,8 +227,8 @@ never_named : (bytes ends : List ℕ) (names name_bytes : ℕ) (name : List ℕ)
 unfolding numbering_in numbering used_told
 never_named bytes ends names name_bytes name i s e =
     let number = least name (names_of bytes ends names) in
-    cond_case (λ (x : Naming). Refusing (numbered i s e x)) (ltb number names) _ _ (λ l. tt) (λ l.
-    cond_case (λ (x : Naming). Refusing (numbered i s e x)) (has_room (length bytes) (length ends) names name_bytes (length name)) _ _ (λ r. tt) (λ r used. refl))
+    cond_case (λ (x : Result Naming Refusal). Refusing (numbered i s e x)) (ltb number names) _ _ (λ l. tt) (λ l.
+    cond_case (λ (x : Result Naming Refusal). Refusing (numbered i s e x)) (has_room (length bytes) (length ends) names name_bytes (length name)) _ _ (λ r. tt) (λ r used. refl))
 
 never_wanted : (bytes ends : List ℕ) (names name_bytes : ℕ) (name : List ℕ) (m : Mapped) → Refusing (wanted true bytes ends names name_bytes name m)
 unfolding wanted used_told

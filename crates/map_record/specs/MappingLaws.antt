@@ -1,11 +1,10 @@
 -- What the steps of the mapping call show. Assumes nothing.
 use Rattle.std.proofs.Math.Path.{◌≡◌, refl, ap}
 use Rattle.std.proofs.Common.{sym, ◌∙◌, arith}
-use Rattle.std.specs.Prelude.{ℕ, ◌+◌, ◌-◌, ◌*◌, ◌≤◌, ◌<◌, Bool, ◌&&◌, cond, set, T}
+use Rattle.std.specs.Prelude.{ℕ, ◌*◌, ◌≤◌, Bool, ◌&&◌, cond, T, Option, Some, None, Result, Ok, Err}
 use Rattle.std.proofs.Math.Bool.{true, false}
 use mathlib.Core.List.{List, [], ◌∷◌}
 use Rattle.std.proofs.Math.ListN.{length}
-use Rattle.std.proofs.Math.Seq.{slice, length-slice}
 use Rattle.theory.specs.Bools.{and_left}
 use Rattle.theory.specs.Answer.{Answer, answer}
 use Rattle.leaves.specs.Refusal.{refused, number_of}
@@ -13,32 +12,26 @@ use Rattle.leaves.specs.declared.refusal.Refusal.{Refusal}
 use Rattle.leaves.specs.declared.refusal.Refusal.TheVariants.{NoRoom}
 use Rattle.leaves.specs.Frame.{mapped_in, name_in}
 use Rattle.leaves.specs.RefusalLaws.{refused_not_done}
-use Rattle.leaves_names.specs.Names.{name_written}
 use Rattle.map_rules.specs.Table.{Row, Outcome, refused_by, stored, now_stored, Ordered, names_fit, well_formed as wellFormedRows, if_room, insert_rows}
 use Rattle.map_rules.specs.Memory.{same_value, known_value, width, rows, room_of, table_fits, check_answer, rows_written, memory_after, outcome_answer, used_after, Gives}
 use Rattle.map_rules.specs.MemoryLaws.{length_rows}
-use Rattle.map_rules.specs.Outcomes.{Lent, table_lent, checked_ordered}
+use Rattle.map_rules.specs.Outcomes.{check_passed, passed_table}
 use Rattle.map_point.specs.declared.entries.Entry.{Entry}
 use Rattle.map_point.specs.Entries.{entries, put_entries}
 use Rattle.map_point.specs.EntriesLaws.{length_entries}
 use Rattle.map_point.specs.Points.{rising, all_known, well_formed, set_entry, points_fit, points_checked, has_room, stored_answer, stored_bytes, used_then, entries_then}
 use Rattle.map_point.specs.PointsReads.{fit_bytes}
 use Rattle.map_point.specs.PointsSteps.{Stores}
-use Rattle.map_plan.specs.Wanted.{wanted, judged_by, plan_of, Lies, Placed, Forward, Formed}
+use Rattle.map_plan.specs.Wanted.{wanted, judged_by, plan_of, numbered, stores, is_new, number_in}
 use Rattle.map_plan.specs.WantedLaws.{judged_same}
-use Rattle.map_plan.specs.declared.planning.Plan.{Plan}
-use Rattle.map_plan.specs.declared.planning.Plan.TheVariants.{Nothing, Store, Refuse}
-use Rattle.map_record.specs.Mapping.{time_judged, point_judged, Comes, refusing, holding, mapping_row, time_outcome, outcome_comes, time_comes, point_outcome, point_comes, joins_in, names_then, name_bytes_then, bytes_then, ends_then, left_by, time_left, point_left, Leaves, TimeLeaves, PointLeaves, Insertable, Settable, Keeps}
+use Rattle.map_plan.specs.declared.planning.Store.{Store}
+use Rattle.leaves_names.specs.Room.{Added}
+use Rattle.leaves_names.specs.declared.names.NameRoom.{NameRoom}
+use Rattle.leaves_names.specs.declared.names.Naming.{Naming}
+use Rattle.leaves_names.specs.declared.names.Naming.TheVariants.{Old, New}
+use Rattle.map_record.specs.Mapping.{time_judged, point_judged, Comes, refusing, holding, mapping_row, time_outcome, outcome_comes, time_comes, point_outcome, point_comes, bytes_then, ends_then, left_by, time_left, point_left, joins_by, time_joins, point_joins, Joins, Leaves, TimeLeaves, PointLeaves, Keeps}
 
 -- ---- a plan that stores has been tested for what its table needs
-
--- and so for the plan that is met
-module _ (t : List ℕ) (used : ℕ) {p : Plan} {i s e n from to : ℕ} {new : Bool} (h : p ≡ Store i s e n new from to) where
-  pub inserts_ready : Insertable t used p → (length t ≡ room_of t * width) × (used ≤ room_of t) × (s < e) × Ordered (rows t used)
-  inserts_ready r = rw h at r
-
-  pub sets_ready : Settable t used p → (used * 8 ≤ length t) × T (rising (entries t used))
-  sets_ready r = rw h at r
 
 -- a check that is done
 check_done : (fits known well : Bool) → cond (fits && known) (cond well (answer 0 []) (answer 14 [])) (answer 15 []) ≡ answer 0 [] → (fits ≡ true) × (well ≡ true)
@@ -47,28 +40,29 @@ check_done true true false e = let z : ◌≡◌ {A = ℕ} 14 0 = cc in absurd (
 check_done true false well e = let z : ◌≡◌ {A = ℕ} 15 0 = cc in absurd (omega arith)
 check_done false known well e = let z : ◌≡◌ {A = ℕ} 15 0 = cc in absurd (omega arith)
 
-pub insertable : (t : List ℕ) (used names : ℕ) (p : Plan) {checked : Answer} → checked ≡ check_answer t used names → Forward true p → Formed checked p → Insertable t used p
-unfolding check_answer
-insertable t used names Nothing q f d = tt
-insertable t used names (Refuse r) q f d = tt
-insertable t used names (Store i s e n new from to) q f d =
-    let w = check_done (table_fits (length t) used) (names_fit names) (wellFormedRows same_value known_value names (rows t used)) (sym q ∙ d) in
-    let l : Lent (length t) used = table_lent (length t) used w.0 in
-    (l.whole, l.in_use, f refl, checked_ordered t used names refl w.1)
+pub insertable : (t : List ℕ) (used names : ℕ) {checked : Answer} → checked ≡ check_answer t used names → checked ≡ answer 0 []
+    → (length t ≡ room_of t * width) × (used ≤ room_of t) × Ordered (rows t used)
+insertable t used names q d = passed_table t used names (check_passed t used names (sym d ∙ q))
 
 formed_rising : (names : ℕ) (xs : List Entry) → well_formed names xs ≡ true → T (rising xs)
 unfolding well_formed
 formed_rising names xs e = rw (and_left (rising xs) (all_known names xs) e) tt
 
-pub settable : (t : List ℕ) (used names : ℕ) (p : Plan) {checked : Answer} → checked ≡ points_checked t used names → Formed checked p → Settable t used p
+pub settable : (t : List ℕ) (used names : ℕ) {checked : Answer} → checked ≡ points_checked t used names → checked ≡ answer 0 [] → (used * 8 ≤ length t) × T (rising (entries t used))
 unfolding points_checked
-settable t used names Nothing q d = tt
-settable t used names (Refuse r) q d = tt
-settable t used names (Store i s e n new from to) q d =
+settable t used names q d =
     let w = check_done (points_fit (length t) used) (names_fit names) (well_formed names (entries t used)) (sym q ∙ d) in
     (fit_bytes (length t) used w.0, formed_rising names (entries t used) w.1)
 
 -- ---- the table's own step
+
+-- what is stored, by its name's number
+named_as : (i s e : ℕ) (x : Naming) → numbered i s e (Ok x) ≡ stores i s e (number_in x) (is_new x)
+named_as i s e (Old n) = refl
+named_as i s e (New n) = refl
+
+abbrev Plan : Type 0
+Plan = Result (Option Store) Refusal
 
 not_refused : {A : Type 0} (r : Refusal) (vs : List ℕ) → refused r ≡ answer 0 vs → A
 not_refused r vs h = let z : number_of r ≡ 0 = cc in absurd (refused_not_done r z)
@@ -103,19 +97,19 @@ module _ (t : List ℕ) (used : ℕ) where
       keeps_done rows (length ys) g.answers (λ j. holding (sym g.holds j) (sym g.memory j) new)
 
   module _ {p : Plan} where
-    pub inserts_nothing : p ≡ Nothing → Keeps rows (time_comes t used (plan_of p)) (joins_in (plan_of p)) t (answer 0 (used ∷ [])) t
+    pub inserts_nothing : p ≡ Ok None → Keeps rows (time_comes t used (plan_of p)) false t (answer 0 (used ∷ [])) t
     unfolding time_comes
     inserts_nothing h = rw h (keeps_done rows used refl refl)
 
-    pub inserts_refused : {r : Refusal} → p ≡ Refuse r → Keeps rows (time_comes t used (plan_of p)) (joins_in (plan_of p)) t (refused r) t
+    pub inserts_refused : {r : Refusal} → p ≡ Err r → Keeps rows (time_comes t used (plan_of p)) false t (refused r) t
     unfolding time_comes
     inserts_refused {r} h = rw h (keeps_refused rows r refl refl refl)
 
-    pub inserts_row : {i s e n from to : ℕ} {new : Bool} {a : Answer} {t' : List ℕ} → p ≡ Store i s e n new from to
-        → Gives (if_room (room_of t) (insert_rows same_value (mapping_row i s e n) (rows t used))) t used a t'
-        → Keeps rows (time_comes t used (plan_of p)) (joins_in (plan_of p)) t a t'
+    pub inserts_row : {x : Store} {a : Answer} {t' : List ℕ} → p ≡ Ok (Some x)
+        → Gives (if_room (room_of t) (insert_rows same_value (mapping_row x.instrument x.start x.end (number_in x.naming)) (rows t used))) t used a t'
+        → Keeps rows (time_comes t used (plan_of p)) (is_new x.naming) t a t'
     unfolding time_comes time_outcome
-    inserts_row {new = new} h g = rw h (inserted_keeps _ new g)
+    inserts_row {x} h g = rw (h, named_as x.instrument x.start x.end x.naming) (inserted_keeps _ (is_new x.naming) g)
 
   set_keeps : (room : Bool) (out : List Entry) (new : Bool) {a : Answer} {t' : List ℕ} → a ≡ cond room (answer 0 (length out ∷ [])) (refused NoRoom)
       → t' ≡ cond room (put_entries t 0 out) t → entries t' (cond room (length out) used) ≡ cond room out (entries t used)
@@ -124,103 +118,93 @@ module _ (t : List ℕ) (used : ℕ) where
   set_keeps false out new h m r = keeps_refused entries NoRoom h refl m
 
   module _ {p : Plan} where
-    pub sets_nothing : p ≡ Nothing → Keeps entries (point_comes t used (plan_of p)) (joins_in (plan_of p)) t (answer 0 (used ∷ [])) t
+    pub sets_nothing : p ≡ Ok None → Keeps entries (point_comes t used (plan_of p)) false t (answer 0 (used ∷ [])) t
     unfolding point_comes
     sets_nothing h = rw h (keeps_done entries used refl refl)
 
-    pub sets_refused : {r : Refusal} → p ≡ Refuse r → Keeps entries (point_comes t used (plan_of p)) (joins_in (plan_of p)) t (refused r) t
+    pub sets_refused : {r : Refusal} → p ≡ Err r → Keeps entries (point_comes t used (plan_of p)) false t (refused r) t
     unfolding point_comes
     sets_refused {r} h = rw h (keeps_refused entries r refl refl refl)
 
-    pub sets_entry : {i s e n from to : ℕ} {new : Bool} {a : Answer} {t' : List ℕ} → p ≡ Store i s e n new from to
-        → Stores t used (record { instrument = i; symbol = n }) a t' → Keeps entries (point_comes t used (plan_of p)) (joins_in (plan_of p)) t a t'
+    pub sets_entry : {x : Store} {a : Answer} {t' : List ℕ} → p ≡ Ok (Some x)
+        → Stores t used (record { instrument = x.instrument; symbol = number_in x.naming }) a t' → Keeps entries (point_comes t used (plan_of p)) (is_new x.naming) t a t'
     unfolding point_comes point_outcome stored_answer stored_bytes used_then entries_then
-    sets_entry {i} {n = n} {new = new} h st =
-        let out = set_entry (record { instrument = i; symbol = n }) (entries t used) in
-        rw h (set_keeps (has_room t out) out new st.0 st.1.0 st.1.1)
+    sets_entry {x} h st =
+        let out = set_entry (record { instrument = x.instrument; symbol = number_in x.naming }) (entries t used) in
+        rw (h, named_as x.instrument x.start x.end x.naming) (set_keeps (has_room t out) out (is_new x.naming) st.0 st.1.0 st.1.1)
 
 -- ---- the name joins the list
 
-module _ (bytes ends : List ℕ) (names name_bytes : ℕ) (rec : List ℕ) (p : Plan) (used : ℕ) where
-  -- the answer, the list's bytes and its ends once the name of a plan has joined or not
-  abbrev pub Joins : Answer → List ℕ → List ℕ → Type 0
-  Joins a b e =
-      (a ≡ answer 0 (used ∷ names_then (joins_in (plan_of p)) names ∷ name_bytes_then (joins_in (plan_of p)) name_bytes (name_in rec) ∷ []))
-      × ((b ≡ bytes_then (joins_in (plan_of p)) bytes name_bytes (name_in rec)) × (e ≡ ends_then (joins_in (plan_of p)) ends names name_bytes (name_in rec)))
+pub joined_old : (s : NameRoom) (name : List ℕ) → Joins false s name s
+unfolding bytes_then ends_then
+joined_old s name = record { bytes = refl; ends = refl; names = refl; name_bytes = refl; memory = record { bytes = refl; ends = refl } }
 
-  pub placed_lies : {i s t n from to : ℕ} {new : Bool} → p ≡ Store i s t n new from to → Placed bytes ends names name_bytes rec p → Lies bytes ends names name_bytes rec from to new
-  placed_lies h l = rw h at l
-
-  pub joined_new : {i s t n from to : ℕ} {new : Bool} → p ≡ Store i s t n new from to → new ≡ true → Placed bytes ends names name_bytes rec p → {end : ℕ} {b e : List ℕ}
-      → end ≡ name_bytes + (to - from) → b ≡ name_written bytes name_bytes (slice from to rec) → e ≡ set ends names (name_bytes + (to - from))
-      → Joins (answer 0 (used ∷ (names + 1) ∷ end ∷ [])) b e
-  unfolding bytes_then ends_then
-  joined_new {from = from} {to = to} h y placed q b e =
-      let l = placed_lies h placed in
-      let joins : joins_in (plan_of p) ≡ true = ap (λ (x : Plan). joins_in (plan_of x)) h ∙ y in
-      let size : name_bytes + (to - from) ≡ name_bytes + length (name_in rec) =
-      ap (λ (k : ℕ). name_bytes + k) (sym (ap length (sym l.name) ∙ length-slice from to rec l.inside)) in
-      rw joins
-      (ap (λ (k : ℕ). answer 0 (used ∷ (names + 1) ∷ k ∷ [])) (q ∙ size), (b ∙ ap (name_written bytes name_bytes) l.name, e ∙ ap (set ends names) size))
-
-  pub joined_old : joins_in (plan_of p) ≡ false → Joins (answer 0 (used ∷ names ∷ name_bytes ∷ [])) bytes ends
-  unfolding bytes_then ends_then
-  joined_old h = rw h (refl, (refl, refl))
+pub joined_new : {s t : NameRoom} {text name : List ℕ} → text ≡ name → Added s text t → Joins true s name t
+unfolding bytes_then ends_then
+joined_new {s} e a = rw (← e) (record { bytes = a.bytes; ends = a.ends; names = a.names; name_bytes = a.name_bytes; memory = a.memory })
 
 -- ---- what is left
 
-module _ {X : Type 0} (read : List ℕ → ℕ → List X) (t : List ℕ) (used : ℕ) (bytes ends : List ℕ) (names name_bytes : ℕ) (name : List ℕ) where
+module _ {X : Type 0} (read : List ℕ → ℕ → List X) (t : List ℕ) (used : ℕ) (s : NameRoom) (name : List ℕ) where
   leaves_refused : {comes : Comes X} {a : Answer} {t' : List ℕ} → comes ≡ refusing a → t' ≡ t
-      → Leaves read comes (left_by t bytes ends names name_bytes name comes) t used a t' bytes ends
+      → Leaves read comes (left_by t s.bytes.now s.ends.now s.names s.name_bytes name comes) t used a t' s.bytes.now s.ends.now × Joins (joins_by comes) s name s
   unfolding left_by
-  leaves_refused h m = rw (h, m) (record { says = refl; table = refl; bytes = refl; ends = refl; holds = refl })
+  leaves_refused h m = rw (h, m) (record { says = refl; table = refl; bytes = refl; ends = refl; holds = refl }, joined_old s name)
 
-  leaves_done : {comes : Comes X} {new : Bool} {then : ℕ} {a : Answer} {t' b' e' : List ℕ} → comes ≡ holding (read t' then) t' new → length (read t' then) ≡ then
-      → a ≡ answer 0 (then ∷ names_then new names ∷ name_bytes_then new name_bytes name ∷ []) → b' ≡ bytes_then new bytes name_bytes name
-      → e' ≡ ends_then new ends names name_bytes name → Leaves read comes (left_by t bytes ends names name_bytes name comes) t used a t' b' e'
+  leaves_done : {comes : Comes X} {new : Bool} {then : ℕ} {t' : List ℕ} {s' : NameRoom} → comes ≡ holding (read t' then) t' new → length (read t' then) ≡ then
+      → Joins new s name s'
+      → Leaves read comes (left_by t s.bytes.now s.ends.now s.names s.name_bytes name comes) t used (answer 0 (then ∷ s'.names ∷ s'.name_bytes ∷ [])) t' s'.bytes.now s'.ends.now
+      × Joins (joins_by comes) s name s'
   unfolding left_by
-  leaves_done {new = new} {t' = t'} h l q b e =
-      rw h (record {
-        says = q ∙ ap (λ (k : ℕ). answer 0 (k ∷ names_then new names ∷ name_bytes_then new name_bytes name ∷ [])) (sym l);
-        table = refl;
-        bytes = b;
-        ends = e;
-        holds = ap (read t') l;
-      })
+  leaves_done {new = new} {t' = t'} {s' = s'} h l j =
+      rw h (
+        record {
+          says = (λ i. answer 0 (sym l i ∷ j.names i ∷ j.name_bytes i ∷ []));
+          table = refl;
+          bytes = j.bytes;
+          ends = j.ends;
+          holds = ap (read t') l;
+        },
+        j,
+      )
 
-module _ (t : List ℕ) (used : ℕ) (bytes ends : List ℕ) (names name_bytes : ℕ) (rec : List ℕ) (p : Plan) {checked : Answer} where
-  module _ (w : plan_of p ≡ judged_by checked bytes ends names name_bytes (wanted true bytes ends names name_bytes (name_in rec) (mapped_in rec)))
-      (q : checked ≡ check_answer t used names) {a : Answer} {t' : List ℕ} (k : Keeps rows (time_comes t used (plan_of p)) (joins_in (plan_of p)) t a t') where
-    time_comes_lem : time_comes t used (time_judged t used bytes ends names name_bytes rec) ≡ time_comes t used (plan_of p)
+module _ (t : List ℕ) (used : ℕ) (s : NameRoom) (rec : List ℕ) (p : Plan) {checked : Answer} where
+  module _ (w : plan_of p ≡ judged_by checked s.bytes.now s.ends.now s.names s.name_bytes (wanted true s.bytes.now s.ends.now s.names s.name_bytes (name_in rec) (mapped_in rec)))
+      (q : checked ≡ check_answer t used s.names) {new : Bool} {a : Answer} {t' : List ℕ} (k : Keeps rows (time_comes t used (plan_of p)) new t a t') where
+    time_comes_lem : time_comes t used (time_judged t used s.bytes.now s.ends.now s.names s.name_bytes rec) ≡ time_comes t used (plan_of p)
     unfolding check_answer time_judged
     time_comes_lem =
         ap (time_comes t used) (sym (w
-        ∙ ap (λ (c : Answer). judged_by c bytes ends names name_bytes (wanted true bytes ends names name_bytes (name_in rec) (mapped_in rec))) q
-        ∙ judged_same (table_fits (length t) used) (wellFormedRows same_value known_value names (rows t used)) bytes ends names name_bytes _))
+        ∙ ap (λ (c : Answer). judged_by c s.bytes.now s.ends.now s.names s.name_bytes (wanted true s.bytes.now s.ends.now s.names s.name_bytes (name_in rec) (mapped_in rec))) q
+        ∙ judged_same (table_fits (length t) used) (wellFormedRows same_value known_value s.names (rows t used)) s.bytes.now s.ends.now s.names s.name_bytes _))
 
-    pub time_refused : (r : Refusal) → refused r ≡ a → TimeLeaves t used bytes ends names name_bytes rec (refused r) t' bytes ends
+    pub time_refused : (r : Refusal) → refused r ≡ a
+        → TimeLeaves t used s.bytes.now s.ends.now s.names s.name_bytes rec (refused r) t' s.bytes.now s.ends.now × Joins (time_joins t used s rec) s (name_in rec) s
     unfolding time_left
-    time_refused r h = let f = k.refused_so r h in leaves_refused rows t used bytes ends names name_bytes (name_in rec) (time_comes_lem ∙ f.0) f.1
+    time_refused r h = let f = k.refused_so r h in leaves_refused rows t used s (name_in rec) (time_comes_lem ∙ f.0) f.1
 
-    pub time_done : (then : ℕ) → answer 0 (then ∷ []) ≡ a → {b : Answer} {b' e' : List ℕ} → Joins bytes ends names name_bytes rec p then b b' e'
-        → TimeLeaves t used bytes ends names name_bytes rec b t' b' e'
+    pub time_done : (then : ℕ) → answer 0 (then ∷ []) ≡ a → {s' : NameRoom} → Joins new s (name_in rec) s'
+        → TimeLeaves t used s.bytes.now s.ends.now s.names s.name_bytes rec (answer 0 (then ∷ s'.names ∷ s'.name_bytes ∷ [])) t' s'.bytes.now s'.ends.now
+        × Joins (time_joins t used s rec) s (name_in rec) s'
     unfolding time_left
-    time_done then h j = leaves_done rows t used bytes ends names name_bytes (name_in rec) (time_comes_lem ∙ k.done_so then h) (length_rows t' 0 then) j.0 j.1.0 j.1.1
+    time_done then h j = leaves_done rows t used s (name_in rec) (time_comes_lem ∙ k.done_so then h) (length_rows t' 0 then) j
 
-  module _ (w : plan_of p ≡ judged_by checked bytes ends names name_bytes (wanted false bytes ends names name_bytes (name_in rec) (mapped_in rec)))
-      (q : checked ≡ points_checked t used names) {a : Answer} {t' : List ℕ} (k : Keeps entries (point_comes t used (plan_of p)) (joins_in (plan_of p)) t a t') where
-    point_comes_lem : point_comes t used (point_judged t used bytes ends names name_bytes rec) ≡ point_comes t used (plan_of p)
+  module _ (w : plan_of p ≡ judged_by checked s.bytes.now s.ends.now s.names s.name_bytes (wanted false s.bytes.now s.ends.now s.names s.name_bytes (name_in rec) (mapped_in rec)))
+      (q : checked ≡ points_checked t used s.names) {new : Bool} {a : Answer} {t' : List ℕ} (k : Keeps entries (point_comes t used (plan_of p)) new t a t') where
+    point_comes_lem : point_comes t used (point_judged t used s.bytes.now s.ends.now s.names s.name_bytes rec) ≡ point_comes t used (plan_of p)
     unfolding points_checked point_judged
     point_comes_lem =
         ap (point_comes t used) (sym (w
-        ∙ ap (λ (c : Answer). judged_by c bytes ends names name_bytes (wanted false bytes ends names name_bytes (name_in rec) (mapped_in rec))) q
-        ∙ judged_same (points_fit (length t) used) (well_formed names (entries t used)) bytes ends names name_bytes _))
+        ∙ ap (λ (c : Answer). judged_by c s.bytes.now s.ends.now s.names s.name_bytes (wanted false s.bytes.now s.ends.now s.names s.name_bytes (name_in rec) (mapped_in rec))) q
+        ∙ judged_same (points_fit (length t) used) (well_formed s.names (entries t used)) s.bytes.now s.ends.now s.names s.name_bytes _))
 
-    pub point_refused : (r : Refusal) → refused r ≡ a → PointLeaves t used bytes ends names name_bytes rec (refused r) t' bytes ends
+    pub point_refused : (r : Refusal) → refused r ≡ a
+        → PointLeaves t used s.bytes.now s.ends.now s.names s.name_bytes rec (refused r) t' s.bytes.now s.ends.now × Joins (point_joins t used s rec) s (name_in rec) s
     unfolding point_left
-    point_refused r h = let f = k.refused_so r h in leaves_refused entries t used bytes ends names name_bytes (name_in rec) (point_comes_lem ∙ f.0) f.1
+    point_refused r h = let f = k.refused_so r h in leaves_refused entries t used s (name_in rec) (point_comes_lem ∙ f.0) f.1
 
-    pub point_done : (then : ℕ) → answer 0 (then ∷ []) ≡ a → {b : Answer} {b' e' : List ℕ} → Joins bytes ends names name_bytes rec p then b b' e'
-        → PointLeaves t used bytes ends names name_bytes rec b t' b' e'
+    pub point_done : (then : ℕ) → answer 0 (then ∷ []) ≡ a → {s' : NameRoom} → Joins new s (name_in rec) s'
+        → PointLeaves t used s.bytes.now s.ends.now s.names s.name_bytes rec (answer 0 (then ∷ s'.names ∷ s'.name_bytes ∷ [])) t' s'.bytes.now s'.ends.now
+        × Joins (point_joins t used s rec) s (name_in rec) s'
     unfolding point_left
-    point_done then h j = leaves_done entries t used bytes ends names name_bytes (name_in rec) (point_comes_lem ∙ k.done_so then h) (length_entries t' 0 then) j.0 j.1.0 j.1.1
+    point_done then h j = leaves_done entries t used s (name_in rec) (point_comes_lem ∙ k.done_so then h) (length_entries t' 0 then) j

@@ -1,7 +1,7 @@
--- What stores, moves and clearing leave of a table in bytes, place by place, as records, and the laws of their loops.
+-- What stores, moves and clearing leave of a table in bytes, place by place, as records, and the law of a store.
 -- Assumes nothing.
-use Rattle.std.specs.Prelude.{◌≡◌, refl, ◌≢◌, ◌⊎◌, ℕ, ◌+◌, ◌-◌, ◌*◌, ◌≤◌, ◌<◌, List, get_or}
-use Rattle.std.proofs.Common.{ap, ◌∙◌, inl, inr, eq-or-lt_of_le, arith}
+use Rattle.std.specs.Prelude.{◌≡◌, refl, ◌≢◌, ℕ, ◌+◌, ◌-◌, ◌*◌, ◌≤◌, ◌<◌, List, get_or}
+use Rattle.std.proofs.Common.{ap, ◌∙◌, arith}
 use Rattle.std.proofs.Math.ListN.{length}
 use Rattle.theory.specs.Fields.{field, put_field, field_same, put_byte, put_same, length_put}
 use Rattle.map_rules.specs.Table.{Row}
@@ -15,16 +15,6 @@ pub record RowSet (t : List ℕ) (i : ℕ) (r : Row ℕ) (t' : List ℕ) : Type 
   pub whole : t' ≡ put_row t i r
   pub here : row_at t' i ≡ r
   pub other : (j : ℕ) → j ≢ i → row_at t' j ≡ row_at t j
-
--- t' is t, the rows from f up to n moved up by m places; what they leave behind stays
-pub record Raised (t : List ℕ) (f n m : ℕ) (t' : List ℕ) : Type 0 where
-  pub moved : (j : ℕ) → f ≤ j → j < n → row_at t' (j + m) ≡ row_at t j
-  pub kept : (j : ℕ) → (f + m ≤ j → j < n + m → ⊥) → row_at t' j ≡ row_at t j
-
--- t' is t, the rows from f up to n moved down by m places
-pub record Lowered (t : List ℕ) (f n m : ℕ) (t' : List ℕ) : Type 0 where
-  pub moved : (j : ℕ) → f ≤ j → j < n → row_at t' (j - m) ≡ row_at t j
-  pub kept : (j : ℕ) → (f ≤ j + m → j + m < n → ⊥) → row_at t' j ≡ row_at t j
 
 -- the rows from f up to n stand at g on, every other place is as it was
 pub record Moved (t : List ℕ) (f n g : ℕ) (t' : List ℕ) : Type 0 where
@@ -121,101 +111,6 @@ row_set {t} {t4 = t4} {i = i} {a = a} {v = v} {s = s} {e = e} fits fa fv fs fe e
 
 -- ---- moves
 
--- nothing moved yet, one more row, and all of them
-pub raise_none : (t : List ℕ) (n m : ℕ) → Raised t n n m t
-raise_none t n m = record { moved = λ j l u. absurd (omega arith); kept = λ j out. refl }
-
-pub raise_more : {t₀ t t' : List ℕ} {f k n m : ℕ} {r : Row ℕ} → f < k → k ≤ n → Raised t₀ k n m t → r ≡ row_at t (k - 1) → RowSet t (k - 1 + m) r t'
-    → Raised t₀ (k - 1) n m t'
-raise_more {t₀} {t} {t'} {k = k} {n = n} {m = m} h h'' s e p = record {
-  moved = λ j l u. moved j u (eq-or-lt_of_le l);
-  kept = λ j out.
-      p.other j (λ e. out (omega arith) (omega arith))
-      ∙ s.kept j (λ l u. out (omega arith) (omega arith));
-}
-  where
-    moved : (j : ℕ) → j < n → (k - 1 ≡ j) ⊎ (k - 1 < j) → row_at t' (j + m) ≡ row_at t₀ j
-    moved j u (inl q) = rw (← q) (p.here ∙ e ∙ s.kept (k - 1) (λ l' u'. omega arith))
-    moved j u (inr q) = p.other (j + m) (omega arith) ∙ s.moved j (omega arith) u
-
-pub raise_all : {t t' : List ℕ} {f k n m : ℕ} → f ≤ k → k ≤ f → Raised t k n m t' → Raised t f n m t'
-raise_all {f = f} {k = k} h h'' s = let e : f ≡ k = omega arith in rw e s
-
-pub lower_none : (t : List ℕ) (f m : ℕ) → Lowered t f f m t
-lower_none t f m = record { moved = λ j l u. absurd (omega arith); kept = λ j out. refl }
-
-pub lower_more : {t₀ t t' : List ℕ} {f k m : ℕ} {r : Row ℕ} → f ≤ k → m ≤ f → Lowered t₀ f k m t → r ≡ row_at t k → RowSet t (k - m) r t'
-    → Lowered t₀ f (k + 1) m t'
-lower_more {t₀} {t} {t'} {f = f} {k = k} {m = m} h h'' s e p = record {
-  moved = λ j l u. moved j l (eq-or-lt_of_le (le j u));
-  kept = λ j out.
-      p.other j (λ q. out (omega arith) (omega arith))
-      ∙ s.kept j (λ l u. out l (omega arith));
-}
-  where
-    le : (j : ℕ) → j < k + 1 → j ≤ k
-    le j u = omega arith
-
-    moved : (j : ℕ) → f ≤ j → (j ≡ k) ⊎ (j < k) → row_at t' (j - m) ≡ row_at t₀ j
-    moved j l (inl q) = rw q (p.here ∙ e ∙ s.kept k (λ l' u'. omega arith))
-    moved j l (inr q) = p.other (j - m) (omega arith) ∙ s.moved j l q
-
-pub lower_all : {t t' : List ℕ} {f k n m : ℕ} → k ≤ n → n ≤ k → Lowered t f k m t' → Lowered t f n m t'
-lower_all {k = k} {n = n} h h'' s = let e : n ≡ k = omega arith in rw e s
-
-pub moved_up : {t t' : List ℕ} {f n g : ℕ} → f < g → f ≤ n → Raised t f n (g - f) t' → Moved t f n g t'
-moved_up {t} {t'} {f = f} {n = n} {g = g} h h'' s = record {
-  moved = λ j l. (let e : g + j ≡ f + j + (g - f) = omega arith in ap (row_at t') e) ∙ s.moved (f + j) (omega arith) (omega arith);
-  kept = λ j out. s.kept j (λ l u. out (omega arith) (omega arith));
-}
-
-pub moved_down : {t t' : List ℕ} {f n g : ℕ} → g ≤ f → f ≤ n → Lowered t f n (f - g) t' → Moved t f n g t'
-moved_down {t} {t'} {f = f} {n = n} {g = g} h h'' s = record {
-  moved = λ j l. (let e : g + j ≡ f + j - (f - g) = omega arith in ap (row_at t') e) ∙ s.moved (f + j) (omega arith) (omega arith);
-  kept = λ j out. s.kept j (λ l u. out (omega arith) (omega arith));
-}
-
+-- where they stand there
 pub moved_none : {f g : ℕ} (t : List ℕ) (n : ℕ) → f ≤ g → g ≤ f → Moved t f n g t
 moved_none {f} {g} t n h k = let e : g ≡ f = omega arith in record { moved = λ j l. ap (λ (x : ℕ). row_at t (x + j)) e; kept = λ j out. refl }
-
--- ---- clearing
-
-pub clear_none : (t : List ℕ) (f : ℕ) → Cleared t f f t
-clear_none t f = record { zero = λ j l u. absurd (omega arith); kept = λ j out. refl }
-
-pub clear_more : {t₀ t t' : List ℕ} {f k : ℕ} {r : Row ℕ} → f ≤ k → Cleared t₀ f k t → r ≡ blank → RowSet t k r t' → Cleared t₀ f (k + 1) t'
-clear_more {t₀} {t} {t'} {f = f} {k = k} h s e p = record {
-  zero = λ j l u. cleared j l (eq-or-lt_of_le (le j u));
-  kept = λ j out.
-      p.other j (λ q. out (omega arith) (omega arith))
-      ∙ s.kept j (λ l u. out l (omega arith));
-}
-  where
-    le : (j : ℕ) → j < k + 1 → j ≤ k
-    le j u = omega arith
-
-    cleared : (j : ℕ) → f ≤ j → (j ≡ k) ⊎ (j < k) → row_at t' j ≡ blank
-    cleared j l (inl q) = rw q (p.here ∙ e)
-    cleared j l (inr q) = p.other j (omega arith) ∙ s.zero j l q
-
-pub clear_all : {t t' : List ℕ} {f k n : ℕ} → n ≤ k → (f < k → k ≤ n) → Cleared t f k t' → Cleared t f n t'
-clear_all {f = f} {k = k} {n = n} h h'' s = record {
-  zero = λ j l u. s.zero j l (omega arith);
-  kept = λ j out. s.kept j (λ l u. out l (omega (arith, h'' (omega arith))));
-}
-
--- ---- the rows of a stretch replaced
-
-pub replaced : {t t₁ t₂ t₃ t₄ : List ℕ} {used lo hi : ℕ} {l c r : Row ℕ} {left right : ℕ} → lo ≤ hi → hi ≤ used → left ≤ 1 → right ≤ 1
-    → Moved t hi used (lo + left + 1 + right) t₁ → RowSet t₁ (lo + left + right) r t₂ → RowSet t₂ lo l t₃ → RowSet t₃ (lo + left) c t₄
-    → Replaced t used lo hi l c r left right t₄
-replaced {t} {t₁} {t₂} {t₃} {t₄} {used = used} {lo = lo} {hi = hi} {l = l} {c = c} {r = r} {left = left} {right = right} h h'' hl hr m p q s = record {
-  before = λ j k. s.other j (omega arith) ∙ q.other j (omega arith) ∙ p.other j (omega arith) ∙ m.kept j (λ a b. omega arith);
-  first = λ e. s.other lo (omega arith) ∙ q.here;
-  middle = s.here;
-  last = λ e. s.other (lo + left + 1) (omega arith) ∙ q.other (lo + left + 1) (omega arith)
-      ∙ (let d : lo + left + 1 ≡ lo + left + right = omega arith in ap (row_at t₂) d) ∙ p.here;
-  after = λ j k. s.other (lo + left + 1 + right + j) (omega arith) ∙ q.other (lo + left + 1 + right + j) (omega arith)
-      ∙ p.other (lo + left + 1 + right + j) (omega arith) ∙ m.moved j k;
-  beyond = λ j a b. s.other j (omega arith) ∙ q.other j (omega arith) ∙ p.other j (omega arith) ∙ m.kept j (λ a' b'. omega arith);
-}

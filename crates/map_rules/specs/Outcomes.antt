@@ -113,6 +113,39 @@ module _ (t : List ℕ) (used names : ℕ) where
   pub checked_ordered : {w : Bool} → w ≡ well_formed same_value known_value names (rows t used) → w ≡ true → Ordered (rows t used)
   checked_ordered g h = (formed_parts same_value symbols known_value names (rows t used) (rw (sym g ∙ h) tt)).0
 
+-- what the check's answer tells: it is 0 [] for a table that fits and is well-formed, and for no other
+pub record Passed (t : List ℕ) (used names : ℕ) : Type 0 where
+  pub fits : table_fits (length t) used && names_fit names ≡ true
+  pub formed : well_formed same_value known_value names (rows t used) ≡ true
+
+module _ (t : List ℕ) (used names : ℕ) where
+  -- by the two tests
+  pub check_cases : (P : Answer → Type 0) → (table_fits (length t) used && names_fit names ≡ false → P (answer 15 []))
+      → (table_fits (length t) used && names_fit names ≡ true → well_formed same_value known_value names (rows t used) ≡ false → P (answer 14 []))
+      → (Passed t used names → P (answer 0 [])) → P (check_answer t used names)
+  unfolding check_answer
+  check_cases P unfit ill passed = go (table_fits (length t) used && names_fit names) (well_formed same_value known_value names (rows t used)) refl refl
+    where
+      go : (b w : Bool) → table_fits (length t) used && names_fit names ≡ b → well_formed same_value known_value names (rows t used) ≡ w
+          → P (cond b (cond w (answer 0 []) (answer 14 [])) (answer 15 []))
+      go false w e f = unfit e
+      go true false e f = ill e f
+      go true true e f = passed (record { fits = e; formed = f })
+
+  pub check_passed : answer 0 [] ≡ check_answer t used names → Passed t used names
+  check_passed = check_cases (λ a. answer 0 [] ≡ a → Passed t used names)
+      (λ f e. let z : ◌≡◌ {A = ℕ} 0 15 = cc in absurd (omega arith))
+      (λ f g e. let z : ◌≡◌ {A = ℕ} 0 14 = cc in absurd (omega arith))
+      (λ p e. p)
+
+  module _ (p : Passed t used names) where
+    not_unfit : not (table_fits (length t) used && names_fit names) ≡ false
+    not_unfit = ap not p.fits
+
+    -- what an insert asks of the table
+    pub passed_table : (length t ≡ length t / width * width) × (used ≤ length t / width) × Ordered (rows t used)
+    passed_table = (memory_whole (length t) used names refl not_unfit, memory_use (length t) used names refl not_unfit, checked_ordered t used names refl p.formed)
+
 -- ---- the insert
 
 -- a refusal leaves all as it was
@@ -198,3 +231,16 @@ module _ (t : List ℕ) (used names : ℕ) (n : Row ℕ) where
       → Gives (entered same_value known_value names (length t / width) n (rows t used)) t used a t'
       → Gives (insert_outcome t used names n) t used a t'
   inserted_enters e f g h k = rw (fit e f ∙ cond_yes (well_formed same_value known_value names (rows t used)) _ _ (rw (sym g ∙ h) tt)) k
+
+  -- by the check's answer
+  pub inserted_refused : {a : Answer} → (a ≡ answer 0 [] → ⊥) → a ≡ check_answer t used names → Gives (insert_outcome t used names n) t used a t
+  inserted_refused {a} d e = check_cases t used names (λ b. a ≡ b → Gives (insert_outcome t used names n) t used a t)
+      (λ f g. rw g (inserted_unfit refl (ap not f)))
+      (λ f w g. rw g (inserted_ill refl (ap not f) refl w))
+      (λ p g. absurd (d g))
+      e
+
+  pub inserted_passed : {a : Answer} {t' : List ℕ} → Passed t used names
+      → Gives (entered same_value known_value names (length t / width) n (rows t used)) t used a t'
+      → Gives (insert_outcome t used names n) t used a t'
+  inserted_passed p k = inserted_enters refl (ap not p.fits) refl p.formed k

@@ -3,4 +3,5 @@
 
 pub mod begin;
 pub mod reach;
+pub mod search;
 pub mod starts;

@@ -6,11 +6,13 @@ ghost use Rattle.map_rules.specs.Halves.{RowFrom};
 ghost use Rattle.map_rules.specs.Moves.{RowSet};
 ghost use Rattle.map_table.specs.Interval.{row_of};
 
+use leaves_fields::fields::{put_u32, put_u64, u32_at, u64_at};
+
 // The bytes of an interval.
 pub const WIDTH: usize = 24;
 
 // A symbol's stretch [start, end) of an instrument.
-#[derive(Clone, Copy)]
+#[derive(Clone, Copy, Debug, PartialEq, Eq)]
 pub struct Interval {
     pub instrument: u32,
     pub symbol: u32,
@@ -31,10 +33,10 @@ pub fn interval_from(table: &[u8], o: usize) -> Interval
     ensures { RowFrom table.now o (row_of result) }
 {
     Interval {
-        instrument: leaves_fields::fields::u32_at(table, o),
-        symbol: leaves_fields::fields::u32_at(table, o + 4),
-        start: leaves_fields::fields::u64_at(table, o + 8),
-        end: leaves_fields::fields::u64_at(table, o + 16),
+        instrument: u32_at(table, o),
+        symbol: u32_at(table, o + 4),
+        start: u64_at(table, o + 8),
+        end: u64_at(table, o + 16),
     }
 }
 
@@ -52,8 +54,8 @@ pub fn put_interval(table: &mut [u8], i: usize, x: Interval)
     ensures { RowSet table.old i (row_of x) table.new }
 {
     let o = i * WIDTH;
-    leaves_fields::fields::put_u32(table, o, x.instrument);
-    leaves_fields::fields::put_u32(table, o + 4, x.symbol);
-    leaves_fields::fields::put_u64(table, o + 8, x.start);
-    leaves_fields::fields::put_u64(table, o + 16, x.end);
+    put_u32(table, o, x.instrument);
+    put_u32(table, o + 4, x.symbol);
+    put_u64(table, o + 8, x.start);
+    put_u64(table, o + 16, x.end);
 }

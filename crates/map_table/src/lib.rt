@@ -2,4 +2,5 @@
 #![tactic(auto)]
 
 pub mod interval;
+pub mod places;
 pub mod table;

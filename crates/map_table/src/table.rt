@@ -4,61 +4,35 @@ ghost use Rattle.map_rules.specs.Table.{names_fit, apart_row, well_formed};
 ghost use Rattle.map_rules.specs.Memory.{same_value, known_value, width, rows, table_fits, check_answer};
 ghost use Rattle.map_rules.specs.Checks.{valid, follows};
 ghost use Rattle.map_table.specs.Interval.{row_of};
-ghost use Rattle.map_table.specs.Table.{checked_of};
+ghost use Rattle.theory.specs.Answer.{no_values};
+ghost use Rattle.leaves.specs.Refusal.{answer_with};
 
-use crate::interval::{Interval, WIDTH};
+use crate::interval::{Interval, WIDTH, interval_at, same_value};
 use leaves::refusal::Refusal;
 use leaves_limits::{NAMES, ROOM};
 
 // A table's bytes are at most so many.
 const BYTE_LIMIT: usize = ROOM * WIDTH;
 
-// The check's answer: the table is well-formed, or 14 or 15.
-#[derive(Clone, Copy)]
-pub enum Checked {
-    WellFormed,
-    Refused(Refusal),
-}
-
 // Whether memory of this length may be a table with so many intervals in use; where not, 15.
 pub fn table_fits(length: usize, used: usize) -> bool
     ensures { result ≡ table_fits length used }
 {
-    if used <= ROOM {
-        if length <= BYTE_LIMIT {
-            if length % WIDTH == 0 {
-                used * WIDTH <= length
-            } else {
-                false
-            }
-        } else {
-            false
-        }
-    } else {
-        false
-    }
+    used <= ROOM && length <= BYTE_LIMIT && length % WIDTH == 0 && used * WIDTH <= length
 }
 
 // The same, with the name count.
 pub fn memory_fits(length: usize, used: usize, names: usize) -> bool
     ensures { result ≡ table_fits length used && names_fit names }
 {
-    if table_fits(length, used) {
-        names <= NAMES
-    } else {
-        false
-    }
+    table_fits(length, used) && names <= NAMES
 }
 
 // Whether an interval by itself is as it should be: non-empty, its symbol known.
 fn is_valid(x: Interval, names: usize) -> bool
     ensures { result ≡ valid names (row_of x) }
 {
-    if x.start < x.end {
-        (x.symbol as usize) < names
-    } else {
-        false
-    }
+    x.start < x.end && (x.symbol as usize) < names
 }
 
 // Whether y may stand right after x: of a higher instrument, or of the same one and apart, or touching with another value.
@@ -66,13 +40,7 @@ fn may_follow(x: Interval, y: Interval) -> bool
     ensures { result ≡ apart_row same_value (row_of x) (row_of y ∷ []) }
 {
     if x.instrument == y.instrument {
-        if x.end < y.start {
-            true
-        } else if y.start < x.end {
-            false
-        } else {
-            !crate::interval::same_value(x, y)
-        }
+        x.end < y.start || (x.end == y.start && !same_value(x, y))
     } else {
         x.instrument < y.instrument
     }
@@ -82,14 +50,10 @@ fn may_follow(x: Interval, y: Interval) -> bool
 fn is_next(x: Interval, y: Interval, names: usize) -> bool
     ensures { result ≡ follows names (row_of x) (row_of y) }
 {
-    if is_valid(y, names) {
-        may_follow(x, y)
-    } else {
-        false
-    }
+    is_valid(y, names) && may_follow(x, y)
 }
 
-// Whether the table is well-formed: each interval is read once, two in a turn.
+// Whether the table is well-formed: the first interval by itself, each other one behind the one before it.
 pub fn well_formed(table: &[u8], used: usize, names: usize) -> bool
     requires { used * width ≤ length table.now }
     ensures { result ≡ well_formed same_value known_value names (rows table.now used) }
@@ -97,39 +61,28 @@ pub fn well_formed(table: &[u8], used: usize, names: usize) -> bool
     if used == 0 {
         return true;
     }
-    let mut x = crate::interval::interval_at(table, 0);
-    if !is_valid(x, names) {
+    if !is_valid(interval_at(table, 0), names) {
         return false;
     }
-    let mut k: usize = 1;
-    while k + 1 < used {
-        let y = crate::interval::interval_at(table, k);
+    for k in 1..used {
+        let x = interval_at(table, k - 1);
+        let y = interval_at(table, k);
         if !is_next(x, y, names) {
             return false;
         }
-        x = crate::interval::interval_at(table, k + 1);
-        if !is_next(y, x, names) {
-            return false;
-        }
-        k += 2;
     }
-    if k < used {
-        let last = crate::interval::interval_at(table, k);
-        is_next(x, last, names)
-    } else {
-        true
-    }
+    true
 }
 
 // The check: yes exactly for well-formed tables, else 14; 15 where the memory is no table.
-pub fn check(table: &[u8], used: usize, names: usize) -> Checked
-    ensures { checked_of result ≡ check_answer table.now used names }
+pub fn check(table: &[u8], used: usize, names: usize) -> Result<(), Refusal>
+    ensures { answer_with no_values result ≡ check_answer table.now used names }
 {
     if !memory_fits(table.len(), used, names) {
-        Checked::Refused(Refusal::BadMemory)
+        Err(Refusal::BadMemory)
     } else if well_formed(table, used, names) {
-        Checked::WellFormed
+        Ok(())
     } else {
-        Checked::Refused(Refusal::IllFormed)
+        Err(Refusal::IllFormed)
     }
 }

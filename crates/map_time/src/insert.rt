@@ -1,48 +1,46 @@
 // Inserts into the table over time (RULES, The map over time).
 ghost use Rattle.std.specs.Prelude.{◌≡◌, ◌+◌, ◌*◌, ◌-◌, ◌≤◌, ◌<◌, length};
+ghost use Rattle.theory.specs.Answer.{one_value};
+ghost use Rattle.leaves.specs.Refusal.{answer_with};
 ghost use Rattle.map_rules.specs.Table.{Ordered, insert_rows, if_room, entered};
 ghost use Rattle.map_rules.specs.Memory.{same_value, known_value, width, row_at, rows, room_of, insert_outcome, Gives};
-ghost use Rattle.map_rules.specs.Pieces.{left_count, right_count, joined_start, joined_end};
+ghost use Rattle.map_rules.specs.Pieces.{left_count, right_count, joined_start, joined_end, left_row, right_row};
 ghost use Rattle.map_table.specs.Interval.{row_of};
-ghost use Rattle.map_time.specs.Insert.{inserted_of};
+ghost use Rattle.map_moves.specs.Pieces.{IsPiece};
 
 use leaves::refusal::Refusal;
-use map_table::interval::{Interval, WIDTH};
+use map_moves::moves::{clear, count, replace};
+use map_moves::search::{find, pass};
+use map_table::interval::{Interval, WIDTH, interval_at, same_value};
+use map_table::table::check;
 
-// An insert's answer: done, with the new length, or refused.
-#[derive(Clone, Copy)]
-pub enum Inserted {
-    Done(usize),
-    Refused(Refusal),
-}
-
-// How many intervals are left of x before n, which touches it first: 0 or 1.
-fn left_count(n: Interval, x: Interval) -> usize
-    ensures { (result ≡ left_count (row_of n) (row_of x)) × (result ≤ 1) }
+// What is left of x before n, which touches it first.
+fn left_of(n: Interval, x: Interval) -> Option<Interval>
+    ensures { IsPiece result (left_count (row_of n) (row_of x)) (left_row (row_of n) (row_of x)) }
 {
-    if x.start < n.start {
-        if map_table::interval::same_value(x, n) {
-            0
-        } else {
-            1
-        }
+    if x.start < n.start && !same_value(x, n) {
+        Some(Interval {
+            instrument: n.instrument,
+            end: n.start,
+            ..x
+        })
     } else {
-        0
+        None
     }
 }
 
-// How many intervals are left of z after n, which touches it last: 0 or 1.
-fn right_count(n: Interval, z: Interval) -> usize
-    ensures { (result ≡ right_count (row_of n) (row_of z)) × (result ≤ 1) }
+// What is left of z after n, which touches it last.
+fn right_of(n: Interval, z: Interval) -> Option<Interval>
+    ensures { IsPiece result (right_count (row_of n) (row_of z)) (right_row (row_of n) (row_of z)) }
 {
-    if n.end < z.end {
-        if map_table::interval::same_value(n, z) {
-            0
-        } else {
-            1
-        }
+    if n.end < z.end && !same_value(n, z) {
+        Some(Interval {
+            instrument: n.instrument,
+            start: n.end,
+            ..z
+        })
     } else {
-        0
+        None
     }
 }
 
@@ -50,12 +48,8 @@ fn right_count(n: Interval, z: Interval) -> usize
 fn joined_start(n: Interval, x: Interval) -> u64
     ensures { result ≡ joined_start (row_of n) (row_of x) }
 {
-    if x.start < n.start {
-        if map_table::interval::same_value(x, n) {
-            x.start
-        } else {
-            n.start
-        }
+    if x.start < n.start && same_value(x, n) {
+        x.start
     } else {
         n.start
     }
@@ -65,118 +59,71 @@ fn joined_start(n: Interval, x: Interval) -> u64
 fn joined_end(n: Interval, z: Interval) -> u64
     ensures { result ≡ joined_end (row_of n) (row_of z) }
 {
-    if n.end < z.end {
-        if map_table::interval::same_value(n, z) {
-            z.end
-        } else {
-            n.end
-        }
+    if n.end < z.end && same_value(n, z) {
+        z.end
     } else {
         n.end
     }
 }
 
-// The first of the intervals from lo up to hi, or n where there is none.
-fn first_of(table: &[u8], lo: usize, hi: usize, n: Interval) -> Interval
+// The first and the last of the intervals from lo up to hi, or n for both where there is none.
+fn touched(table: &[u8], lo: usize, hi: usize, n: Interval) -> (Interval, Interval)
     requires { hi * width ≤ length table.now }
-    ensures { (lo < hi → row_of result ≡ row_at table.now lo) × (hi ≤ lo → row_of result ≡ row_of n) }
+    ensures first { (lo < hi → row_of result.0 ≡ row_at table.now lo) × (hi ≤ lo → row_of result.0 ≡ row_of n) }
+    ensures last { (lo < hi → row_of result.1 ≡ row_at table.now (hi - 1)) × (hi ≤ lo → row_of result.1 ≡ row_of n) }
 {
     if lo < hi {
-        map_table::interval::interval_at(table, lo)
+        (interval_at(table, lo), interval_at(table, hi - 1))
     } else {
-        n
-    }
-}
-
-// The last of the intervals from lo up to hi, or n where there is none.
-fn last_of(table: &[u8], lo: usize, hi: usize, n: Interval) -> Interval
-    requires { hi * width ≤ length table.now }
-    ensures { (lo < hi → row_of result ≡ row_at table.now (hi - 1)) × (hi ≤ lo → row_of result ≡ row_of n) }
-{
-    if lo < hi {
-        map_table::interval::interval_at(table, hi - 1)
-    } else {
-        n
+        (n, n)
     }
 }
 
 // Overwrites the stretch of n, which is not empty, in a table that is in order: done, or refused by 2.
-pub fn place(table: &mut [u8], used: usize, n: Interval) -> Inserted
+pub fn place(table: &mut [u8], used: usize, n: Interval) -> Result<usize, Refusal>
     requires { (length table.old ≡ room_of table.old * width) × (used ≤ room_of table.old) × ((row_of n).start < (row_of n).end) × Ordered (rows table.old used) }
-    ensures { Gives (if_room (room_of table.old) (insert_rows same_value (row_of n) (rows table.old used))) table.old used (inserted_of result) table.new }
+    ensures { Gives (if_room (room_of table.old) (insert_rows same_value (row_of n) (rows table.old used))) table.old used (answer_with one_value result) table.new }
 {
     let room = table.len() / WIDTH;
-    let lo = map_moves::search::find(table, used, n);
-    let hi = map_moves::search::pass(table, used, lo, n);
-    let x = first_of(table, lo, hi, n);
-    let z = last_of(table, lo, hi, n);
-    let left = left_count(n, x);
-    let right = right_count(n, z);
-    let total = lo + left + 1 + right + (used - hi);
+    let lo = find(table, used, n);
+    let hi = pass(table, used, lo, n);
+    let (x, z) = touched(table, lo, hi, n);
+    let left = left_of(n, x);
+    let right = right_of(n, z);
+    let total = lo + count(left) + 1 + count(right) + (used - hi);
     if room < total {
-        Inserted::Refused(Refusal::NoRoom)
-    } else {
-        let left_piece = Interval {
-            instrument: n.instrument,
-            symbol: x.symbol,
-            start: x.start,
-            end: n.start,
-        };
-        let core = Interval {
-            instrument: n.instrument,
-            symbol: n.symbol,
-            start: joined_start(n, x),
-            end: joined_end(n, z),
-        };
-        let right_piece = Interval {
-            instrument: n.instrument,
-            symbol: z.symbol,
-            start: n.end,
-            end: z.end,
-        };
-        map_moves::moves::replace(
-            table,
-            used,
-            lo,
-            hi,
-            left_piece,
-            core,
-            right_piece,
-            left,
-            right,
-        );
-        map_moves::moves::clear(table, total, used);
-        Inserted::Done(total)
+        return Err(Refusal::NoRoom);
     }
+    let core = Interval {
+        start: joined_start(n, x),
+        end: joined_end(n, z),
+        ..n
+    };
+    replace(table, used, lo, hi, left, core, right);
+    clear(table, total, used);
+    Ok(total)
 }
 
 // An insert into a table that is in order, by its own order: 1; start = end is done and changes nothing; 3; 2.
-pub fn enter(table: &mut [u8], used: usize, names: usize, n: Interval) -> Inserted
+pub fn enter(table: &mut [u8], used: usize, names: usize, n: Interval) -> Result<usize, Refusal>
     requires { (length table.old ≡ room_of table.old * width) × (used ≤ room_of table.old) × Ordered (rows table.old used) }
-    ensures { Gives (entered same_value known_value names (room_of table.old) (row_of n) (rows table.old used)) table.old used (inserted_of result) table.new }
+    ensures { Gives (entered same_value known_value names (room_of table.old) (row_of n) (rows table.old used)) table.old used (answer_with one_value result) table.new }
 {
     if n.end < n.start {
-        Inserted::Refused(Refusal::Reversed)
-    } else if n.start < n.end {
-        if (n.symbol as usize) < names {
-            place(table, used, n)
-        } else {
-            Inserted::Refused(Refusal::UnknownSymbol)
-        }
+        Err(Refusal::Reversed)
+    } else if n.start == n.end {
+        Ok(used)
+    } else if (n.symbol as usize) < names {
+        place(table, used, n)
     } else {
-        Inserted::Done(used)
+        Err(Refusal::UnknownSymbol)
     }
 }
 
 // Inserts n into the table with `used` intervals, where so many names are known: 15, 14, then as `enter`.
-pub fn insert(table: &mut [u8], used: usize, names: usize, n: Interval) -> Inserted
-    ensures { Gives (insert_outcome table.old used names (row_of n)) table.old used (inserted_of result) table.new }
+pub fn insert(table: &mut [u8], used: usize, names: usize, n: Interval) -> Result<usize, Refusal>
+    ensures { Gives (insert_outcome table.old used names (row_of n)) table.old used (answer_with one_value result) table.new }
 {
-    if !map_table::table::memory_fits(table.len(), used, names) {
-        Inserted::Refused(Refusal::BadMemory)
-    } else if map_table::table::well_formed(table, used, names) {
-        enter(table, used, names, n)
-    } else {
-        Inserted::Refused(Refusal::IllFormed)
-    }
+    check(table, used, names)?;
+    enter(table, used, names, n)
 }

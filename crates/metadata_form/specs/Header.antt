@@ -1,18 +1,19 @@
 -- The form of a metadata in lent memory (RULES, Numbers the desk lives by: 15), and its value. A set is one word an entry, a mapping
 -- two (name, number of intervals), an interval three (start, end, symbol).
-use Rattle.std.specs.Prelude.{◌≡◌, ℕ, ◌*◌, ◌/◌, ◌%◌, ◌≤◌, min, max, Bool, true, ◌&&◌, List, [], ◌∷◌, length, take, leb, eqb}
+use Rattle.std.specs.Prelude.{◌≡◌, ℕ, ◌*◌, ◌/◌, ◌%◌, ◌≤◌, min, max, Bool, true, ◌&&◌, List, [], ◌∷◌, length, take, leb, eqb, Option, Some, None}
 use Rattle.std.proofs.Common.{arith, leb-true, eqb-true}
 use Rattle.leaves_limits.specs.Limits.{most_entries, most_intervals, most_mappings}
 use Rattle.theory.specs.Bools.{and_left, and_right}
-use Rattle.theory.specs.Answer.{Answer, answer, bit}
-use Rattle.leaves.specs.Refusal.{refused}
+use Rattle.theory.specs.Answer.{bit}
+use Rattle.leaves.specs.Refusal.{field_number}
+use Rattle.leaves.specs.declared.refusal.Field.{Field}
 use Rattle.metadata_rules.specs.Metadata.{Metadata, Fields, same_schema}
 use Rattle.metadata_rules.specs.Words.{before, mappings_from}
 use Rattle.metadata_form.specs.declared.header.Header.{Header}
-use Rattle.metadata_form.specs.declared.header.MetadataAnswer.{MetadataAnswer}
-use Rattle.metadata_form.specs.declared.header.MetadataAnswer.TheVariants.{Done, Refused}
 use Rattle.metadata_form.specs.declared.header.Lengths.{Lengths}
 use Rattle.metadata_form.specs.declared.header.Counts.{Counts}
+use Rattle.metadata_form.specs.declared.lists.Lists.{Lists as Lent}
+use Rattle.metadata_form.specs.declared.lists.ListsMut.{ListsMut as LentMut}
 
 -- what the header says besides the lists
 abbrev pub header_fields : Header → Fields
@@ -35,11 +36,6 @@ numbers_of h =
     h.version ∷ h.dataset ∷ h.schema ∷ h.start ∷ h.end ∷ h.limit ∷ h.stype_in ∷ h.stype_out ∷ bit h.ts_out ∷ h.symbol_cstr_len
     ∷ h.symbols ∷ h.partial ∷ h.not_found ∷ h.mappings ∷ []
 
--- what a call answers: done with the header's numbers, or a refusal
-abbrev pub metadata_answer_of : MetadataAnswer → Answer
-metadata_answer_of (Done h) = answer 0 (numbers_of h)
-metadata_answer_of (Refused r) = refused r
-
 -- the five lent lists, whole
 pub record Lists : Type 0 where
   pub symbols : List ℕ
@@ -50,6 +46,20 @@ pub record Lists : Type 0 where
 
 abbrev pub lists : List ℕ → List ℕ → List ℕ → List ℕ → List ℕ → Lists
 lists a b c m v = record { symbols = a; partial = b; not_found = c; mappings = m; intervals = v }
+
+-- the lists that are lent to be read, and to be written
+abbrev pub lent : Lent → Lists
+lent l = lists l.symbols.now l.partial.now l.not_found.now l.mappings.now l.intervals.now
+
+abbrev pub lent_mut : LentMut → Lists
+lent_mut l = lists l.symbols.now l.partial.now l.not_found.now l.mappings.now l.intervals.now
+
+-- the lists are lent from where they were
+abbrev pub SameLoans : LentMut → LentMut → Type 0
+SameLoans a b =
+    (b.symbols.ghost_name ≡ a.symbols.ghost_name) × (b.partial.ghost_name ≡ a.partial.ghost_name)
+    × (b.not_found.ghost_name ≡ a.not_found.ghost_name) × (b.mappings.ghost_name ≡ a.mappings.ghost_name)
+    × (b.intervals.ghost_name ≡ a.intervals.ghost_name)
 
 abbrev pub lengths_by : ℕ → ℕ → ℕ → ℕ → ℕ → Lengths
 lengths_by a b c m v = record { symbols = a; partial = b; not_found = c; mappings = m; intervals = v }
@@ -90,6 +100,11 @@ unfoldable pub metadata_fits : Header → Lengths → List ℕ → Bool
 unfolding lengths_fit
 metadata_fits header lengths mappings =
     lengths_fit header lengths && leb (before mappings header.mappings) (lengths.intervals / 3)
+
+-- the place of the first of the six fields that differs, from 1; 0 for none
+abbrev pub field_at : Option Field → ℕ
+field_at None = 0
+field_at (Some f) = field_number f
 
 -- a header with this schema, start, end and limit, and with these counts
 abbrev pub header_with : Header → ℕ → ℕ → ℕ → ℕ → Counts → Header

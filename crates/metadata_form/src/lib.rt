@@ -2,3 +2,4 @@
 #![tactic(auto)]
 
 pub mod header;
+pub mod lists;

@@ -8,7 +8,7 @@ use Rattle.std.proofs.Math.Numerals.{add-one}
 use mathlib.Core.List.{List, [], ◌∷◌, ◌++◌}
 use Rattle.std.proofs.Math.ListN.{length, get_or, length-set}
 use Rattle.std.proofs.lemmas.List.{length-replicate, get_or-replicate}
-use lib.Seq.{get_or-set_same, get_or-set_other, take-suc, take-suc-set, length-take-le, set_split, set_out}
+use lib.Seq.{get_or-set_same, get_or-set_other, take-suc, take-suc-set, length-take-le, set_out}
 use Rattle.metadata_rules.specs.Cases.{eqb_case, cond_eq, cond_ne}
 use Rattle.metadata_rules.specs.Metadata.{add, add_all}
 use Rattle.metadata_rules.specs.Names.{add_all_append}
@@ -164,20 +164,13 @@ not_yet_more xs x i f d = λ j h. go j (dec_le i j) h
     go j (yes p) h = let z : i ≡ j = omega arith in subst (λ (u : ℕ). get_or xs u 0 ≢ x) z d
     go j (no p) h = f j (omega arith)
 
-front_same : (xs : List ℕ) (n j : ℕ) → j < n → get_or (take n xs) j 0 ≡ get_or xs j 0
-front_same xs n j h = lib.Seq.get_or-take n xs j 0 h
-
-pub found_at : (xs : List ℕ) (x n i : ℕ) → n ≤ length xs → NotYet xs x i → i < n → get_or xs i 0 ≡ x → i ≡ index_of (take n xs) x
+pub found_at : (xs : List ℕ) (x i : ℕ) → NotYet xs x i → i < length xs → get_or xs i 0 ≡ x → i ≡ index_of xs x
 unfolding NotYet
-found_at xs x n i l f h e =
-    let k = length-take-le n xs l in
-    sym (index_split (take n xs) x i (λ j g p. f j g (sym (front_same xs n j (omega arith)) ∙ p)) (omega arith) (front_same xs n i h ∙ e))
+found_at xs x i f h e = sym (index_split xs x i f h e)
 
-pub found_none : (xs : List ℕ) (x n i : ℕ) → n ≤ length xs → NotYet xs x i → n ≤ i → n ≡ index_of (take n xs) x
+pub found_none : (xs : List ℕ) (x : ℕ) → NotYet xs x (length xs) → length xs ≡ index_of xs x
 unfolding NotYet
-found_none xs x n i l f h =
-    let k = length-take-le n xs l in
-    sym (index_none (take n xs) x (λ j g p. f j (omega arith) (sym (front_same xs n j (omega arith)) ∙ p)) ∙ k)
+found_none xs x f = sym (index_none xs x f)
 
 -- with no arrivals every mark is 0
 pub marked_none : (k : ℕ) → Marked (replicate k 0) []

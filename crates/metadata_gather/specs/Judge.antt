@@ -1,17 +1,16 @@
 -- The tests of a merge, and a loop's turn over what is left to test. Assumes nothing.
-use Rattle.std.specs.Prelude.{◌≡◌, ℕ, zero, suc, ◌+◌, ◌-◌, ◌*◌, ◌≤◌, ◌<◌, Bool, ◌&&◌, cond, List, [], ◌∷◌, length, get_or, take, leb, ltb}
+use Rattle.std.specs.Prelude.{◌≡◌, ℕ, zero, suc, ◌+◌, ◌-◌, ◌*◌, ◌≤◌, ◌<◌, Bool, ◌&&◌, cond, List, [], ◌∷◌, length, get_or, take, leb, ltb, Result, Ok, Err}
 use Rattle.std.proofs.Math.Path.{refl, sym, ap}
-use Rattle.std.proofs.Common.{◌∙◌, suc-mul}
+use Rattle.std.proofs.Common.{◌∙◌}
 use native.Mathlib.Omega.{arith}
 use Rattle.std.proofs.Math.Bool.{true, false}
 pub use Rattle.leaves_days.specs.Days.{known_date}
+use Rattle.leaves.specs.declared.refusal.Refusal.{Refusal}
 use Rattle.leaves.specs.declared.refusal.Refusal.TheVariants.{NoDate, UnknownSymbol, Reversed}
 use Rattle.metadata_rules.specs.declared.Interval.{Interval}
 use Rattle.metadata_rules.specs.Metadata.{every}
 use Rattle.metadata_rules.specs.Words.{interval_at, stretch, name_at, names_from}
 use Rattle.metadata_words.specs.Words.{rest, rest_cons, rest_nil}
-use Rattle.metadata_gather.specs.declared.judge.Judged.{Judged}
-use Rattle.metadata_gather.specs.declared.judge.Judged.TheVariants.{Passed, Refused}
 
 -- 11: an interval's start and end are dates
 unfoldable pub dated : Interval → Bool
@@ -35,11 +34,11 @@ spaced m stride at zero = []
 spaced m stride at (suc n) = get_or m at 0 ∷ spaced m stride (at + stride) n
 
 -- 11 before 3, 3 before 1
-unfoldable pub judged_of : Bool → Bool → Bool → Judged
-judged_of dates names forwards = cond dates (cond names (cond forwards Passed (Refused Reversed)) (Refused UnknownSymbol)) (Refused NoDate)
+unfoldable pub judged_of : Bool → Bool → Bool → Result (Unit {0}) Refusal
+judged_of dates names forwards = cond dates (cond names (cond forwards (Ok tt) (Err Reversed)) (Err UnknownSymbol)) (Err NoDate)
 
 -- of intervals, where k says 3 of what else there is, and f says 1
-unfoldable pub judged_by : ℕ → Bool → Bool → List Interval → Judged
+unfoldable pub judged_by : ℕ → Bool → Bool → List Interval → Result (Unit {0}) Refusal
 unfolding judged_of every
 judged_by names k f xs = judged_of (every dated xs) (k && every (known names) xs) (f && every forward xs)
 
@@ -65,7 +64,7 @@ module _ (names : ℕ) (v : List ℕ) (i n : ℕ) (k f : Bool) where
         and_assoc f (forward (interval_at v i)) (every forward (rest v (i + 1) n)),
       ) refl)
 
-  pub judge_stop : {x : Interval} {b : Bool} → x ≡ interval_at v i → b ≡ dated x → b ≡ false → i < n → Refused NoDate ≡ judged_by names k f (rest v i n)
+  pub judge_stop : {x : Interval} {b : Bool} → x ≡ interval_at v i → b ≡ dated x → b ≡ false → i < n → Err NoDate ≡ judged_by names k f (rest v i n)
   unfolding judged_by judged_of every
   judge_stop {x} {b} e g t h =
       let d : dated (interval_at v i) ≡ false = ap dated (sym e) ∙ sym g ∙ t in rw (rest_cons v i n h, d) refl
@@ -90,19 +89,6 @@ module _ (p : ℕ → Bool) (m : List ℕ) (stride at i n : ℕ) where
   pub spaced_end : n ≤ i → true ≡ every p (spaced m stride at (n - i))
   unfolding every spaced
   spaced_end h = let z : n - i ≡ 0 = omega arith in rw z refl
-
-  -- what is left lies within the words, and so does the first of it
-  pub spaced_room : at + (n - i) * stride ≤ length m → i < n → at + stride + (n - (i + 1)) * stride ≤ length m
-  spaced_room r h = let z = ap (λ (k : ℕ). k * stride) (left h) ∙ suc-mul (n - (i + 1)) stride in omega arith
-
-  pub spaced_in : 0 < stride → at + (n - i) * stride ≤ length m → i < n → at < length m
-  spaced_in g r h = let z = spaced_room r h in omega arith
-
-pub spaced_all : (m : List ℕ) (stride n : ℕ) → n * stride ≤ length m → (0 + (n - 0) * stride ≤ length m) × (spaced m stride 0 (n - 0) ≡ spaced m stride 0 n)
-spaced_all m stride n h =
-    let z : n - 0 ≡ n = omega arith in
-    let y = ap (λ (k : ℕ). k * stride) z in
-    (omega arith, ap (spaced m stride 0) z)
 
 -- one after the other: the front of a list
 further : (x : ℕ) (m : List ℕ) (t n : ℕ) → spaced (x ∷ m) 1 (suc t) n ≡ spaced m 1 t n

@@ -16,7 +16,7 @@ use Rattle.metadata_lists.specs.Flat.{list_at, placed_from}
 use Rattle.metadata_rules.specs.WordsLaws.{before_next, before_up}
 use Rattle.metadata_lists.specs.Link.{flat_same}
 use Rattle.metadata_lists.specs.Name.{list_length}
-use Rattle.metadata_lists.specs.Names.{Final, placed, lay_all}
+use Rattle.metadata_lists.specs.Names.{placed, lay_all}
 use Rattle.metadata_gather.specs.Picks.{enter_place, picks_of}
 
 -- the place j asks for its mapping's words, its offset and its intervals
@@ -340,6 +340,3 @@ lay_append [] ys a q b k a' q' b' k' e =
     let e4 : k' ≡ k = cc in
     rw (e1, e2, e3, e4) refl
 lay_append (x ∷ xs) ys a q b k a' q' b' k' e = lay_append xs ys _ _ _ _ a' q' b' k' e
-
-pub from_zero : {a b : List ℕ} {r k : ℕ} {f : Final} → placed a (0 + r) b k ≡ f → placed a r b k ≡ f
-from_zero {a} {b} {r} {k} e = let z : r ≡ 0 + r = omega arith in ap (λ (u : ℕ). placed a u b k) z ∙ e

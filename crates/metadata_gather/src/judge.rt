@@ -8,20 +8,14 @@ ghost use Rattle.metadata_gather.specs.Judge.{dated, below, spaced, judged_by};
 use leaves::refusal::Refusal;
 use leaves_days::days::is_date;
 use metadata_rules::Interval;
-use metadata_words::words::{interval_at, wide};
-
-// What the tests say: all pass, or the refusal of the first that does not.
-#[derive(Clone, Copy)]
-pub enum Judged {
-    Passed,
-    Refused(Refusal),
-}
+use metadata_words::words::interval_at;
 
 // Whether a number was handed out: it is below the number of names.
+#[tactic(auto, unfolding(crate::specs::Judge::below))]
 fn is_known(x: u32, names: usize) -> bool
     ensures { result ≡ below names x }
 {
-    wide(x) < names
+    (x as usize) < names
 }
 
 // 3: whether each of `count` numbers was handed out, the first word and then each that stands `stride` words further on.
@@ -29,47 +23,42 @@ pub fn numbers_known(words: &[u32], stride: usize, count: usize, names: usize) -
     requires { (0 < stride) × (count * stride ≤ length words.now) }
     ensures { result ≡ every (below names) (spaced words.now stride 0 count) }
 {
-    let mut i = 0;
-    let mut at = 0;
-    while i < count {
-        if !is_known(words[at], names) {
+    for i in 0..count {
+        if !is_known(words[i * stride], names) {
             return false;
         }
-        at += stride;
-        i += 1;
     }
     true
 }
 
 // Whether start and end are dates.
+#[tactic(auto, unfolding(crate::specs::Judge::dated))]
 fn is_dated(x: Interval) -> bool
     ensures { result ≡ dated x }
 {
-    is_date(x.start) & is_date(x.end)
+    is_date(x.start) && is_date(x.end)
 }
 
 // 11, 3 or 1 of the first `count` intervals, each over all before the next; `known` says whether every other number was handed out.
-pub fn judge(intervals: &[u32], count: usize, names: usize, known: bool) -> Judged
+pub fn judge(intervals: &[u32], count: usize, names: usize, known: bool) -> Result<(), Refusal>
     requires { 3 * count ≤ length intervals.now }
     ensures { result ≡ judged_by names known true (rest intervals.now 0 count) }
 {
     let mut all_known = known;
     let mut all_forward = true;
-    let mut i = 0;
-    while i < count {
+    for i in 0..count {
         let x = interval_at(intervals, i);
         if !is_dated(x) {
-            return Judged::Refused(Refusal::NoDate);
+            return Err(Refusal::NoDate);
         }
-        all_known = all_known & is_known(x.symbol, names);
-        all_forward = all_forward & (x.start <= x.end);
-        i += 1;
+        all_known &= is_known(x.symbol, names);
+        all_forward &= x.start <= x.end;
     }
     if !all_known {
-        return Judged::Refused(Refusal::UnknownSymbol);
+        return Err(Refusal::UnknownSymbol);
     }
     if !all_forward {
-        return Judged::Refused(Refusal::Reversed);
+        return Err(Refusal::Reversed);
     }
-    Judged::Passed
+    Ok(())
 }

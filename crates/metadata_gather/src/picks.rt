@@ -15,18 +15,15 @@ pub fn picks(
     marks: &mut [u32],
     last: &mut [usize],
 ) -> usize
-    requires { (2 * count ≤ length mappings.now) × (count ≤ length names.old) × (length names.old < 4294967296) × (count ≤ length last.old) × Marked marks.old [] }
+    requires { (2 * count ≤ length mappings.now) × (count ≤ length names.old) × (length names.old < 4294967296) ×
+        (count ≤ length last.old) × Marked marks.old [] }
     ensures { (result ≤ count) × (take result last.new ≡ picks_of mappings.now count) }
 {
     let mut kept = 0;
-    let mut i = 0;
-    while i < count {
-        let x = name_at(mappings, i);
-        let a = add_one(names, kept, marks, x);
-        let place = a.place;
-        last[place] = i;
+    for i in 0..count {
+        let a = add_one(names, kept, marks, name_at(mappings, i));
+        last[a.place] = i;
         kept = a.count;
-        i += 1;
     }
     kept
 }

@@ -12,80 +12,71 @@ ghost use Rattle.metadata_gather.specs.Sides.{Within, Layable, picked_to, Sound}
 use crate::picks::picks;
 use leaves_limits::MAPPINGS;
 use metadata_lists::link::offsets;
-use metadata_words::words::{copy_intervals, count_at, name_at, put_mapping};
+use metadata_lists::names::Laid;
+use metadata_words::words::{Mappings, copy_intervals, count_at, name_at, put_mapping};
 
-// How many mappings and intervals are laid.
-#[derive(Clone, Copy)]
-pub struct Laid {
-    pub mappings: usize,
-    pub intervals: usize,
-}
-
-// The i-th mapping, laid behind those laid already, and its intervals; answers how many intervals are laid then.
+// The i-th mapping, laid behind those laid already, and its intervals; answers how many are laid then.
 fn lay_mapping(
-    mappings: &[u32],
-    intervals: &[u32],
+    mappings: Mappings<'_>,
     starts: &[usize],
     i: usize,
     both_mappings: &mut [u32],
-    laid_mappings: usize,
     both_intervals: &mut [u32],
-    laid_intervals: usize,
-) -> usize
-    requires { Within mappings.now intervals.now starts.now i × (2 * laid_mappings + 2 ≤ length both_mappings.old) ×
-        (3 * (laid_intervals + count_at mappings.now i) ≤ length both_intervals.old) × (length both_intervals.old < 4294967296) }
-    ensures { (both_mappings.new ≡ put_mapping both_mappings.old laid_mappings (name_at mappings.now i)
-        (count_at mappings.now i)) × (both_intervals.new ≡ layFrom both_intervals.old laid_intervals
-        (list_at mappings.now intervals.now starts.now i)) × (result ≡ laid_intervals + count_at mappings.now i) }
+    laid: Laid,
+) -> Laid
+    requires { Within mappings.words.now mappings.intervals.now starts.now i × (2 * laid.mappings + 2 ≤ length both_mappings.old) ×
+        (3 * (laid.intervals + count_at mappings.words.now i) ≤ length both_intervals.old) × (length both_intervals.old < 4294967296) }
+    ensures { (both_mappings.new ≡ put_mapping both_mappings.old laid.mappings (name_at mappings.entry.words.now i)
+        (count_at mappings.entry.words.now i)) × (both_intervals.new ≡ layFrom both_intervals.old laid.intervals
+        (list_at mappings.entry.words.now mappings.entry.intervals.now starts.now i)) × (result.mappings ≡ laid.mappings + 1) ×
+        (result.intervals ≡ laid.intervals + count_at mappings.entry.words.now i) }
 {
-    let name = name_at(mappings, i);
-    let size = count_at(mappings, i);
+    let name = name_at(mappings.words, i);
+    let size = count_at(mappings.words, i);
     let start = starts[i];
-    put_mapping(both_mappings, laid_mappings, name, size);
+    put_mapping(both_mappings, laid.mappings, name, size);
     copy_intervals(
-        intervals,
+        mappings.intervals,
         start,
         start + size,
         both_intervals,
-        laid_intervals,
+        laid.intervals,
     );
-    laid_intervals + size
+    Laid {
+        mappings: laid.mappings + 1,
+        intervals: laid.intervals + size,
+    }
 }
 
-// The mappings at the first `count` of `places`, laid one after the other; answers how many intervals are laid then.
+// The mappings at the first `count` of `places`, laid one after the other; answers how many are laid then.
 fn lay_places(
-    mappings: &[u32],
-    intervals: &[u32],
+    mappings: Mappings<'_>,
     starts: &[usize],
     places: &[usize],
     count: usize,
     both_mappings: &mut [u32],
-    laid_mappings: usize,
     both_intervals: &mut [u32],
-    laid_intervals: usize,
-) -> usize
-    requires { Layable mappings.now intervals.now starts.now places.now count (length both_mappings.old) laid_mappings (length both_intervals.old) laid_intervals }
-    ensures { placed both_mappings.new (laid_mappings + count) both_intervals.new result ≡ lay_all both_mappings.old
-        laid_mappings both_intervals.old laid_intervals
-        (picked_to mappings.now intervals.now starts.now places.now 0 count) }
+    laid: Laid,
+) -> Laid
+    requires { Layable mappings.words.now mappings.intervals.now starts.now places.now count (length both_mappings.old) laid.mappings
+        (length both_intervals.old) laid.intervals }
+    ensures { (result.mappings ≡ laid.mappings + count) × (placed both_mappings.new result.mappings both_intervals.new result.intervals ≡
+        lay_all both_mappings.old
+        laid.mappings both_intervals.old laid.intervals
+        (picked_to mappings.entry.words.now mappings.entry.intervals.now starts.now places.now 0 count)) }
 {
-    let mut i = 0;
-    let mut laid = laid_intervals;
-    while i < count {
-        let place = places[i];
-        laid = lay_mapping(
+    let mut so_far = laid;
+    for i in 0..count {
+        so_far = lay_mapping(
             mappings,
-            intervals,
             starts,
-            place,
+            places[i],
             both_mappings,
-            laid_mappings + i,
             both_intervals,
-            laid,
+            so_far,
         );
-        i += 1;
     }
-    laid
+    so_far
 }
 
 // The first `count` places hold their own numbers.
@@ -93,75 +84,73 @@ fn count_up(places: &mut [usize], count: usize)
     requires { count ≤ length places.old }
     ensures { (t : ℕ) → t < count → get_or places.new t 0 ≡ t }
 {
-    let mut i = 0;
-    while i < count {
+    for i in 0..count {
         places[i] = i;
-        i += 1;
     }
 }
 
 // A first metadata's mappings without its repeats.
 pub fn lose_repeats(
-    mappings: &[u32],
-    count: usize,
-    intervals: &[u32],
+    mappings: Mappings<'_>,
     both_mappings: &mut [u32],
     both_intervals: &mut [u32],
 ) -> Laid
-    requires { Sound mappings.now count intervals.now (length both_mappings.old) 0 (length both_intervals.old) 0 }
+    requires { Sound mappings.words.now mappings.count mappings.intervals.now (length both_mappings.old) 0 (length both_intervals.old) 0 }
     ensures { placed both_mappings.new result.mappings both_intervals.new result.intervals ≡ lay_all both_mappings.old 0
-        both_intervals.old 0 (enter_all [] (mappings_from mappings.now intervals.now 0 0 count)) }
+        both_intervals.old 0 (enter_all [] (mappings_from mappings.entry.words.now mappings.entry.intervals.now 0 0 mappings.entry.count)) }
 {
     let mut starts = [0usize; MAPPINGS];
     let mut names = [0u32; MAPPINGS];
     let mut marks = [0u32; MAPPINGS];
     let mut last = [0usize; MAPPINGS];
-    offsets(mappings, count, &mut starts);
-    let kept = picks(mappings, count, &mut names, &mut marks, &mut last);
-    let laid = lay_places(
+    offsets(mappings.words, mappings.count, &mut starts);
+    let kept = picks(
+        mappings.words,
+        mappings.count,
+        &mut names,
+        &mut marks,
+        &mut last,
+    );
+    let none = Laid {
+        mappings: 0,
+        intervals: 0,
+    };
+    lay_places(
         mappings,
-        intervals,
         &starts,
         &last,
         kept,
         both_mappings,
-        0,
         both_intervals,
-        0,
-    );
-    Laid {
-        mappings: kept,
-        intervals: laid,
-    }
+        none,
+    )
 }
 
-// An added metadata's mappings, behind those laid already; answers how many intervals are laid then.
+// An added metadata's mappings, behind those laid already; answers how many are laid then.
 pub fn follow(
-    mappings: &[u32],
-    count: usize,
-    intervals: &[u32],
+    mappings: Mappings<'_>,
     both_mappings: &mut [u32],
-    laid_mappings: usize,
     both_intervals: &mut [u32],
-    laid_intervals: usize,
-) -> usize
-    requires { Sound mappings.now count intervals.now (length both_mappings.old) laid_mappings (length both_intervals.old) laid_intervals }
-    ensures { placed both_mappings.new (laid_mappings + count) both_intervals.new result ≡ lay_all both_mappings.old
-        laid_mappings both_intervals.old laid_intervals (mappings_from mappings.now intervals.now 0 0 count) }
+    laid: Laid,
+) -> Laid
+    requires { Sound mappings.words.now mappings.count mappings.intervals.now (length both_mappings.old) laid.mappings
+        (length both_intervals.old) laid.intervals }
+    ensures { (result.mappings ≡ laid.mappings + mappings.entry.count) ×
+        (placed both_mappings.new result.mappings both_intervals.new result.intervals ≡ lay_all both_mappings.old
+        laid.mappings both_intervals.old laid.intervals (mappings_from mappings.entry.words.now mappings.entry.intervals.now 0 0
+        mappings.entry.count)) }
 {
     let mut starts = [0usize; MAPPINGS];
     let mut places = [0usize; MAPPINGS];
-    offsets(mappings, count, &mut starts);
-    count_up(&mut places, count);
+    offsets(mappings.words, mappings.count, &mut starts);
+    count_up(&mut places, mappings.count);
     lay_places(
         mappings,
-        intervals,
         &starts,
         &places,
-        count,
+        mappings.count,
         both_mappings,
-        laid_mappings,
         both_intervals,
-        laid_intervals,
+        laid,
     )
 }

@@ -1,6 +1,6 @@
 -- What the two heads of a walk give, and what a walk leaves in `out`: the interval that goes out, then the rest of the walk.
 -- Assumes nothing.
-use Rattle.std.specs.Prelude.{◌≡◌, ℕ, ◌+◌, ◌-◌, ◌≤◌, ◌<◌, Bool, cond, length, eqb}
+use Rattle.std.specs.Prelude.{◌≡◌, ℕ, ◌+◌, ◌-◌, ◌≤◌, ◌<◌, Bool, cond, length, eqb, Option, Some, None}
 use Rattle.std.proofs.Math.Path.{refl, sym, ap}
 use Rattle.std.proofs.Common.{◌∙◌, subst}
 use native.Mathlib.Omega.{arith}
@@ -13,10 +13,7 @@ use Rattle.metadata_rules.specs.Walk.{Walked, conflict, laid, ordering, joined, 
 use Rattle.metadata_rules.specs.Words.{interval_at}
 use Rattle.metadata_rules.specs.Cases.{eqb_case}
 use Rattle.metadata_words.specs.Words.{put_at, rest, lay_intervals, rest_cons, rest_nil, rest_length}
-use Rattle.metadata_lists.specs.declared.heads.WalkStep.{WalkStep}
-use Rattle.metadata_lists.specs.declared.heads.WalkStep.TheVariants as step
-use Rattle.metadata_lists.specs.declared.heads.WalkLaid.{WalkLaid}
-use Rattle.metadata_lists.specs.declared.heads.WalkLaid.TheVariants as walk_laid
+use Rattle.metadata_lists.specs.declared.heads.Step.{Step}
 
 -- what a walk leaves: a conflict, or the list and the place behind the last
 pub data Ended : Type 0 where
@@ -28,21 +25,25 @@ unfolding lay_intervals
 finish v k conflict = conflicted
 finish v k (laid xs) = held (lay_intervals v k xs) (k + length xs)
 
-unfoldable pub ended_of : WalkLaid → List ℕ → Ended
-ended_of walk_laid.Conflict v = conflicted
-ended_of (walk_laid.Done n) v = held v n
+unfoldable pub ended_of : Option ℕ → List ℕ → Ended
+ended_of None v = conflicted
+ended_of (Some n) v = held v n
 
-unfoldable pub agreed_step : Interval → Interval → Interval → WalkStep
-agreed_step a b x = cond (eqb a.symbol b.symbol) (step.Out x 1 1) step.Conflict
+-- x goes out, and so many of each list are consumed
+abbrev pub step : Interval → ℕ → ℕ → Option Step
+step x p q = Some (record { interval = x; left = p; right = q })
 
-unfoldable pub step_on : Interval → Interval → IntervalOrdering → WalkStep
+unfoldable pub agreed_step : Interval → Interval → Interval → Option Step
+agreed_step a b x = cond (eqb a.symbol b.symbol) (step x 1 1) None
+
+unfoldable pub step_on : Interval → Interval → IntervalOrdering → Option Step
 unfolding agreed_step
 step_on a b Equal = agreed_step a b a
-step_on a b Less = step.Out a 1 0
-step_on a b Greater = step.Out b 0 1
+step_on a b Less = step a 1 0
+step_on a b Greater = step b 0 1
 step_on a b Overlap = agreed_step a b (joined a b)
 
-unfoldable pub step_of : Interval → Interval → WalkStep
+unfoldable pub step_of : Interval → Interval → Option Step
 unfolding step_on
 step_of a b = step_on a b (ordering a b)
 
@@ -54,9 +55,9 @@ finish_out v k x conflict = refl
 finish_out v k x (laid xs) = ap (held (lay_intervals (put_at v k x) (k + 1) xs)) (omega arith)
 
 -- a step of the walk, as code takes it
-unfoldable pub on_step : List ℕ → ℕ → ℕ → List ℕ → ℕ → ℕ → List ℕ → ℕ → WalkStep → Ended
-on_step a i ie b j je v k step.Conflict = conflicted
-on_step a i ie b j je v k (step.Out x p q) = finish (put_at v k x) (k + 1) (walk (rest a (i + p) ie) (rest b (j + q) je))
+unfoldable pub on_step : List ℕ → ℕ → ℕ → List ℕ → ℕ → ℕ → List ℕ → ℕ → Option Step → Ended
+on_step a i ie b j je v k None = conflicted
+on_step a i ie b j je v k (Some s) = finish (put_at v k s.interval) (k + 1) (walk (rest a (i + s.left) ie) (rest b (j + s.right) je))
 
 module _ (a : List ℕ) (i ie : ℕ) (b : List ℕ) (j je : ℕ) (v : List ℕ) (k : ℕ) (h : i < ie) (g : j < je) where
   agreed_law : (x : Interval) → finish v k (agreed (interval_at a i) (interval_at b j) x (walk (rest a (i + 1) ie) (rest b (j + 1) je)))
@@ -64,7 +65,7 @@ module _ (a : List ℕ) (i ie : ℕ) (b : List ℕ) (j je : ℕ) (v : List ℕ) 
   unfolding agreed agreed_step on_step finish
   agreed_law x = go (eqb (interval_at a i).symbol (interval_at b j).symbol)
     where
-      go : (t : Bool) → finish v k (cond t (out x (walk (rest a (i + 1) ie) (rest b (j + 1) je))) conflict) ≡ on_step a i ie b j je v k (cond t (step.Out x 1 1) step.Conflict)
+      go : (t : Bool) → finish v k (cond t (out x (walk (rest a (i + 1) ie) (rest b (j + 1) je))) conflict) ≡ on_step a i ie b j je v k (cond t (step x 1 1) None)
       go true = finish_out v k x (walk (rest a (i + 1) ie) (rest b (j + 1) je))
       go false = refl
 
@@ -105,9 +106,9 @@ pub record Counts (p q : ℕ) : Type 0 where
   pub few : q ≤ 1
   pub some : 1 ≤ p + q
 
-abbrev pub CountsOf : WalkStep → Type 0
-CountsOf step.Conflict = Unit {0}
-CountsOf (step.Out x p q) = Counts p q
+abbrev pub CountsOf : Option Step → Type 0
+CountsOf None = Unit {0}
+CountsOf (Some s) = Counts s.left s.right
 
 agreed_counts : (a b x : Interval) → CountsOf (agreed_step a b x)
 unfolding agreed_step
@@ -120,23 +121,23 @@ counts_on a b Less = record { low = omega arith; few = omega arith; some = omega
 counts_on a b Greater = record { low = omega arith; few = omega arith; some = omega arith }
 counts_on a b Overlap = agreed_counts a b (joined a b)
 
-pub step_counts : (a b x : Interval) (p q : ℕ) → step.Out x p q ≡ step_of a b → Counts p q
+pub step_counts : (a b : Interval) (s : Step) → Some s ≡ step_of a b → Counts s.left s.right
 unfolding step_of
-step_counts a b x p q e = subst CountsOf (sym e) (counts_on a b (ordering a b))
+step_counts a b s e = subst CountsOf (sym e) (counts_on a b (ordering a b))
 
 -- one turn of the walk's loop
 module _ (a : List ℕ) (i ie : ℕ) (b : List ℕ) (j je : ℕ) (v : List ℕ) (k : ℕ) (h : i < ie) (g : j < je) (x y : Interval) (p : x ≡ interval_at a i) (q : y ≡ interval_at b j) where
-  pub turn_conflict : step.Conflict ≡ step_of x y → conflicted ≡ finish v k (walk (rest a i ie) (rest b j je))
+  pub turn_conflict : None ≡ step_of x y → conflicted ≡ finish v k (walk (rest a i ie) (rest b j je))
   unfolding on_step
   turn_conflict e =
       sym (step_law a i ie b j je v k h g
       ∙ ap (on_step a i ie b j je v k) (ap (λ (u : Interval). step_of u (interval_at b j)) (sym p) ∙ ap (step_of x) (sym q) ∙ sym e))
 
-  pub turn_out : (z : Interval) (m n : ℕ) (w : List ℕ) → step.Out z m n ≡ step_of x y → w ≡ put_at v k z
-      → finish w (k + 1) (walk (rest a (i + m) ie) (rest b (j + n) je)) ≡ finish v k (walk (rest a i ie) (rest b j je))
+  pub turn_out : (s : Step) (w : List ℕ) → Some s ≡ step_of x y → w ≡ put_at v k s.interval
+      → finish w (k + 1) (walk (rest a (i + s.left) ie) (rest b (j + s.right) je)) ≡ finish v k (walk (rest a i ie) (rest b j je))
   unfolding on_step
-  turn_out z m n w e d =
-      ap (λ (u : List ℕ). finish u (k + 1) (walk (rest a (i + m) ie) (rest b (j + n) je))) d
+  turn_out s w e d =
+      ap (λ (u : List ℕ). finish u (k + 1) (walk (rest a (i + s.left) ie) (rest b (j + s.right) je))) d
       ∙ sym (step_law a i ie b j je v k h g
       ∙ ap (on_step a i ie b j je v k) (ap (λ (u : Interval). step_of u (interval_at b j)) (sym p) ∙ ap (step_of x) (sym q) ∙ sym e))
 

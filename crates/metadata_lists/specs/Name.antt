@@ -1,11 +1,10 @@
 -- What laying one name needs, and what holds at each turn. Assumes nothing.
-use Rattle.std.specs.Prelude.{◌≡◌, ℕ, ◌+◌, ◌-◌, ◌*◌, ◌≤◌, ◌<◌, length, get_or}
+use Rattle.std.specs.Prelude.{◌≡◌, ℕ, ◌+◌, ◌-◌, ◌*◌, ◌≤◌, ◌<◌, length, get_or, None, Some}
 use Rattle.std.proofs.Math.Path.{refl, sym, ap}
 use Rattle.std.proofs.Common.{◌∙◌, subst, arith}
 use mathlib.Core.List.{List, [], ◌∷◌}
 use Rattle.metadata_rules.specs.declared.Interval.{Interval}
 use Rattle.metadata_rules.specs.Walk.{Walked, walk, walk_all}
-use Rattle.metadata_lists.specs.declared.heads.WalkLaid.TheVariants as walk_laid
 use Rattle.metadata_words.specs.Words.{rest, rest_length, lay_intervals}
 use Rattle.metadata_lists.specs.Heads.{finish, ended_of, held, conflicted}
 use Rattle.metadata_rules.specs.Words.{name_at, count_at}
@@ -89,13 +88,13 @@ module _ (m : List ℕ) (e : ℕ) (v off nx : List ℕ) (i lt lo k : ℕ) (r : R
     pub turn_needs : (3 * (k + n + count_at m j) ≤ length out₀) × (3 * (n + count_at m j) ≤ length t)
     turn_needs = let a = g.room in let b = g.space in let c = total in (omega arith, omega arith)
 
-    pub turn_conflict : (x : List ℕ) → ended_of walk_laid.Conflict x ≡ finish out k (walk (rest u 0 n) (rest v p (p + d))) → conflicted ≡ finish out₀ k (outcome_at m v off e i)
+    pub turn_conflict : (x : List ℕ) → ended_of None x ≡ finish out k (walk (rest u 0 n) (rest v p (p + d))) → conflicted ≡ finish out₀ k (outcome_at m v off e i)
     unfolding finish
     turn_conflict x w =
         sym (ap (finish out₀ k) (more_conflict (list_at m v off j) ls (outcome_at m v off e i) out₀ out k n before t u copied fits small x
         (w ∙ ap (λ (l : List Interval). finish out k (walk (rest u 0 n) l)) (rest_list m v off j p d hp hd))))
 
-    pub turn_going : (x : List ℕ) (a s : ℕ) → ended_of (walk_laid.Done a) x ≡ finish out k (walk (rest u 0 n) (rest v p (p + d))) → length x ≡ length out → s ≡ get_or nx j 0
+    pub turn_going : (x : List ℕ) (a s : ℕ) → ended_of (Some a) x ≡ finish out k (walk (rest u 0 n) (rest v p (p + d))) → length x ≡ length out → s ≡ get_or nx j 0
         → Going m v off e i out₀ x lt k s (a - k) × (k ≤ a)
     turn_going x a s w y hs =
         let o = more_laid (list_at m v off j) ls (outcome_at m v off e i) out₀ out k n before t u copied fits small x a

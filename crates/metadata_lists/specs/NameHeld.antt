@@ -1,5 +1,5 @@
 -- One name's lists, gathered one after the other in `out` from the place k on. Assumes nothing.
-use Rattle.std.specs.Prelude.{◌≡◌, refl, ◌≢◌, ℕ, suc, ◌+◌, ◌-◌, ◌*◌, ◌≤◌, ◌<◌, get_or, set}
+use Rattle.std.specs.Prelude.{◌≡◌, refl, ◌≢◌, ℕ, suc, ◌+◌, ◌-◌, ◌*◌, ◌≤◌, ◌<◌, get_or, set, None, Some}
 use Rattle.std.proofs.Math.Path.{sym, ap}
 use Rattle.std.proofs.Common.{◌∙◌, subst, arith, set-set}
 use mathlib.Core.List.{List, [], ◌∷◌}
@@ -11,7 +11,6 @@ use Rattle.metadata_rules.specs.declared.IntervalOrdering.{IntervalOrdering}
 use Rattle.metadata_rules.specs.declared.IntervalOrdering.TheVariants.{Equal, Less, Greater, Overlap}
 use Rattle.metadata_rules.specs.Walk.{Walked, conflict, laid, walk, walk_all, then_all, out, agreed, heads, ordering, against, joined}
 use Rattle.metadata_rules.specs.Cases.{eqb_case}
-use Rattle.metadata_lists.specs.declared.heads.WalkLaid.TheVariants as walk_laid
 use Rattle.metadata_rules.specs.Words.{interval_at, stretch}
 use Rattle.metadata_words.specs.Words.{put_at, rest, lay_intervals, length_put}
 use Rattle.metadata_lists.specs.Heads.{conflicted, held, finish, ended_of}
@@ -198,13 +197,13 @@ module _ (l : List Interval) (ls : List (List Interval)) (goal : Walked) (v w : 
       let z : 0 + n ≡ n = omega arith in
       ap (rest u 0) (sym z) ∙ rest_laid t u 0 n g.cur (copied ∙ ap (lay_intervals t 0) seen) g.size (omega arith)
 
-  pub more_conflict : (x : List ℕ) → ended_of walk_laid.Conflict x ≡ finish w k (walk (rest u 0 n) l) → goal ≡ conflict
+  pub more_conflict : (x : List ℕ) → ended_of None x ≡ finish w k (walk (rest u 0 n) l) → goal ≡ conflict
   unfolding ended_of walk_all then_all
   more_conflict x d =
       let e : walk g.cur l ≡ conflict = ap (λ (r : List Interval). walk r l) (sym back) ∙ conflict_finish w k (walk (rest u 0 n) l) d in
       sym g.on ∙ ap (then_all (λ r. walk_all r ls)) e
 
-  pub more_laid : (x : List ℕ) (e : ℕ) → ended_of (walk_laid.Done e) x ≡ finish w k (walk (rest u 0 n) l)
+  pub more_laid : (x : List ℕ) (e : ℕ) → ended_of (Some e) x ≡ finish w k (walk (rest u 0 n) l)
       → Gathered ls goal v x k (e - k) × (k ≤ e) × (e ≤ k + n + length l)
   unfolding ended_of walk_all then_all
   more_laid x e d = go (held_finish x e w k (walk (rest u 0 n) l) d)

@@ -1,5 +1,5 @@
 -- One name after the other: the mappings' words and the intervals of each. Assumes nothing.
-use Rattle.std.specs.Prelude.{◌≡◌, Bool, cond, List, [], ◌∷◌, length, get_or, eqb}
+use Rattle.std.specs.Prelude.{◌≡◌, Bool, cond, List, [], ◌∷◌, length, get_or, eqb, None, Option, Some}
 use Rattle.std.proofs.Math.Path.{refl, ap}
 use Rattle.std.proofs.Common.{sym, ◌∙◌}
 use Prim.Native.Nat.{ℕ, zero, suc, ◌+◌, ◌-◌, ◌≤◌, ◌<◌}
@@ -9,23 +9,21 @@ use Rattle.metadata_rules.specs.declared.Interval.{Interval}
 use Rattle.metadata_rules.specs.Walk.{Walked, conflict, laid, walk, walk_all, then_all}
 use Rattle.metadata_rules.specs.Metadata.{Mapping, Merged, conflicting, merged, under, in_front}
 use Rattle.metadata_rules.specs.Cases.{cond_eq, cond_ne}
-use Rattle.metadata_lists.specs.declared.heads.WalkLaid.TheVariants as walk_laid
 use Rattle.metadata_words.specs.Words.{put_mapping, lay_intervals}
 use Rattle.metadata_lists.specs.Heads.{finish, ended_of}
 use Rattle.metadata_rules.specs.Words.{name_at}
 use Rattle.metadata_lists.specs.Flat.{lists_from, sum_len}
 use Rattle.metadata_lists.specs.NameHeld.{walk_length, held_finish, conflict_finish}
 use Rattle.metadata_lists.specs.Name.{outcome_at}
-use Rattle.metadata_lists.specs.declared.names.NamesLaid.{NamesLaid}
-use Rattle.metadata_lists.specs.declared.names.NamesLaid.TheVariants as names_laid
+use Rattle.metadata_lists.specs.declared.names.Laid.{Laid}
 
 pub data Final : Type 0 where
   failed : Final
   placed : List ℕ → ℕ → List ℕ → ℕ → Final
 
-unfoldable pub end_names : NamesLaid → List ℕ → List ℕ → Final
-end_names names_laid.Conflict om o = failed
-end_names (names_laid.Done q k) om o = placed om q o k
+unfoldable pub end_names : Option Laid → List ℕ → List ℕ → Final
+end_names None om o = failed
+end_names (Some l) om o = placed om l.mappings o l.intervals
 
 -- the outcome w of the name n is laid
 unfoldable pub finish_one : List ℕ → ℕ → List ℕ → ℕ → ℕ → Walked → Final
@@ -131,13 +129,13 @@ unfolding step_at
 place_skip m v off head e i om q o k n z d = sym (cond_ne (get_or head (name_at m i) 0) i _ _ (λ x. d (ap (λ (y : ℕ). get_or head y 0) z ∙ x)))
 
 pub place_conflict : (m v off head : List ℕ) (e i : ℕ) (om : List ℕ) (q : ℕ) (o x : List ℕ) (k n : ℕ) → n ≡ name_at m i → get_or head n 0 ≡ i
-    → ended_of walk_laid.Conflict x ≡ finish o k (outcome_at m v off e i) → failed ≡ step_at m v off head e i om q o k
+    → ended_of None x ≡ finish o k (outcome_at m v off e i) → failed ≡ step_at m v off head e i om q o k
 unfolding step_at finish_one ended_of
 place_conflict m v off head e i om q o x k n z d w =
     ap (finish_one om q o k (name_at m i)) (sym (conflict_finish o k (outcome_at m v off e i) w))
     ∙ sym (cond_eq (get_or head (name_at m i) 0) i _ _ (ap (λ (y : ℕ). get_or head y 0) (sym z) ∙ d))
 
-pub laid_bound : (m v off : List ℕ) (e i : ℕ) (o x : List ℕ) (k t : ℕ) → ended_of (walk_laid.Done t) x ≡ finish o k (outcome_at m v off e i)
+pub laid_bound : (m v off : List ℕ) (e i : ℕ) (o x : List ℕ) (k t : ℕ) → ended_of (Some t) x ≡ finish o k (outcome_at m v off e i)
     → (k ≤ t) × (t ≤ k + sum_len (lists_from m v off (name_at m i) i e))
 unfolding ended_of outcome_at
 laid_bound m v off e i o x k t w =
@@ -146,7 +144,7 @@ laid_bound m v off e i o x k t w =
     (omega (arith, f.3), omega (arith, f.3))
 
 pub place_laid : (m v off head : List ℕ) (e i : ℕ) (om om' : List ℕ) (q : ℕ) (o x : List ℕ) (k n t c : ℕ) → n ≡ name_at m i → get_or head n 0 ≡ i
-    → ended_of (walk_laid.Done t) x ≡ finish o k (outcome_at m v off e i) → c ≡ t - k → om' ≡ put_mapping om q n c → placed om' (q + 1) x t ≡ step_at m v off head e i om q o k
+    → ended_of (Some t) x ≡ finish o k (outcome_at m v off e i) → c ≡ t - k → om' ≡ put_mapping om q n c → placed om' (q + 1) x t ≡ step_at m v off head e i om q o k
 unfolding step_at finish_one ended_of
 place_laid m v off head e i om om' q o x k n t c z d w y u =
     let f = held_finish x t o k (outcome_at m v off e i) w in

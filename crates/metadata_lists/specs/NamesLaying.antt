@@ -1,7 +1,7 @@
 -- What the loop over all places needs, and what holds at each turn. Assumes nothing.
 use Rattle.std.proofs.Math.Path.{◌≡◌, refl, ap}
 use Rattle.std.proofs.Common.{◌∙◌}
-use Rattle.std.specs.Prelude.{ℕ, ◌+◌, ◌*◌, ◌≤◌, ◌<◌, get_or}
+use Rattle.std.specs.Prelude.{ℕ, ◌+◌, ◌*◌, ◌≤◌, ◌<◌, get_or, None, Some}
 use native.Mathlib.Omega.{arith}
 use mathlib.Core.List.{List, []}
 use Rattle.std.proofs.Math.ListN.{length}
@@ -10,7 +10,7 @@ use Rattle.metadata_rules.specs.Cases.{eqb_case}
 use Rattle.metadata_rules.specs.Words.{name_at, count_at}
 use Rattle.metadata_lists.specs.Flat.{lists_from, Linked}
 use Rattle.metadata_lists.specs.Name.{outcome_at, Ready}
-use Rattle.metadata_lists.specs.declared.names.NamesLaid.TheVariants as names_laid
+use Rattle.metadata_lists.specs.declared.names.Laid.{Laid}
 use Rattle.metadata_lists.specs.Names.{Final, failed, placed, end_names, finish_one, step_at, collect_to, sums_to, finish_names, onward, walk_all_length, collect_end, sums_first, sums_skip, step_onward}
 
 pub record AllReady (m : List ℕ) (e : ℕ) (v off nx head : List ℕ) (lt lm lo : ℕ) : Type 0 where
@@ -80,15 +80,15 @@ module _ (m : List ℕ) (e : ℕ) (v off nx head : List ℕ) (lt lm lo : ℕ) (r
           let t = sums_skip m v off head e i h d in
           (omega arith, omega arith)
 
-  pub turn_fails : (om' o' : List ℕ) → end_names names_laid.Conflict om' o' ≡ step_at m v off head e i om q o k → failed ≡ finish_names om₀ 0 o₀ 0 (collect_to m v off head e 0)
+  pub turn_fails : (om' o' : List ℕ) → end_names None om' o' ≡ step_at m v off head e i om q o k → failed ≡ finish_names om₀ 0 o₀ 0 (collect_to m v off head e 0)
   unfolding end_names onward
   turn_fails om' o' w = ap (onward (collect_to m v off head e (i + 1))) w ∙ step_onward m v off head e i h om q o k ∙ g.on
 
-  pub turn_lays : (om' o' : List ℕ) (q' k' : ℕ) → length om' ≡ length om → length o' ≡ length o → end_names (names_laid.Done q' k') om' o' ≡ step_at m v off head e i om q o k
-      → Laying m e v off head om₀ om' o₀ o' (i + 1) q' k'
+  pub turn_lays : (om' o' : List ℕ) (l : Laid) → length om' ≡ length om → length o' ≡ length o → end_names (Some l) om' o' ≡ step_at m v off head e i om q o k
+      → Laying m e v off head om₀ om' o₀ o' (i + 1) l.mappings l.intervals
   unfolding end_names onward
-  turn_lays om' o' q' k' a b w =
-      let p = place_bound om' o' q' k' w in
+  turn_lays om' o' l a b w =
+      let p = place_bound om' o' l.mappings l.intervals w in
       let x = g.few in
       let y = g.room in
       record {

@@ -1,7 +1,7 @@
 -- The outcome of a merge from its parts: the sets, the plan of the mappings, the room. Assumes nothing.
 use Rattle.std.proofs.Math.Path.{◌≡◌, refl, sym, ap, subst}
 use Rattle.std.proofs.Common.{◌∙◌, arith}
-use Rattle.std.specs.Prelude.{ℕ, ◌*◌, ◌/◌, ◌≤◌, Bool, ◌&&◌, cond, List, [], ◌∷◌, ◌++◌, length, take, leb, ltb}
+use Rattle.std.specs.Prelude.{ℕ, ◌*◌, ◌/◌, ◌≤◌, Bool, ◌&&◌, cond, List, [], ◌∷◌, ◌++◌, length, take, leb, ltb, Result, Ok, Err}
 use Rattle.std.proofs.Math.Bool.{true, false}
 use Rattle.theory.specs.Answer.{answer}
 use Rattle.leaves.specs.Refusal.{refused}
@@ -17,8 +17,7 @@ use Rattle.metadata_lists.specs.NamesWords.{Stands, stands, front_maps, front_sp
 use Rattle.metadata_gather.specs.Judge.{known_date, below, judged_of, and_assoc}
 use Rattle.metadata_plan.specs.Plan.{end_plan, shown_merged, plan_on, plan_of, judged_all, both_sides}
 use Rattle.metadata_plan.specs.Plan.{stopped as halted}
-use Rattle.metadata_plan.specs.declared.plan.Planned.{Planned}
-use Rattle.metadata_plan.specs.declared.plan.Planned.TheVariants as plan
+use Rattle.metadata_lists.specs.declared.names.Laid.{Laid}
 use Rattle.metadata_form.specs.declared.header.Header.{Header}
 use Rattle.metadata_form.specs.declared.header.Lengths.{Lengths}
 use Rattle.metadata_form.specs.declared.header.Counts.{Counts}
@@ -26,16 +25,24 @@ use Rattle.metadata_form.specs.Header.{Lists, lists, lengths_of, counts_by, head
 use Rattle.metadata_gather.specs.Sets.{IsUnited}
 use Rattle.metadata_open.specs.Commit.{StandsIn}
 use Rattle.metadata_merge.specs.Room.{merged_few, merged_short}
-use Rattle.metadata_merge.specs.declared.outcome.Verdict.{Verdict}
-use Rattle.metadata_merge.specs.declared.outcome.Verdict.TheVariants.{Refused, Fits}
 
 -- the name numbers besides the mappings' were handed out: both datasets, the three sets
 unfoldable pub rest_of : ℕ → Header → Header → Bool → Bool → Bool → Bool
 rest_of names h g a b c = ltb h.dataset names && (ltb g.dataset names && (a && (b && c)))
 
+-- what comes of a plan
+abbrev pub Planned : Type 0
+Planned = Result Laid Refusal
+
+-- what comes of a merge: how many of each list the outcome has
+abbrev pub Verdict : Type 0
+Verdict = Result Counts Refusal
+
+-- a plan's refusal, or 2 where the outcome does not fit, or the counts
 unfoldable pub decide_of : Planned → ℕ → ℕ → ℕ → Lengths → Verdict
-decide_of (plan.Refused r) a b c l = Refused r
-decide_of (plan.Laid q k) a b c l = cond (outcome_fits (counts_by a b c q k) l) (Fits (counts_by a b c q k)) (Refused NoRoom)
+decide_of (Err r) a b c l = Err r
+decide_of (Ok d) a b c l =
+    cond (outcome_fits (counts_by a b c d.mappings d.intervals) l) (Ok (counts_by a b c d.mappings d.intervals)) (Err NoRoom)
 
 -- the rooms of the lent lists, and what a merge is given
 abbrev pub rooms_of : Lists → Rooms
@@ -178,8 +185,8 @@ pub record Fitted (x : Outcome) (f : Fields) (l : Lengths) (c : Counts) (t : Lis
 
 -- what a verdict says of the outcome x
 abbrev pub Decided : Outcome → Fields → Lengths → Verdict → Lists → Type 0
-Decided x f l (Refused r) t = x ≡ stopped (refused r)
-Decided x f l (Fits c) t = Fitted x f l c t
+Decided x f l (Err r) t = x ≡ stopped (refused r)
+Decided x f l (Ok c) t = Fitted x f l c t
 
 unfoldable pub Deciding : Outcome → Fields → Lengths → Verdict → Lists → Type 0
 Deciding x f l v t = Decided x f l v t
@@ -194,7 +201,7 @@ module _ (names : ℕ) (h : Header) (l : Lists) (g : Header) (r : Lists) (ka : B
   counts_same ms q k a b = rw (s.symbols.united.how_many, s.partial.united.how_many, s.not_found.united.how_many, a, b) refl
 
   laid_fits : (ms : List Mapping) (q k : ℕ) → Stands ms om' q out' k → (b : Bool) → outcome_fits (counts_by ca cb cd q k) (lengths_of l) ≡ b
-      → Decided (cond b (done (ends ms)) (stopped (answer 2 []))) (fields_of (header_fields h) (header_fields g)) (lengths_of l) (cond b (Fits (counts_by ca cb cd q k)) (Refused NoRoom)) (lists ta tb tc om' out')
+      → Decided (cond b (done (ends ms)) (stopped (answer 2 []))) (fields_of (header_fields h) (header_fields g)) (lengths_of l) (cond b (Ok (counts_by ca cb cd q k)) (Err NoRoom)) (lists ta tb tc om' out')
   unfolding together opened metadata_of
   laid_fits ms q k d false e = refl
   laid_fits ms q k d true e = record {
@@ -219,22 +226,23 @@ module _ (names : ℕ) (h : Header) (l : Lists) (g : Header) (r : Lists) (ka : B
   halted_case : (p : Planned) (why : Refusal) → end_plan p om' out' ≡ halted why
       → Decided (stopped (refused why)) (fields_of (header_fields h) (header_fields g)) (lengths_of l) (decide_of p ca cb cd (lengths_of l)) (lists ta tb tc om' out')
   unfolding end_plan decide_of
-  halted_case (plan.Refused x) why e = let z : x ≡ why = cc in ap (λ (k : Refusal). stopped (refused k)) (sym z)
-  halted_case (plan.Laid q k) why e = let z : ◌≡◌ {A = ℕ} 0 1 = cc in absurd (omega arith)
+  halted_case (Err x) why e = let z : x ≡ why = cc in ap (λ (k : Refusal). stopped (refused k)) (sym z)
+  halted_case (Ok d) why e = let z : ◌≡◌ {A = ℕ} 0 1 = cc in absurd (omega arith)
 
   merged_case : (p : Planned) (m : Merged) → by_name (all names h l g r) ≡ m → end_plan p om' out' ≡ shown_merged om out m
       → Decided (if_merged (rooms_of l) (left names h l g r) (right names h l g r) m) (fields_of (header_fields h) (header_fields g)) (lengths_of l) (decide_of p ca cb cd (lengths_of l)) (lists ta tb tc om' out')
   unfolding shown_merged if_merged if_fits end_plan decide_of
   merged_case p conflicting b e = halted_case p Conflict e
-  merged_case (plan.Refused x) (merged ms) b e = let z : ◌≡◌ {A = ℕ} 0 1 = cc in absurd (omega arith)
-  merged_case (plan.Laid q k) (merged ms) b e =
-      let f : placed om' q out' k ≡ lay_all om 0 out 0 ms = cc in
+  merged_case (Err x) (merged ms) b e = let z : ◌≡◌ {A = ℕ} 0 1 = cc in absurd (omega arith)
+  merged_case (Ok o) (merged ms) b e =
+      let f : placed om' o.mappings out' o.intervals ≡ lay_all om 0 out 0 ms = cc in
       let x = merged_few (all names h l g r) ms b in
       let y = merged_short (all names h l g r) ms b in
-      let d = stands ms om out om' out' q k f (omega arith) (omega arith) in
-      subst (λ (t : Bool). Decided (cond t (done (ends ms)) (stopped (answer 2 []))) (fields_of (header_fields h) (header_fields g)) (lengths_of l) (cond (outcome_fits (counts_by ca cb cd q k) (lengths_of l)) (Fits (counts_by ca cb cd q k)) (Refused NoRoom)) (lists ta tb tc om' out'))
-      (sym (counts_same ms q k d.how_many d.how_long))
-      (laid_fits ms q k d (outcome_fits (counts_by ca cb cd q k) (lengths_of l)) refl)
+      let d = stands ms om out om' out' o.mappings o.intervals f (omega arith) (omega arith) in
+      let n = counts_by ca cb cd o.mappings o.intervals in
+      subst (λ (t : Bool). Decided (cond t (done (ends ms)) (stopped (answer 2 []))) (fields_of (header_fields h) (header_fields g)) (lengths_of l) (cond (outcome_fits n (lengths_of l)) (Ok n) (Err NoRoom)) (lists ta tb tc om' out'))
+      (sym (counts_same ms o.mappings o.intervals d.how_many d.how_long))
+      (laid_fits ms o.mappings o.intervals d (outcome_fits n (lengths_of l)) refl)
 
   cases : (p : Planned) (d n f : Bool) → end_plan p om' out' ≡ plan_on (judged_of d n f) om out (all names h l g r)
       → Decided (cond d (cond n (cond f (if_merged (rooms_of l) (left names h l g r) (right names h l g r) (by_name (all names h l g r))) (stopped (answer 1 []))) (stopped (answer 3 []))) (stopped (answer 11 [])))
@@ -254,16 +262,20 @@ module _ (names : ℕ) (h : Header) (l : Lists) (g : Header) (r : Lists) (ka : B
       (sym (agreed_same names h l g r rest (a ∙ rest_same names h l g r ka ca ta kb cb tb kc cd tc s)))
       (cases p (dates_known known_date (all names h l g r)) (rest && mappings_known names (all names h l g r)) (forwards (all names h l g r)) e))
 
-pub decide_refused : (p : Planned) (a b c : ℕ) (l : Lengths) (r : Refusal) → p ≡ plan.Refused r → Refused r ≡ decide_of p a b c l
+pub decide_refused : (p : Planned) (a b c : ℕ) (l : Lengths) (r : Refusal) → p ≡ Err r → Err r ≡ decide_of p a b c l
 unfolding decide_of
 decide_refused p a b c l r e = ap (λ (x : Planned). decide_of x a b c l) (sym e)
 
-pub decide_fits : (p : Planned) (a b c : ℕ) (l : Lengths) (q k : ℕ) (t : Bool) → p ≡ plan.Laid q k → t ≡ outcome_fits (counts_by a b c q k) l → t ≡ true → Fits (counts_by a b c q k) ≡ decide_of p a b c l
+pub decide_fits : (p : Planned) (a b c : ℕ) (l : Lengths) (o : Laid) (t : Bool) → p ≡ Ok o → t ≡ outcome_fits (counts_by a b c o.mappings o.intervals) l
+    → t ≡ true → Ok (counts_by a b c o.mappings o.intervals) ≡ decide_of p a b c l
 unfolding decide_of
-decide_fits p a b c l q k t e d y =
-    sym (ap (λ (x : Planned). decide_of x a b c l) e ∙ ap (λ (x : Bool). cond x (Fits (counts_by a b c q k)) (Refused NoRoom)) (sym d ∙ y))
+decide_fits p a b c l o t e d y =
+    sym (ap (λ (x : Planned). decide_of x a b c l) e
+    ∙ ap (λ (x : Bool). cond x (Ok (counts_by a b c o.mappings o.intervals)) (Err NoRoom)) (sym d ∙ y))
 
-pub decide_short : (p : Planned) (a b c : ℕ) (l : Lengths) (q k : ℕ) (t : Bool) → p ≡ plan.Laid q k → t ≡ outcome_fits (counts_by a b c q k) l → t ≡ false → Refused NoRoom ≡ decide_of p a b c l
+pub decide_short : (p : Planned) (a b c : ℕ) (l : Lengths) (o : Laid) (t : Bool) → p ≡ Ok o → t ≡ outcome_fits (counts_by a b c o.mappings o.intervals) l
+    → t ≡ false → Err NoRoom ≡ decide_of p a b c l
 unfolding decide_of
-decide_short p a b c l q k t e d y =
-    sym (ap (λ (x : Planned). decide_of x a b c l) e ∙ ap (λ (x : Bool). cond x (Fits (counts_by a b c q k)) (Refused NoRoom)) (sym d ∙ y))
+decide_short p a b c l o t e d y =
+    sym (ap (λ (x : Planned). decide_of x a b c l) e
+    ∙ ap (λ (x : Bool). cond x (Ok (counts_by a b c o.mappings o.intervals)) (Err NoRoom)) (sym d ∙ y))

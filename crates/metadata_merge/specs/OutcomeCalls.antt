@@ -4,13 +4,11 @@ use Rattle.std.proofs.Math.Path.{ap}
 use Rattle.std.proofs.Common.{◌∙◌, arith}
 use Rattle.metadata_rules.specs.Metadata.{opened, count_intervals, fields_of, agreed_merge}
 use Rattle.metadata_plan.specs.Plan.{Planable, both_count, both_size, end_plan, plan_of, both_sides}
-use Rattle.metadata_plan.specs.declared.plan.Planned.{Planned}
 use Rattle.metadata_form.specs.declared.header.Header.{Header}
 use Rattle.metadata_form.specs.declared.header.Lengths.{Lengths}
 use Rattle.metadata_form.specs.Header.{MetadataFitting, Lists, lists, lengths_of, header_fields, metadata_of}
 use Rattle.metadata_gather.specs.Sets.{IsUnited}
-use Rattle.metadata_merge.specs.declared.outcome.Verdict.{Verdict}
-use Rattle.metadata_merge.specs.Outcome.{rest_of, decide_of, given, Deciding, decided}
+use Rattle.metadata_merge.specs.Outcome.{Planned, Verdict, rest_of, decide_of, given, Deciding, decided}
 
 -- both sides of the form, and scratch t for both at the limits
 pub record Plannable (names : ℕ) (h : Header) (l : Lists) (g : Header) (r t : Lists) : Type 0 where
@@ -26,10 +24,6 @@ pub record Plannable (names : ℕ) (h : Header) (l : Lists) (g : Header) (r t : 
 unfoldable pub Outcomes : ℕ → Header → Lists → Header → Lists → Verdict → Lists → Type 0
 Outcomes names h l g r v t =
     Deciding (agreed_merge (given names l) (opened (metadata_of h l)) (metadata_of g r)) (fields_of (header_fields h) (header_fields g)) (lengths_of l) v t
-
--- a set of both sides: each stands in its list, and the scratch takes both
-pub set_room : {n ld k rd s : ℕ} → n ≤ ld → ld ≤ 4096 → k ≤ rd → rd ≤ 4096 → s ≡ 8192 → (n ≤ ld) × (k ≤ rd) × (n + k ≤ s) × (s < 4294967296)
-set_room h i j k e = (h, j, omega arith, omega arith)
 
 module _ {names : ℕ} {h : Header} {l : Lists} {g : Header} {r t : Lists} (p : Plannable names h l g r t) where
   pub planable : Planable l.mappings h.mappings l.intervals r.mappings g.mappings r.intervals names (length t.mappings) (length t.intervals)

@@ -1,11 +1,12 @@
 -- Gather, merge, build: header and lists that `open` and `merge` leave read back as the outcome, so that the next call takes exactly it;
 -- and opening what was opened changes nothing. Assumes nothing.
-use Rattle.std.specs.Prelude.{◌≡◌, refl, ◌≢◌, ◌⊎◌, ℕ, zero, suc, ◌+◌, ◌-◌, ◌*◌, max, Bool, true, false, ◌&&◌, cond, List, [], ◌∷◌, ◌++◌, length, get_or, drop, replicate}
+use Rattle.std.specs.Prelude.{◌≡◌, refl, ◌≢◌, ◌⊎◌, ℕ, zero, suc, ◌+◌, ◌-◌, ◌*◌, max, Bool, true, false, ◌&&◌, cond, List, [], ◌∷◌, ◌++◌, length, get_or, drop, replicate, Result, Ok}
 use Rattle.std.proofs.Common.{sym, ap, ◌∙◌, inl, inr, arith, append_assoc, append-nil}
 use Rattle.std.proofs.Math.Seq.{drop-append_seam}
 use Rattle.theory.specs.Answer.{Answer, answer, bit}
 use Rattle.theory.specs.Runs.{Mem}
 use Rattle.theory.specs.RunsTools.{cond_case}
+use Rattle.leaves.specs.declared.refusal.Refusal.{Refusal}
 use Rattle.metadata_rules.specs.Cases.{Once, eqb_case}
 use Rattle.metadata_rules.specs.Metadata.{Metadata, Mapping, add, add_all, once, names_of, enter, enter_all, opened, count_intervals, Merged, conflicting, merged, by_name, dates_known, names_known, forwards, fits, Given, Outcome, done, together, if_fits, if_merged, agreed_merge, differs_at, if_same, merge_opened, merge}
 use Rattle.metadata_rules.specs.Metadata.{refused as stopped}
@@ -13,8 +14,6 @@ use Rattle.metadata_rules.specs.Words.{before, count_at, mapping_words, interval
 use Rattle.metadata_rules.specs.Names.{add_only, once_once, enter_all_names}
 use Rattle.metadata_rules.specs.Fold.{opened_once}
 use Rattle.metadata_form.specs.declared.header.Header.{Header}
-use Rattle.metadata_form.specs.declared.header.MetadataAnswer.{MetadataAnswer}
-use Rattle.metadata_form.specs.declared.header.MetadataAnswer.TheVariants.{Done}
 use Rattle.metadata_form.specs.Header.{Lists, lengths_of, metadata_of, metadata_fits, numbers_of}
 use Rattle.metadata_words.specs.Over.{over}
 use Rattle.metadata_merge.specs.Outcome.{given}
@@ -71,7 +70,7 @@ numbers_read k m e h l =
 -- ---- what calls leave
 
 -- what a done `open` leaves reads as the first metadata without its repeats
-pub open_read : (h : Header) (l : Lists) (k : Header) (l' : Lists) → Open h l (Done k) l' → metadata_of k l' ≡ opened (metadata_of h l)
+pub open_read : (h : Header) (l : Lists) (k : Header) (l' : Lists) → Open h l (Ok k) l' → metadata_of k l' ≡ opened (metadata_of h l)
 unfolding open_answer open_lists
 open_read h l k l' o = go (metadata_fits h (lengths_of l) l.mappings) o.answers o.holds
   where
@@ -102,7 +101,7 @@ merge_stops w m k = go (differs_at (opened m).fields k.fields)
     go (suc p) = λ e. absurd (omega arith)
 
 -- what a done `merge` leaves reads as the outcome of the merge
-pub merge_read : (names : ℕ) (h : Header) (l : Lists) (g : Header) (r : Lists) (k : Header) (l' : Lists) → Merge names h l g r (Done k) l'
+pub merge_read : (names : ℕ) (h : Header) (l : Lists) (g : Header) (r : Lists) (k : Header) (l' : Lists) → Merge names h l g r (Ok k) l'
     → merge (given names l) (metadata_of h l) (metadata_of g r) ≡ done (metadata_of k l')
 unfolding merge_answer merge_lists answer_of held_by
 merge_read names h l g r k l' o =
@@ -216,7 +215,7 @@ laid_again h k l m a b c d =
     counted ms u w n e = ap (before (over w u (mapping_words ms))) e ∙ before_front ms u w
 
 -- opening what was opened changes no list
-pub open_again : (h : Header) (l : Lists) (k : Header) (l' : Lists) → Open h l (Done k) l' → (r : MetadataAnswer) (l'' : Lists) → Open k l' r l'' → l'' ≡ l'
+pub open_again : (h : Header) (l : Lists) (k : Header) (l' : Lists) → Open h l (Ok k) l' → (r : Result Header Refusal) (l'' : Lists) → Open k l' r l'' → l'' ≡ l'
 unfolding open_answer open_lists values_of
 open_again h l k l' o r l'' p = p.holds ∙ go (metadata_fits k (lengths_of l') l'.mappings) (metadata_fits h (lengths_of l) l.mappings) o.answers o.holds (open_read h l k l' o)
   where

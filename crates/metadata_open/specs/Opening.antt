@@ -1,11 +1,13 @@
 -- Opening and finishing: what each answers, and what each lent list then holds (RULES, Merging metadata).
-use Rattle.std.specs.Prelude.{◌≡◌, ℕ, ◌≤◌, ◌<◌, Bool, true, false, cond, length, take}
+use Rattle.std.specs.Prelude.{◌≡◌, ℕ, ◌≤◌, ◌<◌, Bool, true, false, cond, length, take, Result, Ok, Err}
 use Rattle.std.proofs.Math.Path.{refl, ap}
-use Rattle.std.proofs.Common.{sym, ◌∙◌}
+use Rattle.std.proofs.Common.{sym, ◌∙◌, subst}
 use native.Mathlib.Omega.{arith}
 use mathlib.Core.List.{List, [], ◌∷◌}
 use Rattle.std.proofs.Math.Seq.{length-take-le}
 use Rattle.theory.specs.Answer.{Answer, answer, bit}
+use Rattle.leaves.specs.Refusal.{answer_with}
+use Rattle.leaves.specs.declared.refusal.Refusal.{Refusal}
 use Rattle.leaves.specs.declared.refusal.Refusal.TheVariants.{BadMemory}
 use Rattle.metadata_rules.specs.Metadata.{Metadata, opened, once, add_all, enter_all}
 use Rattle.metadata_rules.specs.Words.{mappings_from}
@@ -15,11 +17,8 @@ use Rattle.metadata_gather.specs.Arrivals.{add_all_small}
 use Rattle.metadata_gather.specs.Sets.{AllUnited}
 use Rattle.metadata_gather.specs.Sides.{Sound, flat_length, kept_count, kept_few}
 use Rattle.metadata_form.specs.declared.header.Header.{Header}
-use Rattle.metadata_form.specs.declared.header.Lengths.{Lengths}
 use Rattle.metadata_form.specs.declared.header.Counts.{Counts}
-use Rattle.metadata_form.specs.declared.header.MetadataAnswer.{MetadataAnswer}
-use Rattle.metadata_form.specs.declared.header.MetadataAnswer.TheVariants.{Done, Refused}
-use Rattle.metadata_form.specs.Header.{Lists, lists, lengths_of, header_fields, numbers_of, metadata_answer_of, metadata_of, metadata_fits, counts_by, counted_header, MetadataFitting, metadata_fitting}
+use Rattle.metadata_form.specs.Header.{Lists, lists, lengths_of, header_fields, numbers_of, metadata_of, metadata_fits, counts_by, counted_header, MetadataFitting, metadata_fitting}
 use Rattle.metadata_open.specs.Commit.{laid_over, committed, Commit, StandsIn, committed_laid, may_commit}
 
 -- a metadata's numbers: its fields, and how many entries and mappings it has
@@ -39,8 +38,8 @@ unfoldable pub open_lists : Header → Lists → Lists
 unfolding laid_over
 open_lists h l = cond (metadata_fits h (lengths_of l) l.mappings) (laid_over h l (opened (metadata_of h l))) l
 
-pub record Open (h : Header) (l : Lists) (r : MetadataAnswer) (l' : Lists) : Type 0 where
-  pub answers : metadata_answer_of r ≡ open_answer h l
+pub record Open (h : Header) (l : Lists) (r : Result Header Refusal) (l' : Lists) : Type 0 where
+  pub answers : answer_with numbers_of r ≡ open_answer h l
   pub holds : l' ≡ open_lists h l
 
 -- a metadata of the form, and scratch at the limits
@@ -83,7 +82,7 @@ module _ (h : Header) (l : Lists) where
       (sym (length-take-le h.partial l.partial f.partial_used)) (sym (length-take-le h.not_found l.not_found f.not_found_used))
       (sym (flat_length l.mappings l.intervals h.mappings 0 0))))
 
-  pub open_unfit : metadata_fits h (lengths_of l) l.mappings ≡ false → Open h l (Refused BadMemory) l
+  pub open_unfit : metadata_fits h (lengths_of l) l.mappings ≡ false → Open h l (Err BadMemory) l
   unfolding open_answer open_lists
   open_unfit e = record { answers = rw e refl; holds = rw e refl }
 
@@ -139,7 +138,7 @@ module _ (h : Header) (l : Lists) where
           let v = kept_count l.mappings l.intervals h.mappings in let v' = s.n_intervals in
           may_commit s h l open_fitting (omega arith) (omega arith) (omega arith) (omega arith) (omega arith)
 
-      pub open_done : (l' : Lists) → l' ≡ committed h l c t → (k : Header) → k ≡ counted_header h c → Open h l (Done k) l'
+      pub open_done : (l' : Lists) → l' ≡ committed h l c t → (k : Header) → k ≡ counted_header h c → Open h l (Ok k) l'
       unfolding open_answer open_lists opened metadata_of
       open_done l' z k x =
           record {
@@ -148,7 +147,18 @@ module _ (h : Header) (l : Lists) where
             holds = rw e (z ∙ committed_laid s h l);
           }
 
--- the lengths that were tested are those of the lists
-pub tested : (h : Header) (l : Lists) {n : Lengths} {b t : Bool} → b ≡ metadata_fits h n l.mappings → n ≡ lengths_of l → b ≡ t
+-- what was tested are the lists
+pub tested : (h : Header) (l : Lists) {n : Lists} {b t : Bool} → b ≡ metadata_fits h (lengths_of n) n.mappings → n ≡ l → b ≡ t
     → metadata_fits h (lengths_of l) l.mappings ≡ t
-tested h l e f g = sym (ap (λ (u : Lengths). metadata_fits h u l.mappings) f) ∙ sym e ∙ g
+tested h l e f g = sym (ap (λ (u : Lists). metadata_fits h (lengths_of u) u.mappings) f) ∙ sym e ∙ g
+
+-- what stands in scratch stands in what is read of it
+pub stood : (h : Header) {l n t u : Lists} {c : Counts} → n ≡ l → u ≡ t → StandsIn (opened (metadata_of h n)) c t → StandsIn (opened (metadata_of h l)) c u
+stood h {l} {n} {t} {u} {c} e f s =
+    subst (λ (x : Lists). StandsIn (opened (metadata_of h x)) c u) e (subst (λ (x : Lists). StandsIn (opened (metadata_of h n)) c x) (sym f) s)
+
+-- scratch at the limits takes what is read of lists of the form
+pub openable : (h : Header) {l n t : Lists} → n ≡ l → MetadataFitting h (lengths_of l) l.mappings → length t.symbols ≡ 4096 → length t.partial ≡ 4096
+    → length t.not_found ≡ 4096 → length t.mappings ≡ 8192 → length t.intervals ≡ 196608 → Openable h n t
+openable h {l} {n} {t} e f a b c m v =
+    subst (λ (x : Lists). Openable h x t) (sym e) (record { fitting = f; room_a = a; room_b = b; room_c = c; room_m = m; room_v = v })

@@ -1,9 +1,10 @@
 -- What the mappings of a merge come to: a refusal, or the words of the mappings merged by name. Assumes nothing.
 use Rattle.std.proofs.Math.Path.{◌≡◌, refl, ap, subst}
 use Rattle.std.proofs.Common.{sym, ◌∙◌, ltb-true}
-use Rattle.std.specs.Prelude.{ℕ, zero, suc, ◌+◌, ◌-◌, ◌*◌, ◌≤◌, ◌<◌, Bool, ◌&&◌, length, get_or, replicate, ltb}
+use Rattle.std.specs.Prelude.{ℕ, zero, suc, ◌+◌, ◌-◌, ◌*◌, ◌≤◌, ◌<◌, Bool, ◌&&◌, length, get_or, replicate, ltb, Option, Some, None, Result, Ok, Err}
 use native.Mathlib.Omega.{arith}
 use Rattle.std.proofs.Math.Bool.{true, false}
+use Rattle.std.specs.Option.{ok_or}
 use mathlib.Core.List.{List, [], ◌∷◌, ◌++◌}
 use Rattle.std.proofs.lemmas.List.{length-replicate, get_or-replicate}
 use Rattle.std.proofs.Math.ListN.{length-append}
@@ -20,20 +21,19 @@ use Rattle.metadata_lists.specs.Names.{Final, failed, placed, lay_all, finish_na
 use Rattle.metadata_lists.specs.NamesLaying.{AllReady}
 use Rattle.metadata_lists.specs.NamesWhole.{HeadOk, collect_by_name, sums_bound}
 use Rattle.metadata_lists.specs.NamesWords.{Stands, stands}
-use Rattle.metadata_lists.specs.declared.names.NamesLaid.{NamesLaid}
-use Rattle.metadata_lists.specs.declared.names.NamesLaid.TheVariants as names_laid
+use Rattle.metadata_lists.specs.declared.names.Laid.{Laid}
 use Rattle.metadata_gather.specs.Sides.{Sound, Offs, count_all, flat_length, kept_count, kept_few, lay_append, within_of, placed_flat}
 use Rattle.metadata_gather.specs.Judge.{known_date, dated, below, known, forward, spaced, judged_of, judged_by, and_assoc, rest_all, spaced_names}
-use Rattle.metadata_gather.specs.declared.judge.Judged.{Judged}
-use Rattle.metadata_gather.specs.declared.judge.Judged.TheVariants as judged
-use Rattle.metadata_plan.specs.declared.plan.Planned.{Planned}
-use Rattle.metadata_plan.specs.declared.plan.Planned.TheVariants.{Refused, Laid}
 use Rattle.theory.specs.Bools.{and_left, and_right}
 
 -- the mappings of both sides: the left one's without its repeats, then the right one's
 unfoldable pub both_sides : List ℕ → ℕ → List ℕ → List ℕ → ℕ → List ℕ → List Mapping
 both_sides left-mappings left_count_lem left-intervals right-mappings right_count_lem right-intervals =
     enter_all [] (mappings_from left-mappings left-intervals 0 0 left_count_lem) ++ mappings_from right-mappings right-intervals 0 0 right_count_lem
+
+-- what the tests say
+abbrev pub Judged : Type 0
+Judged = Result (Unit {0}) Refusal
 
 -- 11, 3 or 1, over all mappings each before the next (RULES, Merging metadata); known says 3 of what else there is
 unfoldable pub judged_all : ℕ → Bool → List Mapping → Judged
@@ -45,9 +45,9 @@ pub data Shown : Type 0 where
   stopped : Refusal → Shown
   shown : Final → Shown
 
-unfoldable pub end_plan : Planned → List ℕ → List ℕ → Shown
-end_plan (Refused r) om out = stopped r
-end_plan (Laid q k) om out = shown (placed om q out k)
+unfoldable pub end_plan : Result Laid Refusal → List ℕ → List ℕ → Shown
+end_plan (Err r) om out = stopped r
+end_plan (Ok l) om out = shown (placed om l.mappings out l.intervals)
 
 unfoldable pub shown_merged : List ℕ → List ℕ → Merged → Shown
 shown_merged om out conflicting = stopped Conflict
@@ -55,8 +55,8 @@ shown_merged om out (merged ms) = shown (lay_all om 0 out 0 ms)
 
 unfoldable pub plan_on : Judged → List ℕ → List ℕ → List Mapping → Shown
 unfolding shown_merged
-plan_on judged.Passed om out ms = shown_merged om out (by_name ms)
-plan_on (judged.Refused r) om out ms = stopped r
+plan_on (Ok x) om out ms = shown_merged om out (by_name ms)
+plan_on (Err r) om out ms = stopped r
 
 unfoldable pub plan_of : ℕ → Bool → List Mapping → List ℕ → List ℕ → Shown
 unfolding judged_all plan_on
@@ -207,13 +207,13 @@ module _ (ms : List Mapping) (gm : List ℕ) (q : ℕ) (gv : List ℕ) (e : ℕ)
       ) refl
 
   -- all passed: each name was handed out
-  pub names_below : (names : ℕ) (r : Bool) → judged_by names (r && every (below names) (spaced gm 2 0 q)) true (rest gv 0 e) ≡ judged.Passed
+  pub names_below : (names : ℕ) (r : Bool) → judged_by names (r && every (below names) (spaced gm 2 0 q)) true (rest gv 0 e) ≡ Ok tt
       → (t : ℕ) → t < q → name_at gm t < names
   unfolding judged_by judged_of
   names_below names r z t h =
       go (every dated (rest gv 0 e)) r (every (below names) (spaced gm 2 0 q)) refl (every (known names) (rest gv 0 e)) (every forward (rest gv 0 e)) z
     where
-      go : (a b c : Bool) → every (below names) (spaced gm 2 0 q) ≡ c → (d f : Bool) → judged_of a ((b && c) && d) (true && f) ≡ judged.Passed → name_at gm t < names
+      go : (a b c : Bool) → every (below names) (spaced gm 2 0 q) ≡ c → (d f : Bool) → judged_of a ((b && c) && d) (true && f) ≡ Ok tt → name_at gm t < names
       go true true true w d f y = subst (λ (u : ℕ). name_at gm u < names) (zero_plus t) (names_each names gm q 0 (sym (ap (every (below names)) (spaced_names gm q)) ∙ w) t h)
       go true true false w d f y = let x : ◌≡◌ {A = ℕ} 0 1 = cc in absurd (omega arith)
       go true false c w d f y = let x : ◌≡◌ {A = ℕ} 0 1 = cc in absurd (omega arith)
@@ -264,16 +264,21 @@ unfolding lay_all
 not_laid [] om q out k e = let z : ◌≡◌ {A = ℕ} 0 1 = cc in omega arith
 not_laid (m ∷ ms) om q out k e = not_laid ms _ _ _ _ e
 
-unfoldable pub shown_names : NamesLaid → List ℕ → List ℕ → Shown
-shown_names names_laid.Conflict om out = stopped Conflict
-shown_names (names_laid.Done q k) om out = shown (placed om q out k)
+unfoldable pub shown_names : Option Laid → List ℕ → List ℕ → Shown
+shown_names None om out = stopped Conflict
+shown_names (Some l) om out = shown (placed om l.mappings out l.intervals)
 
-shown_end : (r : NamesLaid) (om om' out out' : List ℕ) (g : Merged) → end_names r om' out' ≡ finish_names om 0 out 0 g → shown_names r om' out' ≡ shown_merged om out g
+pub shown_or : (r : Option Laid) (om out : List ℕ) → end_plan (ok_or r Conflict) om out ≡ shown_names r om out
+unfolding end_plan shown_names
+shown_or None om out = refl
+shown_or (Some l) om out = refl
+
+shown_end : (r : Option Laid) (om om' out out' : List ℕ) (g : Merged) → end_names r om' out' ≡ finish_names om 0 out 0 g → shown_names r om' out' ≡ shown_merged om out g
 unfolding end_names finish_names shown_names shown_merged
-shown_end names_laid.Conflict om om' out out' conflicting e = refl
-shown_end names_laid.Conflict om om' out out' (merged ms) e = absurd (not_laid ms om 0 out 0 e)
-shown_end (names_laid.Done q k) om om' out out' conflicting e = let z : ◌≡◌ {A = ℕ} 0 1 = cc in absurd (omega arith)
-shown_end (names_laid.Done q k) om om' out out' (merged ms) e = ap shown e
+shown_end None om om' out out' conflicting e = refl
+shown_end None om om' out out' (merged ms) e = absurd (not_laid ms om 0 out 0 e)
+shown_end (Some l) om om' out out' conflicting e = let z : ◌≡◌ {A = ℕ} 0 1 = cc in absurd (omega arith)
+shown_end (Some l) om om' out out' (merged ms) e = ap shown e
 
 pub full : (n k : ℕ) (a : List ℕ) → a ≡ replicate k n → (t : ℕ) → t < length a → get_or a t 0 ≡ n
 full n k a e t h = let l = ap length e ∙ length-replicate {A = ℕ} k n in ap (λ (r : List ℕ). get_or r t 0) e ∙ get_or-replicate k t n 0 (omega arith)
@@ -284,7 +289,7 @@ module _ (ms : List Mapping) (gm : List ℕ) (q : ℕ) (gv : List ℕ) (e : ℕ)
   said : j ≡ judged_by names (r && every (below names) (spaced gm 2 0 q)) true (rest gv 0 e)
   said = b ∙ ap (λ (c : Bool). judged_by names (r && c) true (rest gv 0 e)) a
 
-  pub linkable : names ≤ 4096 → j ≡ judged.Passed → (st sm so : ℕ) → q ≤ 8192 → 2 * q ≤ sm → 3 * e ≤ so → 3 * e ≤ st → so < 4294967296 → Linkable gm q gv st sm so
+  pub linkable : names ≤ 4096 → j ≡ Ok tt → (st sm so : ℕ) → q ≤ 8192 → 2 * q ≤ sm → 3 * e ≤ so → 3 * e ≤ st → so < 4294967296 → Linkable gm q gv st sm so
   linkable h z st sm so c i k l m =
       let f = stands_before ms gm q gv e s in
       let g = s.how_long in
@@ -305,16 +310,15 @@ module _ (ms : List Mapping) (gm : List ℕ) (q : ℕ) (gv : List ℕ) (e : ℕ)
     unfolding plan_of
     as_judged = ap (λ (x : Judged). plan_on x om out ms) (said ∙ judged_same ms gm q gv e s names r)
 
-    pub plan_stopped : (why : Refusal) → j ≡ judged.Refused why → stopped why ≡ plan_of names r ms om out
+    pub plan_stopped : (why : Refusal) → j ≡ Err why → stopped why ≡ plan_of names r ms om out
     unfolding plan_on
     plan_stopped why z = ap (λ (x : Judged). plan_on x om out ms) (sym z) ∙ as_judged
 
-    pub plan_laid : (om' out' : List ℕ) (l x : NamesLaid) → j ≡ judged.Passed → end_names l om' out' ≡ finish_names om 0 out 0 (by_name (mappings_from gm gv 0 0 q)) → l ≡ x
-        → shown_names x om' out' ≡ plan_of names r ms om out
+    pub plan_laid : (om' out' : List ℕ) (l : Option Laid) → j ≡ Ok tt → end_names l om' out' ≡ finish_names om 0 out 0 (by_name (mappings_from gm gv 0 0 q))
+        → shown_names l om' out' ≡ plan_of names r ms om out
     unfolding plan_on
-    plan_laid om' out' l x z h d =
-        ap (λ (y : NamesLaid). shown_names y om' out') (sym d)
-        ∙ shown_end l om om' out out' (by_name ms) (h ∙ ap (λ (y : List Mapping). finish_names om 0 out 0 (by_name y)) (stands_read ms gm q gv e s))
+    plan_laid om' out' l z h =
+        shown_end l om om' out out' (by_name ms) (h ∙ ap (λ (y : List Mapping). finish_names om 0 out 0 (by_name y)) (stands_read ms gm q gv e s))
         ∙ ap (λ (y : Judged). plan_on y om out ms) (sym z) ∙ as_judged
 
 module _ (lm : List ℕ) (n : ℕ) (lv rm : List ℕ) (k : ℕ) (rv : List ℕ) (names sm so : ℕ) (p : Planable lm n lv rm k rv names sm so) where
@@ -332,7 +336,7 @@ module _ (lm : List ℕ) (n : ℕ) (lv rm : List ℕ) (k : ℕ) (rv : List ℕ) 
       }
 
   pub plan_linkable : (gm : List ℕ) (q : ℕ) (gv : List ℕ) (e : ℕ) → Stands (both_sides lm n lv rm k rv) gm q gv e → (r nm : Bool)
-      → nm ≡ every (below names) (spaced gm 2 0 q) → (j : Judged) → j ≡ judged_by names (r && nm) true (rest gv 0 e) → j ≡ judged.Passed
+      → nm ≡ every (below names) (spaced gm 2 0 q) → (j : Judged) → j ≡ judged_by names (r && nm) true (rest gv 0 e) → j ≡ Ok tt
       → (st : ℕ) → st ≡ 393216 → Linkable gm q gv st sm so
   plan_linkable gm q gv e s r nm a j b z st x =
       let c = p.sides.left_count_lem in

@@ -2,7 +2,7 @@
 // number YYYYMMDD. What is defined over intervals, and its laws, stands in specs/.
 #![tactic(auto)]
 
-#[derive(Clone, Copy)]
+#[derive(Clone, Copy, Debug, PartialEq, Eq)]
 pub struct Interval {
     pub start: u32,
     pub end: u32,
@@ -11,7 +11,7 @@ pub struct Interval {
 
 // How an interval a lies to an interval b: a ends where b starts or before; neither does; both have the same dates; a starts
 // where b ends or after.
-#[derive(Clone, Copy)]
+#[derive(Clone, Copy, Debug, PartialEq, Eq)]
 pub enum IntervalOrdering {
     Less,
     Overlap,

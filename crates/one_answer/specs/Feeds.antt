@@ -1,51 +1,56 @@
 -- The answers where streams arrive in portions: two that say the same number and the same values are one answer. Assumes nothing.
-use Rattle.std.specs.Prelude.{◌≡◌, refl, ℕ}
+use Rattle.std.specs.Prelude.{◌≡◌, refl, ℕ, Result, Ok, Err, OnOk}
 use Rattle.std.proofs.Common.{sym, ap, arith}
+use Rattle.theory.specs.Answer.{one_value, no_values}
+use Rattle.leaves.specs.Refusal.{answer_with}
 use Rattle.leaves.specs.RefusalLaws.{refused_one}
-use Rattle.feed_window.specs.Answers.{added_of, ended_of}
+use Rattle.leaves.specs.declared.refusal.Refusal.{Refusal}
+use Rattle.records.specs.declared.merge.Record.{Record}
 use Rattle.feed.specs.Answers.{fed_of, opened_of}
-use Rattle.feed_window.specs.declared.portions.Added.{Added}
-use Rattle.feed_window.specs.declared.portions.Added.TheVariants as added
-use Rattle.feed_window.specs.declared.portions.Ended.{Ended}
-use Rattle.feed_window.specs.declared.portions.Ended.TheVariants as ended
 use Rattle.feed.specs.declared.turns.Fed.{Fed}
 use Rattle.feed.specs.declared.turns.Fed.TheVariants as fed
-use Rattle.feed.specs.declared.opening.FeedOpening.{FeedOpening}
-use Rattle.feed.specs.declared.opening.FeedOpening.TheVariants as opening
 use Rattle.one_answer.specs.Leaves.{done_or_refused}
 
-pub opened_one : (x y : FeedOpening) → opened_of x ≡ opened_of y → x ≡ y
-opened_one (opening.Opened a b) (opening.Opened c d) e = cc
-opened_one (opening.Opened a b) (opening.Refused q) e = absurd (done_or_refused q e)
-opened_one (opening.Refused r) (opening.Opened c d) e = absurd (done_or_refused r (sym e))
-opened_one (opening.Refused r) (opening.Refused q) e = ap opening.Refused (refused_one r q e)
+-- an opening: its answer, and where it is no refusal how many streams the heap holds
+pub opened_one : (h k : ℕ) (x y : Result ℕ Refusal) → opened_of h x ≡ opened_of k y → (x ≡ y) × OnOk x (h ≡ k)
+opened_one h k (Ok a) (Ok c) e = (cc, cc)
+opened_one h k (Ok a) (Err q) e = absurd (done_or_refused q e)
+opened_one h k (Err r) (Ok c) e = absurd (done_or_refused r (sym e))
+opened_one h k (Err r) (Err q) e = (ap Err (refused_one r q e), tt)
 
-pub added_one : (x y : Added) → added_of x ≡ added_of y → x ≡ y
-added_one (added.Taken a) (added.Taken b) e = cc
-added_one (added.Taken a) (added.Refused q) e = absurd (done_or_refused q e)
-added_one (added.Refused r) (added.Taken b) e = absurd (done_or_refused r (sym e))
-added_one (added.Refused r) (added.Refused q) e = ap added.Refused (refused_one r q e)
+pub added_one : (x y : Result ℕ Refusal) → answer_with one_value x ≡ answer_with one_value y → x ≡ y
+added_one (Ok a) (Ok b) e = cc
+added_one (Ok a) (Err q) e = absurd (done_or_refused q e)
+added_one (Err r) (Ok b) e = absurd (done_or_refused r (sym e))
+added_one (Err r) (Err q) e = ap Err (refused_one r q e)
 
-pub ended_one : (x y : Ended) → ended_of x ≡ ended_of y → x ≡ y
-ended_one ended.Done ended.Done e = refl
-ended_one ended.Done (ended.Refused q) e = absurd (done_or_refused q e)
-ended_one (ended.Refused r) ended.Done e = absurd (done_or_refused r (sym e))
-ended_one (ended.Refused r) (ended.Refused q) e = ap ended.Refused (refused_one r q e)
+pub ended_one : (x y : Result (Unit {0}) Refusal) → answer_with no_values x ≡ answer_with no_values y → x ≡ y
+ended_one (Ok a) (Ok b) e = refl
+ended_one (Ok a) (Err q) e = absurd (done_or_refused q e)
+ended_one (Err r) (Ok b) e = absurd (done_or_refused r (sym e))
+ended_one (Err r) (Err q) e = ap Err (refused_one r q e)
 
-pub fed_one : (x y : Fed) → fed_of x ≡ fed_of y → x ≡ y
-fed_one (fed.Record a b c d f g h) (fed.Record i j k l m n o) e = cc
-fed_one (fed.Record a b c d f g h) fed.End e = let z : ◌≡◌ {A = ℕ} 0 1 = cc in absurd (omega arith)
-fed_one (fed.Record a b c d f g h) (fed.NeedMore p) e = let z : ◌≡◌ {A = ℕ} 0 1 = cc in absurd (omega arith)
-fed_one (fed.Record a b c d f g h) (fed.Refused q) e = absurd (done_or_refused q e)
-fed_one fed.End (fed.Record i j k l m n o) e = let z : ◌≡◌ {A = ℕ} 0 1 = cc in absurd (omega arith)
-fed_one fed.End fed.End e = refl
-fed_one fed.End (fed.NeedMore p) e = let z : ◌≡◌ {A = ℕ} 0 1 = cc in absurd (omega arith)
-fed_one fed.End (fed.Refused q) e = absurd (done_or_refused q e)
-fed_one (fed.NeedMore p) (fed.Record i j k l m n o) e = let z : ◌≡◌ {A = ℕ} 0 1 = cc in absurd (omega arith)
-fed_one (fed.NeedMore p) fed.End e = let z : ◌≡◌ {A = ℕ} 0 1 = cc in absurd (omega arith)
-fed_one (fed.NeedMore p) (fed.NeedMore q) e = cc
-fed_one (fed.NeedMore p) (fed.Refused q) e = absurd (done_or_refused q e)
-fed_one (fed.Refused r) (fed.Record i j k l m n o) e = absurd (done_or_refused r (sym e))
-fed_one (fed.Refused r) fed.End e = absurd (done_or_refused r (sym e))
-fed_one (fed.Refused r) (fed.NeedMore p) e = absurd (done_or_refused r (sym e))
-fed_one (fed.Refused r) (fed.Refused q) e = ap fed.Refused (refused_one r q e)
+handed_by : ℕ → ℕ → ℕ → ℕ → ℕ → ℕ → ℕ → Fed
+handed_by stream place at size kind instrument time =
+    fed.Record (record { stream = stream; place = place; length = size; kind = kind; instrument = instrument; time = time }) at
+
+pub fed_one : (x y : Result Fed Refusal) → fed_of x ≡ fed_of y → x ≡ y
+unfolding handed_by
+fed_one (Ok (fed.Record r a)) (Ok (fed.Record s b)) e =
+    let z : handed_by r.stream r.place a r.length r.kind r.instrument r.time ≡ handed_by s.stream s.place b s.length s.kind s.instrument s.time = cc in
+    ap Ok z
+fed_one (Ok (fed.Record r a)) (Ok fed.End) e = let z : ◌≡◌ {A = ℕ} 0 1 = cc in absurd (omega arith)
+fed_one (Ok (fed.Record r a)) (Ok (fed.NeedMore p)) e = let z : ◌≡◌ {A = ℕ} 0 1 = cc in absurd (omega arith)
+fed_one (Ok (fed.Record r a)) (Err q) e = absurd (done_or_refused q e)
+fed_one (Ok fed.End) (Ok (fed.Record s b)) e = let z : ◌≡◌ {A = ℕ} 0 1 = cc in absurd (omega arith)
+fed_one (Ok fed.End) (Ok fed.End) e = refl
+fed_one (Ok fed.End) (Ok (fed.NeedMore p)) e = let z : ◌≡◌ {A = ℕ} 0 1 = cc in absurd (omega arith)
+fed_one (Ok fed.End) (Err q) e = absurd (done_or_refused q e)
+fed_one (Ok (fed.NeedMore p)) (Ok (fed.Record s b)) e = let z : ◌≡◌ {A = ℕ} 0 1 = cc in absurd (omega arith)
+fed_one (Ok (fed.NeedMore p)) (Ok fed.End) e = let z : ◌≡◌ {A = ℕ} 0 1 = cc in absurd (omega arith)
+fed_one (Ok (fed.NeedMore p)) (Ok (fed.NeedMore q)) e = cc
+fed_one (Ok (fed.NeedMore p)) (Err q) e = absurd (done_or_refused q e)
+fed_one (Err r) (Ok (fed.Record s b)) e = absurd (done_or_refused r (sym e))
+fed_one (Err r) (Ok fed.End) e = absurd (done_or_refused r (sym e))
+fed_one (Err r) (Ok (fed.NeedMore p)) e = absurd (done_or_refused r (sym e))
+fed_one (Err r) (Err q) e = ap Err (refused_one r q e)

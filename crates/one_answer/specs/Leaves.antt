@@ -1,71 +1,54 @@
 -- The answers of `leaves`: two that say the same number and the same values are one answer. (Frames and mapping records: leaves,
 -- FrameLaws.) Assumes nothing.
-use Rattle.std.specs.Prelude.{◌≡◌, refl, ℕ, List}
-use Rattle.std.proofs.Common.{sym, ap, arith}
-use Rattle.theory.specs.Answer.{answer}
-use Rattle.leaves.specs.Refusal.{number_of, refused}
+use Rattle.std.specs.Prelude.{◌≡◌, refl, ℕ, ◌∷◌, List, Result, Ok, Err, OnOk, IsOk, MatchResult}
+use Rattle.std.proofs.Common.{sym, ap, ap₂, arith}
+use Rattle.theory.specs.Answer.{answer, one_value, no_values}
+use Rattle.leaves.specs.Refusal.{number_of, refused, answer_with}
 use Rattle.leaves.specs.RefusalLaws.{refused_not_done, refused_one}
-use Rattle.leaves_days.specs.Days.{day_answer_of, date_answer_of, moment_answer_of}
-use Rattle.leaves_text.specs.NumberText.{reading_of}
-use Rattle.leaves_names.specs.Names.{checked_of, named_of, placed_of}
 use Rattle.leaves.specs.declared.refusal.Refusal.{Refusal}
-use Rattle.leaves_days.specs.declared.days.Day.{Day}
-use Rattle.leaves_days.specs.declared.days.Day.TheVariants as day
-use Rattle.leaves_days.specs.declared.days.Date.{Date}
-use Rattle.leaves_days.specs.declared.days.Date.TheVariants as date
-use Rattle.leaves_days.specs.declared.days.Moment.{Moment}
-use Rattle.leaves_days.specs.declared.days.Moment.TheVariants as moment
-use Rattle.leaves_text.specs.declared.number_text.Reading.{Reading}
-use Rattle.leaves_text.specs.declared.number_text.Reading.TheVariants.{Value, Stuck}
-use Rattle.leaves_names.specs.declared.names.Checked.{Checked}
-use Rattle.leaves_names.specs.declared.names.Checked.TheVariants as checked
-use Rattle.leaves_names.specs.declared.names.Named.{Named}
-use Rattle.leaves_names.specs.declared.names.Named.TheVariants as named
+use Rattle.leaves_text.specs.NumberText.{reading_of}
+use Rattle.leaves_names.specs.Names.{place_values}
+use Rattle.leaves_names.specs.Room.{named_values}
 use Rattle.leaves_names.specs.declared.names.NamePlace.{NamePlace}
-use Rattle.leaves_names.specs.declared.names.NamePlace.TheVariants as placed
+use Rattle.leaves_names.specs.declared.names.NameRoom.{NameRoom}
 
 -- no refusal is done
 pub done_or_refused : {vs : List ℕ} (r : Refusal) → answer 0 vs ≡ refused r → ⊥
 done_or_refused r e = let z : number_of r ≡ 0 = cc in refused_not_done r z
 
-pub day_one : (x y : Day) → day_answer_of x ≡ day_answer_of y → x ≡ y
-day_one (day.Number m) (day.Number n) e = cc
-day_one (day.Number m) (day.Refused q) e = absurd (done_or_refused q e)
-day_one (day.Refused r) (day.Number n) e = absurd (done_or_refused r (sym e))
-day_one (day.Refused r) (day.Refused q) e = ap day.Refused (refused_one r q e)
+-- where the values tell what is done apart, answers tell results apart
+pub answer_one : {X : Type 0} (values : X → List ℕ) → ((x y : X) → values x ≡ values y → x ≡ y) → (x y : Result X Refusal) → answer_with values x ≡ answer_with values y → x ≡ y
+answer_one values apart (Ok m) (Ok n) e = let z : values m ≡ values n = cc in ap Ok (apart m n z)
+answer_one values apart (Ok m) (Err q) e = absurd (done_or_refused q e)
+answer_one values apart (Err r) (Ok n) e = absurd (done_or_refused r (sym e))
+answer_one values apart (Err r) (Err q) e = ap Err (refused_one r q e)
 
-pub date_one : (x y : Date) → date_answer_of x ≡ date_answer_of y → x ≡ y
-date_one (date.Written m) (date.Written n) e = cc
-date_one (date.Written m) (date.Refused q) e = absurd (done_or_refused q e)
-date_one (date.Refused r) (date.Written n) e = absurd (done_or_refused r (sym e))
-date_one (date.Refused r) (date.Refused q) e = ap date.Refused (refused_one r q e)
+-- of one number: a date's day, a day's date, a day's start
+pub value_one : (x y : Result ℕ Refusal) → answer_with one_value x ≡ answer_with one_value y → x ≡ y
+value_one = answer_one one_value (λ m n e. cc)
 
-pub moment_one : (x y : Moment) → moment_answer_of x ≡ moment_answer_of y → x ≡ y
-moment_one (moment.Nanoseconds m) (moment.Nanoseconds n) e = cc
-moment_one (moment.Nanoseconds m) (moment.Refused q) e = absurd (done_or_refused q e)
-moment_one (moment.Refused r) (moment.Nanoseconds n) e = absurd (done_or_refused r (sym e))
-moment_one (moment.Refused r) (moment.Refused q) e = ap moment.Refused (refused_one r q e)
+pub reading_one : (x y : Result ℕ ℕ) → reading_of x ≡ reading_of y → x ≡ y
+reading_one (Ok m) (Ok n) e = cc
+reading_one (Ok m) (Err p) e = let z : ◌≡◌ {A = ℕ} 0 8 = cc in absurd (omega arith)
+reading_one (Err p) (Ok n) e = let z : ◌≡◌ {A = ℕ} 0 8 = cc in absurd (omega arith)
+reading_one (Err p) (Err q) e = cc
 
-pub reading_one : (x y : Reading) → reading_of x ≡ reading_of y → x ≡ y
-reading_one (Value m) (Value n) e = cc
-reading_one (Value m) (Stuck p) e = let z : ◌≡◌ {A = ℕ} 0 8 = cc in absurd (omega arith)
-reading_one (Stuck p) (Value n) e = let z : ◌≡◌ {A = ℕ} 0 8 = cc in absurd (omega arith)
-reading_one (Stuck p) (Stuck q) e = cc
+pub placed_one : (x y : Result NamePlace Refusal) → answer_with place_values x ≡ answer_with place_values y → x ≡ y
+placed_one =
+    answer_one place_values
+    (λ m n e. let f : m.first ≡ n.first = cc in let g : m.end ≡ n.end = cc in ap₂ (λ (a b : ℕ). record { first = a; end = b }) f g)
 
-pub checked_one : (x y : Checked) → checked_of x ≡ checked_of y → x ≡ y
-checked_one checked.Done checked.Done e = refl
-checked_one checked.Done (checked.Refused q) e = absurd (done_or_refused q e)
-checked_one (checked.Refused r) checked.Done e = absurd (done_or_refused r (sym e))
-checked_one (checked.Refused r) (checked.Refused q) e = ap checked.Refused (refused_one r q e)
+-- the names and the bytes in use come with a name's number
+pub named_one : (s t : NameRoom) (x y : Result ℕ Refusal) → answer_with (named_values s) x ≡ answer_with (named_values t) y
+    → (x ≡ y) × OnOk x ((s.names ≡ t.names) × (s.name_bytes ≡ t.name_bytes))
+named_one s t (Ok m) (Ok n) e = let z : m ≡ n = cc in (ap Ok z, (cc, cc))
+named_one s t (Ok m) (Err q) e = absurd (done_or_refused q e)
+named_one s t (Err r) (Ok n) e = absurd (done_or_refused r (sym e))
+named_one s t (Err r) (Err q) e = (ap Err (refused_one r q e), _)
 
-pub named_one : (x y : Named) → named_of x ≡ named_of y → x ≡ y
-named_one (named.Number a b c) (named.Number d f g) e = cc
-named_one (named.Number a b c) (named.Refused q) e = absurd (done_or_refused q e)
-named_one (named.Refused r) (named.Number d f g) e = absurd (done_or_refused r (sym e))
-named_one (named.Refused r) (named.Refused q) e = ap named.Refused (refused_one r q e)
-
-pub placed_one : (x y : NamePlace) → placed_of x ≡ placed_of y → x ≡ y
-placed_one (placed.At a b) (placed.At c d) e = cc
-placed_one (placed.At a b) (placed.Refused q) e = absurd (done_or_refused q e)
-placed_one (placed.Refused r) (placed.At c d) e = absurd (done_or_refused r (sym e))
-placed_one (placed.Refused r) (placed.Refused q) e = ap placed.Refused (refused_one r q e)
+-- a check that says nothing besides: done twice, or refused twice for the same reason
+pub checked_one : {X : Type 0} (x y : Result X Refusal) → answer_with no_values x ≡ answer_with no_values y → MatchResult x (λ m. IsOk y) (λ r. y ≡ Err r)
+checked_one (Ok m) (Ok n) e = refl
+checked_one (Ok m) (Err q) e = absurd (done_or_refused q e)
+checked_one (Err r) (Ok n) e = absurd (done_or_refused r (sym e))
+checked_one (Err r) (Err q) e = ap Err (sym (refused_one r q e))

@@ -1,14 +1,12 @@
 -- The answers of the metadata merge: a header is its numbers, so that two answers that say the same are one. Assumes nothing.
-use Rattle.std.specs.Prelude.{◌≡◌, refl, ℕ, Bool, true, false, List, eqb, get_or}
+use Rattle.std.specs.Prelude.{◌≡◌, refl, ℕ, Bool, true, false, List, eqb, get_or, Result}
 use Rattle.std.proofs.Common.{sym, ap, ◌∙◌}
-use Rattle.theory.specs.Answer.{answer}
-use Rattle.leaves.specs.RefusalLaws.{refused_one}
+use Rattle.leaves.specs.Refusal.{answer_with}
+use Rattle.leaves.specs.declared.refusal.Refusal.{Refusal}
 use Rattle.metadata_form.specs.declared.header.Header.{Header}
 use Rattle.theory.specs.Answer.{bit}
-use Rattle.metadata_form.specs.Header.{numbers_of, metadata_answer_of}
-use Rattle.metadata_form.specs.declared.header.MetadataAnswer.{MetadataAnswer}
-use Rattle.metadata_form.specs.declared.header.MetadataAnswer.TheVariants.{Done, Refused}
-use Rattle.one_answer.specs.Leaves.{done_or_refused}
+use Rattle.metadata_form.specs.Header.{numbers_of}
+use Rattle.one_answer.specs.Leaves.{answer_one}
 
 -- the header with these numbers
 abbrev header_by : List ℕ → Bool → Header
@@ -39,11 +37,8 @@ header_of ns = header_by ns (eqb (get_or ns 8 0) 1)
 header_back : (h : Header) → header_of (numbers_of h) ≡ h
 header_back h = ap (header_by (numbers_of h)) (bit_back h.ts_out)
 
-header_one : (h k : Header) → answer 0 (numbers_of h) ≡ answer 0 (numbers_of k) → h ≡ k
-header_one h k e = let z : numbers_of h ≡ numbers_of k = cc in sym (header_back h) ∙ ap header_of z ∙ header_back k
+header_one : (h k : Header) → numbers_of h ≡ numbers_of k → h ≡ k
+header_one h k e = sym (header_back h) ∙ ap header_of e ∙ header_back k
 
-pub metadata_one : (x y : MetadataAnswer) → metadata_answer_of x ≡ metadata_answer_of y → x ≡ y
-metadata_one (Done h) (Done k) e = ap Done (header_one h k e)
-metadata_one (Done h) (Refused q) e = absurd (done_or_refused q e)
-metadata_one (Refused r) (Done k) e = absurd (done_or_refused r (sym e))
-metadata_one (Refused r) (Refused q) e = ap Refused (refused_one r q e)
+pub metadata_one : (x y : Result Header Refusal) → answer_with numbers_of x ≡ answer_with numbers_of y → x ≡ y
+metadata_one = answer_one numbers_of header_one

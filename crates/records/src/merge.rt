@@ -1,75 +1,35 @@
-// The record merge over a heap (RULES, Merging records). All of its state stands in arrays of 256 places that the caller
-// lends: for each stream its mark, its time, its place and the head (length, kind, instrument) of the record it stands at; and the
-// heap of stream numbers, of which `held` places are in use. A call hands out the record of the least (time, stream).
-ghost use Rattle.std.specs.Prelude.{◌≡◌, ℕ, ◌+◌, ◌<◌, ◌^◌, length, get_or, replicate, List};
+// The record merge over a heap (RULES, Merging records). All of its state is lent (`State`): for each stream its mark, its time, its
+// place and the head (length, kind, instrument) of the record it stands at; and the heap of stream numbers. A call hands out the
+// record of the least (time, stream).
+ghost use Rattle.std.specs.Prelude.{◌≡◌, ◌+◌, ◌<◌, ◌^◌, length, get_or, replicate, Some, Ok};
+ghost use Rattle.std.specs.Result.{OnErr, IfOk};
 ghost use Rattle.std.proofs.Math.Seq.{slice};
-ghost use Rattle.records_rules.specs.Machine.{says, record_at_lem, damage_at};
+ghost use Rattle.leaves.specs.Frame.{head_of};
+ghost use Rattle.records_rules.specs.Machine.{says, record_at_lem};
 ghost use Rattle.records_rules.specs.Bytes.{streams_of};
-ghost use Rattle.records_rules.specs.View.{packed, rec_in};
-ghost use Rattle.records_rules.specs.State.{answer_of, Room, got_of, arrays, TurnSays, NextSays, OpenSays};
+ghost use Rattle.records_rules.specs.View.{rec_in};
+ghost use Rattle.records_rules.specs.State.{answer_of, TurnSays, NextSays, OpenSays};
+ghost use Rattle.records_state.specs.Lent.{arrays_of, HasRoom, SameMemory};
 ghost use Rattle.records.specs.Merge.{turn_of, opening_of};
 
 use leaves::frame::{Head, read_within};
-use leaves::refusal::Refusal;
-use records_state::heap::{heapify, sift_down, slot};
-use records_state::opening::{lay_streams, streams_right};
-use records_state::state::{EMPTY, GONE, STANDING, WAITING, arrays_fit};
+use leaves::refusal::{Reason, Refusal};
+use records_state::opening::streams_right;
+use records_state::state::{EMPTY, FOUR_BYTES, GONE, State, TWO_BYTES, WAITING};
 
-// What a read found: the end is 0, damage its reason, a record 4.
-pub const RECORD: u64 = 4;
-
-// A record's head in one number: its length in the two lowest bytes, its kind in the next two, its instrument above.
-pub const TWO_BYTES: u64 = 65536;
-
-const FOUR_BYTES: u64 = 4294967296;
-
-const GREATEST: u64 = 18446744073709551615;
-
-// What a call answers: a record, the end, or a refusal; damage is the refusal 13.
-#[derive(Clone, Copy)]
-pub enum Turn {
-    Record {
-        stream: u64,
-        place: u64,
-        length: u16,
-        kind: u16,
-        instrument: u32,
-        time: u64,
-    },
-    End,
-    Refused(Refusal),
-}
-
-// A call's answer, and how many streams the heap holds after it.
-#[derive(Clone, Copy)]
-pub struct Turned {
-    pub held: usize,
-    pub answer: Turn,
-}
-
-// What an opening answers: the streams, and how many of them the heap holds.
-#[derive(Clone, Copy)]
-pub enum Opening {
-    Opened { streams: usize, held: usize },
-    Refused(Refusal),
-}
-
-// What a read found, in numbers: the head has the record's length, kind and instrument.
-#[derive(Clone, Copy)]
-pub struct Got {
-    pub found: u64,
+// A record that a call hands out.
+#[derive(Clone, Copy, Debug, PartialEq, Eq)]
+pub struct Record {
+    pub stream: u64,
+    pub place: u64,
+    pub length: u16,
+    pub kind: u16,
+    pub instrument: u32,
     pub time: u64,
-    pub head: u64,
 }
 
-// A part of the buffer, from its first byte to before its end.
-#[derive(Clone, Copy)]
-struct Part {
-    from: u64,
-    to: u64,
-}
-
-// Room for marks, and for the heap: empty places.
+// Room for marks, and for the heap: empty places. A function for each of the two arrays: one for both would be told what is empty in it,
+// and say no more than `[GONE; 256]`.
 pub fn empty_bytes() -> [u8; 256]
     ensures { (result ≡ replicate 256 0) × (256 ≡ length result) }
 {
@@ -87,52 +47,30 @@ pub fn empty_numbers() -> [u64; 256]
 pub fn plus(a: u64, b: u64) -> u64
     ensures { a + b < 2 ^ 64 → result ≡ a + b }
 {
-    if b <= GREATEST - a {
-        return a + b;
-    }
-    0
+    a.checked_add(b).unwrap_or(0)
 }
 
-// A record's length, kind and instrument in one number.
-fn pack(head: Head) -> u64
-    ensures { result ≡ packed head.length head.kind head.instrument }
-{
-    (head.length as u64) + TWO_BYTES * (head.kind as u64) + FOUR_BYTES * (head.instrument as u64)
-}
-
-// The part of a buffer that a stream is, from its cut to the next one; nothing where there is no next one.
-fn part_of(cuts: &[u64], stream: usize) -> Part
+// What stands at a place of a stream, which is the buffer's part from its cut to the next one; nothing where there is no next one.
+pub fn read_stream(
+    buffer: &[u8],
+    cuts: &[u64],
+    stream: usize,
+    place: u64,
+) -> Result<Option<Head>, Reason>
     requires { stream < 256 }
-    ensures { (s : List ℕ) → slice result.from result.to s ≡ slice (get_or cuts.now stream 0) (get_or cuts.now (stream + 1) 0) s }
+    ensures { head_of result ≡ (streams_of buffer.now cuts.now stream).read place }
 {
     if cuts.len() <= stream + 1 {
-        return Part { from: 0, to: 0 };
+        return Ok(None);
     }
-    Part {
-        from: cuts[stream],
-        to: cuts[stream + 1],
-    }
+    read_within(buffer, cuts[stream], cuts[stream + 1], place)
 }
 
-// What stands at a place of a stream.
-pub fn read_stream(buffer: &[u8], cuts: &[u64], stream: usize, place: u64) -> Got
-    requires { stream < 256 }
-    ensures { got_of result.found result.time result.head ≡ (streams_of buffer.now cuts.now stream).read place }
+// The record that a stream stands at.
+pub fn handed(stream: usize, place: u64, head: u64, time: u64) -> Record
+    ensures { turn_of (Ok (Some result)) ≡ answer_of (says stream (record_at_lem place (rec_in head time))) }
 {
-    let part = part_of(cuts, stream);
-    let head = read_within(buffer, part.from, part.to, place);
-    Got {
-        found: head.found,
-        time: head.time,
-        head: pack(head),
-    }
-}
-
-// The answer that hands out a record.
-pub fn handed(stream: usize, place: u64, head: u64, time: u64) -> Turn
-    ensures { turn_of result ≡ answer_of (says stream (record_at_lem place (rec_in head time))) }
-{
-    Turn::Record {
+    Record {
         stream: stream as u64,
         place,
         length: (head % TWO_BYTES) as u16,
@@ -142,150 +80,74 @@ pub fn handed(stream: usize, place: u64, head: u64, time: u64) -> Turn
     }
 }
 
-// The answer that reports damage.
-pub fn damaged(stream: usize, place: u64, reason: u64) -> Turn
-    ensures { turn_of result ≡ answer_of (says stream (damage_at place reason)) }
-{
-    let refusal = Refusal::Damaged {
-        stream: stream as u64,
-        place,
-        reason,
-    };
-    Turn::Refused(refusal)
-}
-
 // A call, on arrays that have the room: the heap's root is read where it waits, and handed out where it stands. It is safe and
 // ends whatever the arrays hold.
-pub fn turns(
-    buffer: &[u8],
-    cuts: &[u64],
-    held: usize,
-    marks: &mut [u8],
-    times: &mut [u64],
-    places: &mut [u64],
-    heads: &mut [u64],
-    heap: &mut [u8],
-) -> Turned
-    requires { Room held marks.old times.old places.old heads.old heap.old }
-    ensures { TurnSays (streams_of buffer.now cuts.now) held
-        (arrays marks.old times.old places.old heads.old heap.old) (turn_of result.answer) result.held
-        (arrays marks.new times.new places.new heads.new heap.new) }
+pub fn turns(buffer: &[u8], cuts: &[u64], state: &mut State<'_>) -> Result<Option<Record>, Refusal>
+    requires { HasRoom state.old.held state.old }
+    ensures memory { SameMemory state.old state.new }
+    ensures says { TurnSays (streams_of buffer.now cuts.now) state.old.held (arrays_of state.old) (turn_of result) state.new.held (arrays_of state.new) }
 {
-    let mut size = held;
-    loop {
-        if size == 0 {
-            let end = Turn::End;
-            return Turned {
-                held: size,
-                answer: end,
-            };
+    while 0 < state.held {
+        let p = state.heap[0] as usize;
+        let place = state.places[p];
+        if state.marks[p] != WAITING {
+            let record = handed(p, place, state.heads[p], state.times[p]);
+            state.marks[p] = WAITING;
+            state.places[p] = plus(place, record.length as u64);
+            state.heads[p] = EMPTY;
+            return Ok(Some(record));
         }
-        let p = slot(heap[0]);
-        let place = places[p];
-        if marks[p] == WAITING {
-            let got = read_stream(buffer, cuts, p, place);
-            let found = got.found;
-            if found < RECORD {
-                marks[p] = GONE;
-                size = size - 1;
-                let last = heap[size];
-                heap[0] = last;
-                sift_down(times, heap, size, 0);
-                if found != 0 {
-                    let report = damaged(p, place, found);
-                    return Turned {
-                        held: size,
-                        answer: report,
-                    };
-                }
-            } else {
-                marks[p] = STANDING;
-                times[p] = got.time;
-                heads[p] = got.head;
-                sift_down(times, heap, size, 0);
+        match read_stream(buffer, cuts, p, place) {
+            Ok(Some(head)) => {
+                state.stand(p, head);
+                state.sift_down(0);
             }
-        } else {
-            let time = times[p];
-            let head = heads[p];
-            marks[p] = WAITING;
-            places[p] = plus(place, head % TWO_BYTES);
-            heads[p] = EMPTY;
-            let record = handed(p, place, head, time);
-            return Turned {
-                held: size,
-                answer: record,
-            };
+            Ok(None) => state.remove_root(),
+            Err(reason) => {
+                state.remove_root();
+                return Err(Refusal::Damaged {
+                    stream: p as u64,
+                    place,
+                    reason,
+                });
+            }
         }
     }
+    Ok(None)
 }
 
 // The next record, the damage of a stream, or the end, on the buffer and the cuts of the opening. 15 leaves everything as it was.
-pub fn next(
-    buffer: &[u8],
-    cuts: &[u64],
-    held: usize,
-    marks: &mut [u8],
-    times: &mut [u64],
-    places: &mut [u64],
-    heads: &mut [u64],
-    heap: &mut [u8],
-) -> Turned
-    ensures { NextSays (streams_of buffer.now cuts.now) held
-        (arrays marks.old times.old places.old heads.old heap.old) (turn_of result.answer) result.held
-        (arrays marks.new times.new places.new heads.new heap.new) }
+pub fn next(buffer: &[u8], cuts: &[u64], state: &mut State<'_>) -> Result<Option<Record>, Refusal>
+    ensures memory { SameMemory state.old state.new }
+    ensures says { NextSays (streams_of buffer.now cuts.now) state.old.held (arrays_of state.old) (turn_of result) state.new.held (arrays_of state.new) }
 {
-    if !arrays_fit(
-        held,
-        marks.len(),
-        times.len(),
-        places.len(),
-        heads.len(),
-        heap.len(),
-    ) {
-        let refusal = Turn::Refused(Refusal::BadMemory);
-        return Turned {
-            held,
-            answer: refusal,
-        };
+    if !state.fits() {
+        return Err(Refusal::BadMemory);
     }
-    turns(buffer, cuts, held, marks, times, places, heads, heap)
+    turns(buffer, cuts, state)
 }
 
-// Opens the streams of a buffer between its cuts, each at its hint. It reads none of them. A refusal leaves everything as it was.
+// Opens the streams of a buffer between its cuts, each at its hint, and answers how many there are; the heap holds all of them. It
+// reads none of them. A refusal leaves everything as it was.
 pub fn open(
     buffer: &[u8],
     cuts: &[u64],
     hints: &[u64],
-    marks: &mut [u8],
-    times: &mut [u64],
-    places: &mut [u64],
-    heads: &mut [u64],
-    heap: &mut [u8],
-) -> Opening
-    ensures { OpenSays buffer.now cuts.now hints.now
-        (arrays marks.old times.old places.old heads.old heap.old) (opening_of result)
-        (arrays marks.new times.new places.new heads.new heap.new) }
+    state: &mut State<'_>,
+) -> Result<usize, Refusal>
+    ensures memory { SameMemory state.old state.new }
+    ensures refused { OnErr result (state.new ≡ state.old) }
+    ensures held { IfOk result (λ streams. state.new.held ≡ streams) }
+    ensures says { OpenSays buffer.now cuts.now hints.now (arrays_of state.old) (opening_of state.new.held result) (arrays_of state.new) }
 {
-    if !arrays_fit(
-        0,
-        marks.len(),
-        times.len(),
-        places.len(),
-        heads.len(),
-        heap.len(),
-    ) {
-        let refusal = Refusal::BadMemory;
-        return Opening::Refused(refusal);
+    if !state.has_places() {
+        return Err(Refusal::BadMemory);
     }
     if !streams_right(buffer.len() as u64, cuts, hints.len()) {
-        let refusal = Refusal::BadStreams;
-        return Opening::Refused(refusal);
+        return Err(Refusal::BadStreams);
     }
     let streams = cuts.len() - 1;
-    lay_streams(streams, hints, marks, times, places, heads, heap);
-    heapify(times, heap, streams);
-    Opening::Opened {
-        streams: streams,
-        held: streams,
-    }
+    state.lay_streams(streams, hints);
+    state.heapify();
+    Ok(streams)
 }

@@ -3,11 +3,12 @@
 use Rattle.std.specs.Prelude.{◌≡◌, refl, ◌≢◌, ℕ, ◌+◌, ◌%◌, ◌≤◌, ◌<◌, ◌^◌, List, length, get_or, set, replicate, true}
 use Rattle.std.proofs.Common.{sym, ap, ◌∙◌, arith, length-set}
 use Rattle.theory.specs.Answer.{Answer}
+use Rattle.leaves.specs.Frame.{ended, damaged}
 use Rattle.records_rules.specs.Machine.{Stream, says, end, record_at_lem, damage_at, turn}
 use Rattle.records_rules.specs.Machine as machine
 use Rattle.records_rules.specs.View.{rec_in, statuses_of}
 use Rattle.records_rules.specs.Holds.{Chosen}
-use Rattle.records_rules.specs.State.{answer_of, got_of, Small, Room, Arrays, arrays, OpenSays}
+use Rattle.records_rules.specs.State.{answer_of, stood, Small, Room, Arrays, arrays, OpenSays}
 use Rattle.records_rules.specs.StateLaws.{small_set, small_move}
 use Rattle.records_rules.proofs.StateLaws.{law_end, law_record, law_ended, law_damaged, law_whole, law_small}
 use Rattle.records_rules.specs.Opening.{arrays_room}
@@ -64,30 +65,30 @@ module _ {b : ℕ → Stream} {n : ℕ} {ms₀ ts₀ cs₀ hs₀ ms ts cs hs : L
         (sym g.same ∙ law_record b n ms ts cs hs p ch lt long d)
         (small_move n cs hs p (get_or cs p 0 + get_or hs p 0 % 65536) in_places in_heads small fit))
 
-    module _ (w : get_or ms p 0 ≡ 1) (k t l : ℕ) (got : got_of k t l ≡ (b p).read (get_or cs p 0)) where
+    module _ (w : get_or ms p 0 ≡ 1) where
       -- its stream has ended
-      pub turn_ended : k ≡ 0 → Scanning b n ms₀ ts₀ cs₀ hs₀ (set ms p 0) ts cs hs
-      turn_ended d =
+      pub turn_ended : ended ≡ (b p).read (get_or cs p 0) → Scanning b n ms₀ ts₀ cs₀ hs₀ (set ms p 0) ts cs hs
+      turn_ended got =
           record {
             marks = length-set ms p 0 ∙ g.marks;
             times = g.times;
             places = g.places;
             heads = g.heads;
             small = g.small;
-            same = law_ended b n ms ts cs hs p ch lt long w k t l got d ∙ g.same;
+            same = law_ended b n ms ts cs hs p ch lt long w got ∙ g.same;
           }
 
       -- it is damaged
-      pub turn_damaged : k ≢ 0 → k < 4 → Done b n ms₀ ts₀ cs₀ hs₀ (answer_of (says p (damage_at (get_or cs p 0) k))) (set ms p 0) ts cs hs
-      turn_damaged d h z =
+      pub turn_damaged : (k : ℕ) → damaged k ≡ (b p).read (get_or cs p 0) → Done b n ms₀ ts₀ cs₀ hs₀ (answer_of (says p (damage_at (get_or cs p 0) k))) (set ms p 0) ts cs hs
+      turn_damaged k got z =
           heard_by (says p (damage_at (get_or cs p 0) k))
-          (sym g.same ∙ law_damaged b n ms ts cs hs p ch lt long w k t l got d h)
+          (sym g.same ∙ law_damaged b n ms ts cs hs p ch lt long w k got)
           (g.small z)
 
       -- it stands at a record now
-      pub turn_whole : 4 ≤ k → (b p).size < 2 ^ 64 → Scanning b n ms₀ ts₀ cs₀ hs₀ (set ms p 2) (set ts p t) cs (set hs p l)
-      turn_whole h hb =
-          let fits : get_or cs p 0 + l % 65536 ≤ (b p).size = law_small b n ms ts cs hs p ch lt long w k t l got h in
+      pub turn_whole : (t l : ℕ) → stood t l ≡ (b p).read (get_or cs p 0) → (b p).size < 2 ^ 64 → Scanning b n ms₀ ts₀ cs₀ hs₀ (set ms p 2) (set ts p t) cs (set hs p l)
+      turn_whole t l got hb =
+          let fits : get_or cs p 0 + l % 65536 ≤ (b p).size = law_small b n ms ts cs hs p ch lt long w t l got in
           let in_heads : p < length hs = omega (arith, lt, long.3) in
           record {
             marks = length-set ms p 2 ∙ g.marks;
@@ -95,7 +96,7 @@ module _ {b : ℕ → Stream} {n : ℕ} {ms₀ ts₀ cs₀ hs₀ ms ts cs hs : L
             places = g.places;
             heads = length-set hs p l ∙ g.heads;
             small = λ z. small_set n cs hs p l in_heads (g.small z) (omega arith);
-            same = law_whole b n ms ts cs hs p ch lt long w k t l got h ∙ g.same;
+            same = law_whole b n ms ts cs hs p ch lt long w t l got ∙ g.same;
           }
 
 -- ---- the test of what is lent, and the opening

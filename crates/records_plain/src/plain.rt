@@ -1,110 +1,85 @@
 // A plain merger (RULES, Requests, No. 12): no heap, but a scan of all streams for the least (time, stream) before every read and every
-// hand-out. It opens, refuses and answers as `records::merge` does; docs/TEACHING.md lays the two side by side. The caller lends four
-// arrays of 256 places: for each stream its mark, its time, its place and the head of the record that it stands at.
-ghost use Rattle.std.specs.Prelude.{◌≤◌, length};
+// hand-out. It opens, refuses and answers as `records::merge` does; docs/TEACHING.md lays the two side by side. Of the lent state a call
+// leaves the heap alone, and holds every stream.
+ghost use Rattle.std.specs.Prelude.{◌≡◌, refl, ◌≤◌, ◌<◌, length, unwrap_or, IfSome};
 ghost use Rattle.records_rules.specs.Bytes.{streams_of};
 ghost use Rattle.records_rules.specs.Holds.{Chosen};
-ghost use Rattle.records_rules.specs.State.{Small};
-ghost use Rattle.records.specs.Merge.{turn_of, opening_of};
+ghost use Rattle.records_rules.specs.State.{Small, Arrays};
+ghost use Rattle.records_state.specs.Lent.{SameMemory};
+ghost use Rattle.records.specs.Merge.{turn_of, opened_of};
 ghost use Rattle.records_plain.specs.Plain.{PlainRoom, PlainSays, PlainNext, PlainOpens};
 
 use leaves::refusal::Refusal;
-use records::merge::{
-    Opening, RECORD, TWO_BYTES, Turn, damaged, empty_bytes, handed, plus, read_stream,
-};
-use records_state::state::{EMPTY, GONE, PLACES, STANDING, WAITING, arrays_fit};
+use records::engine::Engine;
+use records::merge::{Record, empty_bytes, handed, plus, read_stream};
+use records_state::state::{EMPTY, GONE, PLACES, State, WAITING};
 
-// The stream with the least (time, stream) of those that are not gone, or the number of streams where all are.
-fn least(streams: usize, marks: &[u8], times: &[u64]) -> usize
-    requires { (streams ≤ length marks.now) × (streams ≤ length times.now) }
-    ensures { Chosen streams marks.now times.now result }
+// The stream with the least (time, stream) of those that are not gone; none where all are.
+fn least(state: &State<'_>) -> Option<usize>
+    requires { (state.now.held ≤ length state.now.marks.now) × (state.now.held ≤ length state.now.times.now) }
+    ensures chosen { Chosen state.now.held state.now.marks.now state.now.times.now (unwrap_or result state.now.held) }
+    ensures below { IfSome result (λ p. p < state.now.held) }
 {
-    let mut best = streams;
-    for p in 0..streams {
-        if marks[p] != GONE {
-            if best == streams || times[p] < times[best] {
-                best = p;
-            }
+    let mut best: Option<usize> = None;
+    for p in 0..state.held {
+        if state.marks[p] != GONE && best.is_none_or(|q| state.times[p] < state.times[q]) {
+            best = Some(p);
         }
     }
     best
 }
 
 // A call, on arrays that have the room: the least stream is read where it waits, and handed out where it stands.
-fn turns(
-    buffer: &[u8],
-    cuts: &[u64],
-    streams: usize,
-    marks: &mut [u8],
-    times: &mut [u64],
-    places: &mut [u64],
-    heads: &mut [u64],
-) -> Turn
-    requires { PlainRoom streams marks.old times.old places.old heads.old }
-    ensures { Small streams places.old heads.old
-        → PlainSays (streams_of buffer.now cuts.now) streams
-        marks.old times.old places.old heads.old
-        (turn_of result) marks.new times.new places.new heads.new }
+fn turns(buffer: &[u8], cuts: &[u64], state: &mut State<'_>) -> Result<Option<Record>, Refusal>
+    requires { PlainRoom state.old.held state.old.marks.now state.old.times.now state.old.places.now state.old.heads.now }
+    ensures memory { SameMemory state.old state.new }
+    ensures others { (state.new.held ≡ state.old.held) × (state.new.heap ≡ state.old.heap) }
+    ensures says { Small state.old.held state.old.places.now state.old.heads.now
+        → PlainSays (streams_of buffer.now cuts.now) state.old.held
+        state.old.marks.now state.old.times.now state.old.places.now state.old.heads.now
+        (turn_of result) state.new.marks.now state.new.times.now state.new.places.now state.new.heads.now }
 {
-    loop {
-        let p = least(streams, marks, times);
-        if p == streams {
-            return Turn::End;
+    while let Some(p) = least(state) {
+        let place = state.places[p];
+        if state.marks[p] != WAITING {
+            let record = handed(p, place, state.heads[p], state.times[p]);
+            state.marks[p] = WAITING;
+            state.places[p] = plus(place, record.length as u64);
+            state.heads[p] = EMPTY;
+            return Ok(Some(record));
         }
-        let place = places[p];
-        if marks[p] == WAITING {
-            let got = read_stream(buffer, cuts, p, place);
-            let found = got.found;
-            if found < RECORD {
-                marks[p] = GONE;
-                if found != 0 {
-                    return damaged(p, place, found);
-                }
-            } else {
-                marks[p] = STANDING;
-                times[p] = got.time;
-                heads[p] = got.head;
+        match read_stream(buffer, cuts, p, place) {
+            Ok(Some(head)) => state.stand(p, head),
+            Ok(None) => state.marks[p] = GONE,
+            Err(reason) => {
+                state.marks[p] = GONE;
+                return Err(Refusal::Damaged {
+                    stream: p as u64,
+                    place,
+                    reason,
+                });
             }
-        } else {
-            let time = times[p];
-            let head = heads[p];
-            marks[p] = WAITING;
-            places[p] = plus(place, head % TWO_BYTES);
-            heads[p] = EMPTY;
-            return handed(p, place, head, time);
         }
     }
+    Ok(None)
 }
 
 // The next record, the damage of a stream, or the end, on the buffer and the cuts of the opening. 15 leaves everything as it was.
-pub fn next(
-    buffer: &[u8],
-    cuts: &[u64],
-    streams: usize,
-    marks: &mut [u8],
-    times: &mut [u64],
-    places: &mut [u64],
-    heads: &mut [u64],
-) -> Turn
-    ensures { PlainNext buffer.now cuts.now streams
-        marks.old times.old places.old heads.old
-        (turn_of result) marks.new times.new places.new heads.new }
+pub fn next(buffer: &[u8], cuts: &[u64], state: &mut State<'_>) -> Result<Option<Record>, Refusal>
+    ensures memory { SameMemory state.old state.new }
+    ensures others { (state.new.held ≡ state.old.held) × (state.new.heap ≡ state.old.heap) }
+    ensures says { PlainNext buffer.now cuts.now state.old.held
+        state.old.marks.now state.old.times.now state.old.places.now state.old.heads.now
+        (turn_of result) state.new.marks.now state.new.times.now state.new.places.now state.new.heads.now }
 {
-    if !arrays_fit(
-        streams,
-        marks.len(),
-        times.len(),
-        places.len(),
-        heads.len(),
-        PLACES,
-    ) {
-        let refusal = Refusal::BadMemory;
-        return Turn::Refused(refusal);
+    if PLACES < state.held || !state.streams_fit() {
+        return Err(Refusal::BadMemory);
     }
-    turns(buffer, cuts, streams, marks, times, places, heads)
+    turns(buffer, cuts, state)
 }
 
-// Opens the streams as `records::merge::open` does. The heap that it lays stays here: nothing that is lent holds one.
+// Opens the streams as `records::merge::open` does, on four arrays of 256 places. The heap that it lays stays here: nothing that is lent
+// holds one, so the arrays come one by one.
 pub fn open(
     buffer: &[u8],
     cuts: &[u64],
@@ -113,11 +88,32 @@ pub fn open(
     times: &mut [u64],
     places: &mut [u64],
     heads: &mut [u64],
-) -> Opening
+) -> Result<usize, Refusal>
     ensures { PlainOpens buffer.now cuts.now hints.now
         marks.old times.old places.old heads.old
-        (opening_of result) marks.new times.new places.new heads.new }
+        (opened_of result) marks.new times.new places.new heads.new }
 {
     let mut heap = empty_bytes();
-    records::merge::open(buffer, cuts, hints, marks, times, places, heads, &mut heap)
+    let mut state = State {
+        held: 0,
+        marks,
+        times,
+        places,
+        heads,
+        heap: &mut heap,
+    };
+    records::merge::open(buffer, cuts, hints, &mut state)
+}
+
+// The engine without a heap.
+pub struct Plain;
+
+impl Engine for Plain {
+    ghost sound = { λ n held (a : Arrays). (held ≡ n) × Small n a.places a.heads };
+
+    ghost opened = { λ n hints a o. (refl, o.sound.small) };
+
+    fn next(buffer: &[u8], cuts: &[u64], state: &mut State<'_>) -> Result<Option<Record>, Refusal> {
+        next(buffer, cuts, state)
+    }
 }

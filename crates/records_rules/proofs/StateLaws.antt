@@ -7,28 +7,15 @@ use native.Mathlib.Omega.{arith}
 use Rattle.std.proofs.Math.Option.{none, some}
 use mathlib.Core.List.{List}
 use Rattle.std.proofs.Math.ListN.{get_or}
-use Rattle.leaves.specs.Frame.{whole, ended, damaged}
-use Rattle.leaves.specs.FrameLaws.{found_ended, found_damaged, found_whole}
+use Rattle.leaves.specs.Frame.{ended, damaged}
 use Rattle.records_rules.specs.Machine.{Rec, Fits, Stream, record_at_lem, damage_at, Status, waiting, standing, gone, key, turn, says, end}
 use Rattle.records_rules.specs.Machine as machine
 use Rattle.records_rules.specs.Least.{IsFirst}
 use Rattle.records_rules.proofs.Rules.{rule_end, rule_record, rule_ended, rule_damaged, rule_whole}
 use Rattle.records_rules.specs.View.{rec_in, status_of, statuses_of, status_at}
-use Rattle.records_rules.specs.State.{got_of}
+use Rattle.records_rules.specs.State.{stood}
 use Rattle.records_rules.specs.Holds.{Chosen}
 use Rattle.records_rules.specs.StateLaws.{gone_set, stand_set, stands_at, wait_set, waits_at}
-
-got_ended : (k t l : ℕ) → k ≡ 0 → got_of k t l ≡ ended
-unfolding got_of
-got_ended k t l e = found_ended k (whole (l % 65536) (l / 65536 % 65536) (l / 4294967296) t) e
-
-got_damaged : (k t l : ℕ) → k ≢ 0 → k < 4 → got_of k t l ≡ damaged k
-unfolding got_of
-got_damaged k t l e h = found_damaged k (whole (l % 65536) (l / 65536 % 65536) (l / 4294967296) t) e h
-
-got_whole : (k t l : ℕ) → 4 ≤ k → got_of k t l ≡ whole (l % 65536) (l / 65536 % 65536) (l / 4294967296) t
-unfolding got_of
-got_whole k t l h = found_whole k (whole (l % 65536) (l / 65536 % 65536) (l / 4294967296) t) h
 
 module _ (b : ℕ → Stream) (n : ℕ) (ms ts cs hs : List ℕ) (p : ℕ) (ch : Chosen n ms ts p) where
   abbrev now : List Status
@@ -56,23 +43,24 @@ module _ (b : ℕ → Stream) (n : ℕ) (ms ts cs hs : List ℕ) (p : ℕ) (ch :
         rule_record b now f.0 p f.1 (get_or cs p 0) (rec_in (get_or hs p 0) (get_or ts p 0)) (stands_at n ms ts cs hs p hp live d)
         ∙ ap (turn (says p (record_at_lem (get_or cs p 0) (rec_in (get_or hs p 0) (get_or ts p 0))))) (sym (wait_set n ms ts cs hs p hp long (get_or cs p 0 + get_or hs p 0 % 65536) 0))
 
-    module _ (e : get_or ms p 0 ≡ 1) (k t l : ℕ) (g : got_of k t l ≡ (b p).read (get_or cs p 0)) where
-      pub law_ended : k ≡ 0 → machine.next b (statuses_of n (set ms p 0) ts cs hs) ≡ machine.next b now
-      law_ended d =
-          ap (machine.next b) (gone_set n ms ts cs hs p hp long) ∙ sym (rule_ended b now f.0 p f.1 (get_or ts p 0) (get_or cs p 0) (waits_at n ms ts cs hs p hp e) (sym g ∙ got_ended k t l d))
+    module _ (e : get_or ms p 0 ≡ 1) where
+      pub law_ended : ended ≡ (b p).read (get_or cs p 0) → machine.next b (statuses_of n (set ms p 0) ts cs hs) ≡ machine.next b now
+      law_ended g =
+          ap (machine.next b) (gone_set n ms ts cs hs p hp long) ∙ sym (rule_ended b now f.0 p f.1 (get_or ts p 0) (get_or cs p 0) (waits_at n ms ts cs hs p hp e) (sym g))
 
-      pub law_damaged : k ≢ 0 → k < 4 → machine.next b now ≡ turn (says p (damage_at (get_or cs p 0) k)) (statuses_of n (set ms p 0) ts cs hs)
-      law_damaged d h =
-          rule_damaged b now f.0 p f.1 (get_or ts p 0) (get_or cs p 0) k (waits_at n ms ts cs hs p hp e) (sym g ∙ got_damaged k t l d h)
+      pub law_damaged : (k : ℕ) → damaged k ≡ (b p).read (get_or cs p 0) → machine.next b now ≡ turn (says p (damage_at (get_or cs p 0) k)) (statuses_of n (set ms p 0) ts cs hs)
+      law_damaged k g =
+          rule_damaged b now f.0 p f.1 (get_or ts p 0) (get_or cs p 0) k (waits_at n ms ts cs hs p hp e) (sym g)
           ∙ ap (turn (says p (damage_at (get_or cs p 0) k))) (sym (gone_set n ms ts cs hs p hp long))
 
-      pub law_whole : 4 ≤ k → machine.next b (statuses_of n (set ms p 2) (set ts p t) cs (set hs p l)) ≡ machine.next b now
-      unfolding rec_in
-      law_whole h =
-          ap (machine.next b) (stand_set n ms ts cs hs p hp long t l)
-          ∙ sym (rule_whole b now f.0 p f.1 (get_or ts p 0) (get_or cs p 0) (l % 65536) (l / 65536 % 65536) (l / 4294967296) t (waits_at n ms ts cs hs p hp e) (sym g ∙ got_whole k t l h))
+      module _ (t l : ℕ) (g : stood t l ≡ (b p).read (get_or cs p 0)) where
+        pub law_whole : machine.next b (statuses_of n (set ms p 2) (set ts p t) cs (set hs p l)) ≡ machine.next b now
+        unfolding rec_in
+        law_whole =
+            ap (machine.next b) (stand_set n ms ts cs hs p hp long t l)
+            ∙ sym (rule_whole b now f.0 p f.1 (get_or ts p 0) (get_or cs p 0) (l % 65536) (l / 65536 % 65536) (l / 4294967296) t (waits_at n ms ts cs hs p hp e) (sym g))
 
-      pub law_small : 4 ≤ k → get_or cs p 0 + l % 65536 ≤ (b p).size
-      law_small h =
-          let x : Fits (b p).size (get_or cs p 0) (whole (l % 65536) (l / 65536 % 65536) (l / 4294967296) t) = rw (sym g ∙ got_whole k t l h) at ((b p).fits (get_or cs p 0)) in
-          x.1
+        pub law_small : get_or cs p 0 + l % 65536 ≤ (b p).size
+        law_small =
+            let x : Fits (b p).size (get_or cs p 0) (stood t l) = rw (sym g) at ((b p).fits (get_or cs p 0)) in
+            x.1

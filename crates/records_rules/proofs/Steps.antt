@@ -1,11 +1,12 @@
 -- The ways a turn of the loop goes, on a sound state. Assumes nothing.
 use Rattle.std.specs.Prelude.{◌≡◌, ◌≢◌, ℕ, ◌+◌, ◌-◌, ◌%◌, ◌≤◌, ◌<◌, ◌^◌, List, length, get_or, set}
 use Rattle.std.proofs.Common.{sym, ap, ◌∙◌, arith, length-set}
+use Rattle.leaves.specs.Frame.{ended, damaged}
 use Rattle.records_rules.specs.Machine.{Stream, says, end, record_at_lem, damage_at, turn}
 use Rattle.records_rules.specs.Machine as machine
 use Rattle.records_rules.specs.View.{rec_in, statuses_of}
 use Rattle.records_rules.specs.Heap.{at}
-use Rattle.records_rules.specs.State.{answer_of, got_of}
+use Rattle.records_rules.specs.State.{answer_of, stood}
 use Rattle.records_rules.specs.StateLaws.{room_kept, room_enough, small_set, small_move}
 use Rattle.records_rules.proofs.StateLaws.{law_end, law_record, law_ended, law_damaged, law_whole, law_small}
 use Rattle.records_rules.specs.Holds.{Chosen, holds_moved, holds_kind, holds_drop, but_drop, but_key}
@@ -66,7 +67,7 @@ module _ {b : ℕ → Stream} {held : ℕ} {ks₀ ts₀ cs₀ ls₀ hp₀ : List
           }));
     }
 
-    module _ (w : get_or ms p 0 ≡ 1) (k t l : ℕ) (got : got_of k t l ≡ (b p).read (get_or cs p 0)) where
+    module _ (w : get_or ms p 0 ≡ 1) where
       module _ {hq : List ℕ} (sf : Sifted ts (size - 1) 0 (set hp 0 (at hp (size - 1))) hq) where
         dropped : (n : ℕ) → n ≤ 256 → StateOk n size ms ts cs hs hp → StateOk n (size - 1) (set ms p 0) ts cs hs hq
         dropped n hn ok =
@@ -81,8 +82,8 @@ module _ {b : ℕ → Stream} {held : ℕ} {ks₀ ts₀ cs₀ ls₀ hp₀ : List
             }
 
         -- the root's stream has ended
-        pub step_ended : k ≡ 0 → length hq ≡ length (set hp 0 (at hp (size - 1))) → Going b held ks₀ ts₀ cs₀ ls₀ hp₀ (size - 1) (set ms p 0) ts cs hs hq
-        step_ended d long =
+        pub step_ended : ended ≡ (b p).read (get_or cs p 0) → length hq ≡ length (set hp 0 (at hp (size - 1))) → Going b held ks₀ ts₀ cs₀ ls₀ hp₀ (size - 1) (set ms p 0) ts cs hs hq
+        step_ended got long =
             record {
               marks = length-set ms p 0 ∙ g.marks;
               times = g.times;
@@ -96,27 +97,27 @@ module _ {b : ℕ → Stream} {held : ℕ} {ks₀ ts₀ cs₀ ls₀ hp₀ : List
                   let m = enough n hn in
                   record {
                     sound = dropped n hn ok;
-                    same = law_ended b n ms ts cs hs p (ch n hn ok) (root n hn ok) m w k t l got d ∙ x.same;
+                    same = law_ended b n ms ts cs hs p (ch n hn ok) (root n hn ok) m w got ∙ x.same;
                   };
             }
 
         -- it is damaged
-        pub step_damaged : k ≢ 0 → k < 4 → Done b held ks₀ ts₀ cs₀ ls₀ hp₀ (answer_of (says p (damage_at (get_or cs p 0) k))) (size - 1) (set ms p 0) ts cs hs hq
-        step_damaged d h = record {
+        pub step_damaged : (k : ℕ) → damaged k ≡ (b p).read (get_or cs p 0) → Done b held ks₀ ts₀ cs₀ ls₀ hp₀ (answer_of (says p (damage_at (get_or cs p 0) k))) (size - 1) (set ms p 0) ts cs hs hq
+        step_damaged k got = record {
           fewer = omega (arith, g.few);
           says = λ n hn z.
               let x = g.keeps n hn z in
               let ok = x.sound in
               let m = enough n hn in
               heard_by (says p (damage_at (get_or cs p 0) k))
-              (sym x.same ∙ law_damaged b n ms ts cs hs p (ch n hn ok) (root n hn ok) m w k t l got d h)
+              (sym x.same ∙ law_damaged b n ms ts cs hs p (ch n hn ok) (root n hn ok) m w k got)
               (dropped n hn ok);
         }
 
       -- it stands at a record now
-      pub step_whole : 4 ≤ k → (b p).size < 2 ^ 64 → {hq : List ℕ} → Sifted (set ts p t) size 0 hp hq → length hq ≡ length hp
+      pub step_whole : (t l : ℕ) → stood t l ≡ (b p).read (get_or cs p 0) → (b p).size < 2 ^ 64 → {hq : List ℕ} → Sifted (set ts p t) size 0 hp hq → length hq ≡ length hp
           → Going b held ks₀ ts₀ cs₀ ls₀ hp₀ size (set ms p 2) (set ts p t) cs (set hs p l) hq
-      step_whole h hb {hq} sf long =
+      step_whole t l got hb {hq} sf long =
           record {
             marks = length-set ms p 2 ∙ g.marks;
             times = length-set ts p t ∙ g.times;
@@ -129,7 +130,7 @@ module _ {b : ℕ → Stream} {held : ℕ} {ks₀ ts₀ cs₀ ls₀ hp₀ : List
                 let ok = x.sound in
                 let r : p < n = root n hn ok in
                 let m = enough n hn in
-                let fits : get_or cs p 0 + l % 65536 ≤ (b p).size = law_small b n ms ts cs hs p (ch n hn ok) r m w k t l got h in
+                let fits : get_or cs p 0 + l % 65536 ≤ (b p).size = law_small b n ms ts cs hs p (ch n hn ok) r m w t l got in
                 record {
                   sound = record {
                     small = small_set n cs hs p l (omega (arith, m.3)) ok.small (omega (arith, fits));
@@ -138,6 +139,6 @@ module _ {b : ℕ → Stream} {held : ℕ} {ks₀ ts₀ cs₀ ls₀ hp₀ : List
                       heap = sf.heap (rw e (but_key n ms ts hp size t pos ok.heaped));
                     };
                   };
-                  same = law_whole b n ms ts cs hs p (ch n hn ok) r m w k t l got h ∙ x.same;
+                  same = law_whole b n ms ts cs hs p (ch n hn ok) r m w t l got ∙ x.same;
                 };
           }

@@ -69,10 +69,14 @@ opening memory streams n = cond memory (cond streams (answer 0 (n ∷ n ∷ []))
 
 -- ---- the state
 
+-- what a read says that found a record, of the time t, with length, kind and instrument in one
+abbrev pub stood : ℕ → ℕ → Read
+stood t h = whole (h % 65536) (h / 65536 % 65536) (h / 4294967296) t
+
 -- a read in numbers: what was found, the time, and length, kind and instrument in one
 unfoldable pub got_of : ℕ → ℕ → ℕ → Read
 unfolding read_found
-got_of found t h = read_found found (whole (h % 65536) (h / 65536 % 65536) (h / 4294967296) t)
+got_of found t h = read_found found (stood t h)
 
 -- the place behind a record fits
 abbrev pub Small : ℕ → List ℕ → List ℕ → Type 0

@@ -13,7 +13,7 @@ use Rattle.leaves.specs.Frame.{whole, read_found}
 use Rattle.records_rules.specs.Machine.{Rec, Status, waiting, standing, gone}
 use Rattle.records_rules.specs.Kept.{waits, waits_less, unread}
 use Rattle.records_rules.specs.View.{packed, rec_in, rec_in_packed, status_of, statuses_of, statuses_set, status_at, length_statuses}
-use Rattle.records_rules.specs.State.{got_of, Small}
+use Rattle.records_rules.specs.State.{stood, got_of, Small}
 
 -- arrays that keep their lengths have the room still, and so has the heap where no more of it is in use
 pub room_kept : {held m t c h p size m' t' c' h'' p' : ℕ} → (held ≤ 256) × (256 ≤ m) × (256 ≤ t) × (256 ≤ c) × (256 ≤ h) × (256 ≤ p)
@@ -26,11 +26,16 @@ pub room_enough : {size m t c h p n : ℕ} → (size ≤ 256) × (256 ≤ m) × 
     → (n ≤ m) × (n ≤ t) × (n ≤ c) × (n ≤ h)
 room_enough (few, m, t, c, h, p) l = (omega arith, omega arith, omega arith, omega arith)
 
+-- a record's head with its length, kind and instrument in one number
+pub stood_packed : (size kind instrument t : ℕ) → size < 65536 → kind < 65536 → stood t (packed size kind instrument) ≡ whole size kind instrument t
+unfolding rec_in
+stood_packed size kind instrument t below-size below-kind =
+    ap (λ (r : Rec). whole r.size r.kind r.instrument r.time) (rec_in_packed size kind instrument t below-size below-kind)
+
 -- what a read says, with its length, kind and instrument in one number
 pub got_packed : (k size kind instrument t : ℕ) → size < 65536 → kind < 65536 → got_of k t (packed size kind instrument) ≡ read_found k (whole size kind instrument t)
-unfolding got_of rec_in
-got_packed k size kind instrument t below-size below-kind =
-    ap (λ (r : Rec). read_found k (whole r.size r.kind r.instrument r.time)) (rec_in_packed size kind instrument t below-size below-kind)
+unfolding got_of
+got_packed k size kind instrument t below-size below-kind = ap (read_found k) (stood_packed size kind instrument t below-size below-kind)
 
 -- ---- a store at p, whoever is chosen
 module _ (n : ℕ) (ms ts cs hs : List ℕ) (p : ℕ) where

@@ -1,3 +1,3 @@
 pub mod Run
-pub mod Running
+pub mod Calls
 pub mod Divided

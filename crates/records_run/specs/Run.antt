@@ -1,17 +1,12 @@
 -- A run over whole buffers: at most a stated number of calls of the record merge, and what it hands back (RULES, Requests, No. 14).
 -- Assumes nothing.
-use Rattle.std.specs.Prelude.{◌≡◌, refl, ℕ, ◌≤◌, true, false, length, List, [], ◌∷◌}
-use Rattle.std.proofs.Common.{ap, arith}
+use Rattle.std.specs.Prelude.{◌≡◌, ℕ, ◌≤◌, true, false, length, List, [], ◌∷◌}
 use Rattle.theory.specs.Answer.{Answer, answer}
-use Rattle.leaves.specs.Refusal.{number_of, refused}
-use Rattle.leaves.specs.RefusalLaws.{refused_not_done, refused_one}
 use Rattle.run_rules.specs.Batch.{Ran}
-use Rattle.run_rules.specs.Rows.{run_fits, most, Note, writes, stops, run_of, going, ended, Gives, RunRefused}
+use Rattle.run_rules.specs.Rows.{run_fits, most, Note, writes, stops, run_of, ended, Gives, RunRefused}
 use Rattle.records_rules.specs.Machine.{Stream, record_at_lem, damage_at, Status, says, end, next, rest}
 use Rattle.records_rules.specs.Machine as machine
 use Rattle.records_rules.specs.State.{Arrays, fit_in, statuses_at, SoundIn}
-use Rattle.records_run.specs.declared.run.Last.{Last}
-use Rattle.records_run.specs.declared.run.Last.TheVariants as last
 
 -- ---- the run of the machine
 
@@ -31,26 +26,6 @@ go b ss = rest (next b ss)
 -- at most k of them
 abbrev pub ran_of : ℕ → (ℕ → Stream) → List Status → Ran Note (List Status)
 ran_of k b ss = run_of (say b) (go b) k ss
-
--- ---- the answer
-
--- the code's last answer in the rules' numbers
-abbrev pub last_of : Last → Answer
-last_of last.Going = going
-last_of last.End = ended
-last_of (last.Refused r) = refused r
-
--- only one answer fits
-pub last_one : (x y : Last) → last_of x ≡ last_of y → x ≡ y
-last_one last.Going last.Going z = refl
-last_one last.Going last.End z = let n : ◌≡◌ {A = ℕ} 1 0 = cc in absurd (omega arith)
-last_one last.Going (last.Refused q) z = let n : number_of q ≡ 0 = cc in absurd (refused_not_done q n)
-last_one last.End last.Going z = let n : ◌≡◌ {A = ℕ} 0 1 = cc in absurd (omega arith)
-last_one last.End last.End z = refl
-last_one last.End (last.Refused q) z = let n : number_of q ≡ 0 = cc in absurd (refused_not_done q n)
-last_one (last.Refused r) last.Going z = let n : number_of r ≡ 0 = cc in absurd (refused_not_done r n)
-last_one (last.Refused r) last.End z = let n : number_of r ≡ 0 = cc in absurd (refused_not_done r n)
-last_one (last.Refused r) (last.Refused q) z = ap last.Refused (refused_one r q z)
 
 -- ---- a run's contract
 

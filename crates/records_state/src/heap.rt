@@ -1,124 +1,120 @@
 // A binary heap of stream numbers in an array of 256 places, ordered by (time, stream number). The times stand in an array by
 // stream. One sift-down serves opening, replacing the root and removing it.
-ghost use Rattle.std.specs.Prelude.{◌≡◌, ◌+◌, ◌*◌, ◌<◌, ◌≤◌, length, get_or};
+ghost use Rattle.std.specs.Prelude.{◌≡◌, ◌+◌, ◌-◌, ◌*◌, ◌<◌, ◌≤◌, length, set};
 ghost use Rattle.records_rules.specs.Sift.{Stands, Lesser, Sooner, Settled, Sifted, Heaped};
+ghost use Rattle.records_state.specs.Lent.{HeapRoom, HeapAlone, RootRemoved};
 
-// A stream's number as an index: the arrays have 256 places, so every byte is one.
-pub fn slot(stream: u8) -> usize
-    ensures { (result ≡ stream) × (result < 256) }
-{
-    stream as usize
-}
+use crate::state::{GONE, State};
 
-// A stream of the heap: the place where it stands, its number, its time.
-#[derive(Clone, Copy)]
+// A stream of the heap: its time, its number, the place where it stands. Entries are ordered by these, in this order.
+#[derive(Clone, Copy, PartialEq, Eq, PartialOrd, Ord)]
 struct Entry {
-    place: usize,
+    time: u64,
     stream: usize,
-    time: u64,
+    place: usize,
 }
 
-// What stands at a place of the heap.
-fn entry_at(times: &[u64], heap: &[u8], place: usize) -> Entry
-    requires { (place < length heap.now) × (256 ≤ length times.now) }
-    ensures { Stands times.now heap.now place result.place result.stream result.time }
-{
-    let stream = slot(heap[place]);
-    let time = times[stream];
-    Entry {
-        place,
-        stream,
-        time,
+impl Entry {
+    // Whether this stream comes before another.
+    fn comes_before(self, other: Entry) -> bool
+        ensures { Sooner self.time self.stream other.time other.stream result }
+    {
+        self < other
     }
 }
 
-// Of two places that lie side by side, the one whose stream comes first.
-fn lesser(times: &[u64], heap: &[u8], a: usize) -> Entry
-    requires { (a < 256) × (a + 1 < length heap.now) × (256 ≤ length times.now) }
-    ensures { Lesser times.now heap.now a result.place result.stream result.time }
-{
-    let left = entry_at(times, heap, a);
-    let right = entry_at(times, heap, a + 1);
-    if right.time == left.time {
-        if right.stream < left.stream {
-            return right;
+impl State<'_> {
+    // What stands at a place of the heap.
+    fn entry_at(&self, place: usize) -> Entry
+        requires { (place < length self.now.heap.now) × (256 ≤ length self.now.times.now) }
+        ensures { Stands self.now.times.now self.now.heap.now place result.place result.stream result.time }
+    {
+        let stream = self.heap[place] as usize;
+        let time = self.times[stream];
+        Entry {
+            time,
+            stream,
+            place,
         }
-    } else if right.time < left.time {
-        return right;
     }
-    left
-}
 
-// Whether a stream of this time comes before another.
-fn comes_first(time: u64, stream: usize, other: Entry) -> bool
-    ensures { Sooner time stream other.time other.stream result }
-{
-    if time <= other.time {
-        if time < other.time {
-            return true;
+    // Of two places that lie side by side, the one whose stream comes first.
+    fn lesser(&self, place: usize) -> Entry
+        requires { (place < 256) × (place + 1 < length self.now.heap.now) × (256 ≤ length self.now.times.now) }
+        ensures { Lesser self.now.times.now self.now.heap.now place result.place result.stream result.time }
+    {
+        let left = self.entry_at(place);
+        let right = self.entry_at(place + 1);
+        if right.comes_before(left) {
+            right
+        } else {
+            left
         }
-        return stream < other.stream;
     }
-    false
-}
 
-// The hole's last turn, where it has one child at most: a child that comes before the moving stream fills it. Answers where the hole is.
-fn lone_child(
-    times: &[u64],
-    heap: &mut [u8],
-    held: usize,
-    i: usize,
-    time: u64,
-    moving: usize,
-) -> usize
-    requires { (i < held) × (held ≤ 2 * i + 2) × (held ≤ length heap.old) × (held ≤ 256) × (256 ≤ length times.now) }
-    ensures { Settled times.now held time moving i heap.old result heap.new }
-{
-    let last = 2 * i + 1;
-    if held <= last {
-        return i;
+    // The hole's last turn, where it has one child at most: a child that comes before the moving stream fills it. Answers where the
+    // hole is.
+    fn lone_child(&mut self, hole: usize, moving: Entry) -> usize
+        requires { HeapRoom self.old × ((hole < self.old.held) × (self.old.held ≤ 2 * hole + 2)) }
+        ensures settled { Settled self.old.times.now self.old.held moving.time moving.stream hole self.old.heap.now result self.new.heap.now }
+        ensures others { HeapAlone self.old self.new }
+    {
+        let last = 2 * hole + 1;
+        if self.held <= last {
+            return hole;
+        }
+        let child = self.entry_at(last);
+        if moving.comes_before(child) {
+            return hole;
+        }
+        self.heap[hole] = child.stream as u8;
+        last
     }
-    let child = entry_at(times, heap, last);
-    if comes_first(time, moving, child) {
-        return i;
-    }
-    heap[i] = child.stream as u8;
-    last
-}
 
-// What stands at `from` moves down to where it belongs: its place is a hole that the lesser child fills, until no child comes before
-// it. In order or not, the heap holds the same streams afterwards.
-pub fn sift_down(times: &[u64], heap: &mut [u8], held: usize, from: usize)
-    requires { (held ≤ length heap.old) × (held ≤ 256) × (from ≤ held) × (256 ≤ length times.now) }
-    ensures { Sifted times.now held from heap.old heap.new }
-{
-    if held <= from {
-        return;
-    }
-    let moving = slot(heap[from]);
-    let time = times[moving];
-    let mut i = from;
-    while 2 * i + 2 < held {
-        let child = lesser(times, heap, 2 * i + 1);
-        if comes_first(time, moving, child) {
-            heap[i] = moving as u8;
+    // What stands at `from` moves down to where it belongs: its place is a hole that the lesser child fills, until no child comes
+    // before it. In order or not, the heap holds the same streams afterwards.
+    pub fn sift_down(&mut self, from: usize)
+        requires { HeapRoom self.old × (from ≤ self.old.held) }
+        ensures sifted { Sifted self.old.times.now self.old.held from self.old.heap.now self.new.heap.now }
+        ensures others { HeapAlone self.old self.new }
+    {
+        if self.held <= from {
             return;
         }
-        heap[i] = child.stream as u8;
-        i = child.place;
+        let moving = self.entry_at(from);
+        let mut hole = from;
+        while 2 * hole + 2 < self.held {
+            let child = self.lesser(2 * hole + 1);
+            if moving.comes_before(child) {
+                self.heap[hole] = moving.stream as u8;
+                return;
+            }
+            self.heap[hole] = child.stream as u8;
+            hole = child.place;
+        }
+        let end = self.lone_child(hole, moving);
+        self.heap[end] = moving.stream as u8;
     }
-    let end = lone_child(times, heap, held, i, time, moving);
-    heap[end] = moving as u8;
-}
 
-// Puts the heap's first `held` places in order.
-pub fn heapify(times: &[u64], heap: &mut [u8], held: usize)
-    requires { (held ≤ length heap.old) × (held ≤ 256) × (256 ≤ length times.now) }
-    ensures { Heaped times.now held heap.old heap.new 0 }
-{
-    let mut k = held / 2;
-    while 0 < k {
-        k = k - 1;
-        sift_down(times, heap, held, k);
+    // Puts the heap's places in use in order.
+    pub fn heapify(&mut self)
+        requires { HeapRoom self.old }
+        ensures heaped { Heaped self.old.times.now self.old.held self.old.heap.now self.new.heap.now 0 }
+        ensures others { HeapAlone self.old self.new }
+    {
+        for k in (0..self.held / 2).rev() {
+            self.sift_down(k);
+        }
+    }
+
+    // The root's stream is gone: the heap's last stream takes its place and moves down.
+    pub fn remove_root(&mut self)
+        requires { HeapRoom self.old × ((0 < self.old.held) × (256 ≤ length self.old.marks.now)) }
+        ensures { RootRemoved self.old self.new }
+    {
+        self.marks[self.heap[0] as usize] = GONE;
+        self.held -= 1;
+        self.heap[0] = self.heap[self.held];
+        self.sift_down(0);
     }
 }

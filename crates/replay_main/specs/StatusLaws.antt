@@ -1,6 +1,8 @@
 -- No text but that of a bad bundle begins with a `b`: a line begins with a digit, or with the `e` of the end. Assumes nothing.
-use Rattle.std.specs.Prelude.{◌≡◌, refl, ℕ, zero, suc, ◌+◌, ◌/◌, ◌%◌, Bool, true, false, cond, List, [], ◌∷◌, ◌++◌, length, get_or, replicate, ltb}
-use Rattle.std.proofs.Common.{arith, ltb-true, eq-eqb, ne_eqb}
+use Rattle.std.specs.Prelude.{◌≡◌, refl, ℕ, zero, suc, ◌+◌, ◌/◌, ◌%◌, Bool, true, false, cond, List, [], ◌∷◌, ◌++◌, length, get_or, replicate, ltb, eqb, ◌&&◌}
+use Rattle.std.specs.List.{starts_with}
+use Rattle.std.proofs.Common.{sym, ap, ◌∙◌, arith, ltb-true, eq-eqb, ne_eqb}
+use borrow.Author.Tests.{eqb-true, eqb-false}
 use Rattle.std.proofs.Math.Option.{Option, none, some}
 use Rattle.records_rules.specs.Machine.{record_at_lem, damage_at, Answer, says, end}
 use Rattle.records_rules.specs.Literal.{literal_run}
@@ -65,15 +67,15 @@ text_status_lem bundle = status (streams_in bundle)
 
 -- ---- a text's status
 
-pub status_none : (text : List ℕ) → length text ≡ 0 → 0 ≡ text_status text
-unfolding text_status
-status_none [] h = refl
-status_none (x ∷ xs) h = absurd (omega (arith, h))
+-- by whether the text begins with a `b`
+abbrev pub by_bad : Bool → ℕ
+by_bad b = cond b 1 0
 
-pub status_bad : (text : List ℕ) → get_or text 0 0 ≡ 98 → 1 ≡ text_status text
+pub status_first : (text : List ℕ) {b : Bool} → b ≡ starts_with eqb text (98 ∷ []) → by_bad b ≡ text_status text
 unfolding text_status
-status_bad text h = rw (eq-eqb (get_or text 0 0) 98 h) refl
-
-pub status_good : (text : List ℕ) → (get_or text 0 0 ≡ 98 → ⊥) → 0 ≡ text_status text
-unfolding text_status
-status_good text h = rw (ne_eqb (get_or text 0 0) 98 h) refl
+status_first [] e = ap by_bad e
+status_first (x ∷ xs) {b} e = go (eqb 98 x) refl e
+  where
+    go : (c : Bool) → eqb 98 x ≡ c → b ≡ c && true → by_bad b ≡ by_bad (eqb x 98)
+    go true d f = ap by_bad (f ∙ sym (eq-eqb x 98 (sym (eqb-true 98 x d))))
+    go false d f = ap by_bad (f ∙ sym (ne_eqb x 98 (λ z. eqb-false 98 x d (sym z))))

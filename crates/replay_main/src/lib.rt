@@ -4,12 +4,12 @@
 
 ghost use Rattle.std.specs.Prelude.{◌≡◌, length};
 ghost use Rattle.lines.specs.Sections.{streams_in};
-ghost use Rattle.standard.specs.Status.{Ends};
+ghost use Rattle.standard.specs.Status.{status_number, Ends};
 ghost use Rattle.replay_main.specs.Status.{status_of, text_status};
 
-use replay_text::replay::{HEAP, Replayed};
-use standard::{BAD, DONE, FAILED, Input};
-use std::io::Input as StandardInput;
+use records::engine::{Engine, Heap};
+use standard::{Failure, Status};
+use std::io::Input;
 
 // Room for the longest bundle and a byte more, so that a longer one is seen.
 fn input_space() -> [u8; 60001]
@@ -19,17 +19,18 @@ fn input_space() -> [u8; 60001]
 }
 
 // The status of a replay's text: that of a bad bundle alone begins with a `b`.
-fn status_of(text: &[u8]) -> u8
-    ensures { result ≡ text_status text.now }
+fn status_of(text: &[u8]) -> Status
+    ensures { status_number result ≡ text_status text.now }
 {
-    if text.len() == 0 {
-        return DONE;
+    if text.starts_with(b"b") {
+        Status::Bad
+    } else {
+        Status::Done
     }
-    if text[0] == b'b' { BAD } else { DONE }
 }
 
 // Writes a replay's text and answers the status.
-fn put(rt: &(impl Print + Eprint), text: &[u8]) -> u8
+fn put(rt: &(impl Print + Eprint), text: &[u8]) -> Result<Status, Failure>
     ensures { Ends (text_status text.now) result }
 {
     standard::ended(
@@ -41,26 +42,33 @@ fn put(rt: &(impl Print + Eprint), text: &[u8]) -> u8
 }
 
 // Writes a bundle's replay, which the lent bytes have room for, and answers the status.
-fn show(rt: &(impl Print + Eprint), plain: bool, bundle: &[u8], text: &mut [u8]) -> u8
+fn show<E: Engine>(
+    rt: &(impl Print + Eprint),
+    bundle: &[u8],
+    text: &mut [u8],
+) -> Result<Status, Failure>
     ensures { Ends (status_of (streams_in bundle.now)) result }
 {
-    match replay_text::replay::replay_by(plain, bundle, text) {
-        Replayed::Text(n) => put(rt, &text[..n]),
-        Replayed::Refused(_) => FAILED,
+    match replay_text::replay::replay_by::<E>(bundle, text) {
+        Ok(n) => put(rt, &text[..n]),
+        Err(_) => Err(Failure),
     }
 }
 
-// Replays standard input by either engine, and answers the status.
-pub fn replayed_by(rt: &(impl StandardInput + Print + Eprint), plain: bool) -> u8 {
+// Replays standard input and answers the status.
+fn replayed<E: Engine>(rt: &(impl Input + Print + Eprint)) -> Result<Status, Failure> {
     let mut input = input_space();
     let mut text = replay_text::replay::text_space();
-    match standard::read_input(rt, &mut input, b"replay: reading standard input") {
-        Input::Bytes(n) => show(rt, plain, &input[..n], &mut text),
-        Input::Failed => FAILED,
-    }
+    let n = standard::read_input(rt, &mut input, b"replay: reading standard input")?;
+    show::<E>(rt, &input[..n], &mut text)
+}
+
+// Replays standard input by either engine, and answers the status to end with.
+pub fn replayed_by<E: Engine>(rt: &(impl Input + Print + Eprint)) -> u8 {
+    replayed::<E>(rt).unwrap_or(Status::Failed).into()
 }
 
 // The program: replays standard input to standard output, and answers the status to end with.
-pub fn replay_main(rt: &(impl StandardInput + Print + Eprint)) -> u8 {
-    replayed_by(rt, HEAP)
+pub fn replay_main(rt: &(impl Input + Print + Eprint)) -> u8 {
+    replayed_by::<Heap>(rt)
 }

@@ -1,6 +1,5 @@
 pub mod Replay
 pub mod ReplayLaws
-pub mod Engine
 pub mod Telling
 pub mod ReplayCalls
 pub mod OtherLines

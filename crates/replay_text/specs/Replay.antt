@@ -3,12 +3,9 @@
 use Rattle.std.specs.Prelude.{ℕ, ◌*◌, cond, List, [], ◌∷◌, ◌++◌, length, get_or, replicate, ltb}
 use Rattle.std.proofs.Math.Option.{Option, none, some}
 use Rattle.theory.specs.Answer as theory
-use Rattle.leaves.specs.Refusal.{refused}
 use Rattle.records_rules.specs.Machine.{Stream, record_at_lem, damage_at, Answer, says, end, Status}
 use Rattle.records_rules.specs.Bytes.{bytes_of}
 use Rattle.records_rules.specs.Literal.{literal_run}
-use Rattle.replay_text.specs.declared.replay.Replayed.{Replayed}
-use Rattle.replay_text.specs.declared.replay.Replayed.TheVariants.{Text, Refused}
 use Rattle.lines.specs.Sections.{streams_in}
 use Rattle.lines.specs.Lines.{record_line, damage_line, end_line, bad_line, laid}
 use Rattle.records_rules.specs.Whole.{all_from}
@@ -57,11 +54,6 @@ replay_answer bundle room = cond (ltb room text_room) (theory.answer 15 []) (the
 unfoldable pub replay_laid : List ℕ → List ℕ → List ℕ
 unfolding replay_text laid
 replay_laid bundle text = cond (ltb (length text) text_room) text (laid text 0 (replay_text bundle))
-
--- the answer that a `Replayed` is
-abbrev pub replayed_of : Replayed → theory.Answer
-replayed_of (Text n) = theory.answer 0 (n ∷ [])
-replayed_of (Refused r) = refused r
 
 -- the lines to come from these statuses on
 unfoldable pub lines_left : (ℕ → Stream) → List Status → List ℕ

@@ -1,5 +1,5 @@
 -- From a bundle that was taken apart to its text, and what `replay` then answers and leaves. Assumes nothing.
-use Rattle.std.specs.Prelude.{◌≡◌, refl, ℕ, zero, suc, ◌-◌, ◌+◌, ◌≤◌, ◌<◌, List, [], ◌∷◌, length, get_or, drop, replicate, Bool, true, false, cond, ltb}
+use Rattle.std.specs.Prelude.{◌≡◌, refl, ℕ, zero, suc, ◌-◌, ◌+◌, ◌≤◌, ◌<◌, List, [], ◌∷◌, length, get_or, drop, replicate, Bool, true, false, cond, ltb, Result, Ok, Err}
 use Rattle.std.proofs.Common.{sym, ap, ◌∙◌, arith, length-append, take_at, length-take-le}
 use Rattle.std.proofs.Math.ListN.{take}
 use borrow.Author.Tests.{le-leb, eq-eqb, lt-ltb, le-ltb}
@@ -13,11 +13,10 @@ use Rattle.lines.specs.Lines.{bad_line, laid, Lays}
 use Rattle.lines.specs.LinesLaws.{lays_same}
 use Rattle.replay_text.specs.Replay.{text_of, replay_text, replay_answer, replay_laid, lines_left}
 use Rattle.replay_text.specs.ReplayLaws.{cs_cuts, apart_text, apart_room}
-use Rattle.leaves.specs.Refusal.{number_of}
+use Rattle.theory.specs.Answer.{one_value}
+use Rattle.leaves.specs.Refusal.{number_of, answer_with}
 use Rattle.leaves.specs.RefusalLaws.{refused_not_done, refused_one}
-use Rattle.replay_text.specs.declared.replay.Replayed.{Replayed}
-use Rattle.replay_text.specs.declared.replay.Replayed.TheVariants.{Text, Refused}
-use Rattle.replay_text.specs.Replay.{replayed_of}
+use Rattle.leaves.specs.declared.refusal.Refusal.{Refusal}
 use Rattle.replay_text.specs.Telling.{Cut}
 
 -- ---- a bundle that was taken apart
@@ -112,8 +111,8 @@ text_taken bundle text text' n e l = go (ltb (length text) 252441) e l
         (ap (take n) l' ∙ take_at (replay_text bundle) behind n w, omega (arith, ap length l', length-append (replay_text bundle) behind))
 
 -- only one answer fits
-pub replayed_one : (x y : Replayed) → replayed_of x ≡ replayed_of y → x ≡ y
-replayed_one (Text n) (Text k) e = cc
-replayed_one (Text n) (Refused q) e = let z : number_of q ≡ 0 = cc in absurd (refused_not_done q z)
-replayed_one (Refused r) (Text k) e = let z : number_of r ≡ 0 = cc in absurd (refused_not_done r z)
-replayed_one (Refused r) (Refused q) e = ap Refused (refused_one r q e)
+pub replayed_one : (x y : Result ℕ Refusal) → answer_with one_value x ≡ answer_with one_value y → x ≡ y
+replayed_one (Ok n) (Ok k) e = cc
+replayed_one (Ok n) (Err q) e = let z : number_of q ≡ 0 = cc in absurd (refused_not_done q z)
+replayed_one (Err r) (Ok k) e = let z : number_of r ≡ 0 = cc in absurd (refused_not_done r z)
+replayed_one (Err r) (Err q) e = ap Err (refused_one r q e)

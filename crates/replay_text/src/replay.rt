@@ -2,12 +2,15 @@
 ghost use Rattle.std.specs.Prelude.{◌≡◌, ◌+◌, ◌≤◌, length, get_or};
 ghost use Rattle.leaves_limits.specs.Limits.{most_bundle, most_streams};
 ghost use Rattle.lines.specs.Lines.{Lays};
-ghost use Rattle.replay_text.specs.Replay.{replay_text, replayed_of, replay_answer, replay_laid};
+ghost use Rattle.theory.specs.Answer.{one_value};
+ghost use Rattle.leaves.specs.Refusal.{answer_with};
+ghost use Rattle.replay_text.specs.Replay.{replay_text, replay_answer, replay_laid};
 
 use crate::telling::tell_streams;
 use leaves::refusal::Refusal;
 use lines::lines::word;
-use lines::sections::{Parted, part};
+use lines::sections::part;
+use records::engine::{Engine, Heap};
 
 // The most lines a replay has: a record takes 16 of 60,000 bytes at least, each of 256 streams is reported damaged once at most, and
 // the end has a line.
@@ -19,21 +22,8 @@ const LINE: usize = 63;
 // The bytes that every replay's text fits.
 pub const TEXT_ROOM: usize = LINES * LINE;
 
-// Whether the engine is the plain one (RULES, Requests, No. 12).
-pub const HEAP: bool = false;
-
-pub const PLAIN: bool = true;
-
-// What a replay answers: how many bytes its text has.
-#[derive(Clone, Copy)]
-pub enum Replayed {
-    Text(usize),
-    Refused(Refusal),
-}
-
 // Takes a bundle apart and writes its replay, or only the line that says that it is bad.
-fn write_replay(
-    plain: bool,
+fn write_replay<E: Engine>(
     bundle: &[u8],
     buffer: &mut [u8],
     cuts: &mut [u64],
@@ -43,11 +33,11 @@ fn write_replay(
     ensures { Lays text.old 0 (replay_text bundle.now) result text.new }
 {
     match part(bundle, buffer, cuts) {
-        Parted::Streams { count, bytes } => {
-            let ends = count + 1;
-            tell_streams(plain, &buffer[..bytes], &cuts[..ends], text)
+        Some(parted) => {
+            let ends = parted.count + 1;
+            tell_streams::<E>(&buffer[..parted.bytes], &cuts[..ends], text)
         }
-        Parted::Bad => word(text, 0, b"bad bundle\n"),
+        None => word(text, 0, b"bad bundle\n"),
     }
 }
 
@@ -74,24 +64,22 @@ pub fn text_space() -> [u8; 252441]
 
 // Lays the whole text of a bundle's replay, by either engine, at the front of lent bytes, and answers how many bytes it has. Fewer lent
 // bytes than every text fits get 15, and are left as they were. The promise names no engine: both give the same.
-pub fn replay_by(plain: bool, bundle: &[u8], text: &mut [u8]) -> Replayed
-    ensures result_value { replayed_of result ≡ replay_answer bundle.now (length text.old) }
+pub fn replay_by<E: Engine>(bundle: &[u8], text: &mut [u8]) -> Result<usize, Refusal>
+    ensures result_value { answer_with one_value result ≡ replay_answer bundle.now (length text.old) }
     ensures text_after { text.new ≡ replay_laid bundle.now text.old }
 {
     if text.len() < TEXT_ROOM {
-        let refusal = Refusal::BadMemory;
-        return Replayed::Refused(refusal);
+        return Err(Refusal::BadMemory);
     }
     let mut buffer = bytes_space();
     let mut cuts = cuts_space();
-    let n = write_replay(plain, bundle, &mut buffer, &mut cuts, text);
-    Replayed::Text(n)
+    Ok(write_replay::<E>(bundle, &mut buffer, &mut cuts, text))
 }
 
 // The same by the heap engine.
-pub fn replay(bundle: &[u8], text: &mut [u8]) -> Replayed
-    ensures result_value { replayed_of result ≡ replay_answer bundle.now (length text.old) }
+pub fn replay(bundle: &[u8], text: &mut [u8]) -> Result<usize, Refusal>
+    ensures result_value { answer_with one_value result ≡ replay_answer bundle.now (length text.old) }
     ensures text_after { text.new ≡ replay_laid bundle.now text.old }
 {
-    replay_by(HEAP, bundle, text)
+    replay_by::<Heap>(bundle, text)
 }

@@ -1,4 +1,5 @@
-// What runs of calls share (RULES, Requests, No. 14).
+// A run of calls, of anything that is called again and again (RULES, Requests, No. 14): its list, and the run.
 #![tactic(auto)]
 
 pub mod list;
+pub mod run;

@@ -1,3 +1,1 @@
-pub mod Input
-pub mod InputLaws
 pub mod Status

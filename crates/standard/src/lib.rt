@@ -3,20 +3,37 @@
 #![tactic(auto)]
 
 ghost use Rattle.std.specs.Prelude.{◌≡◌, ◌+◌, ◌≤◌, IfOk, length};
-ghost use Rattle.standard.specs.Input.{Within};
-ghost use Rattle.standard.specs.Status.{Ends};
+ghost use Rattle.standard.specs.Status.{status_number, Ends};
 
 use std::io;
-use std::io::{Cursor, Input as StandardInput, Read, Write};
+use std::io::{Cursor, Input, Read, Write};
 
-// The status of a program that did what it was asked.
-pub const DONE: u8 = 0;
+// The status that a program ends with.
+#[derive(Clone, Copy, Debug, PartialEq, Eq)]
+pub enum Status {
+    // It did what it was asked: 0.
+    Done,
+    // A bad bundle, or a refusal: 1.
+    Bad,
+    // Reading or writing failed: 2.
+    Failed,
+}
 
-// The status of a bad bundle, and of a refusal.
-pub const BAD: u8 = 1;
+impl From<Status> for u8 {
+    ghost from_gives = { λ status number. number ≡ status_number status };
 
-// The status where reading or writing failed.
-pub const FAILED: u8 = 2;
+    fn from(status: Status) -> u8 {
+        match status {
+            Status::Done => 0,
+            Status::Bad => 1,
+            Status::Failed => 2,
+        }
+    }
+}
+
+// Reading or writing failed.
+#[derive(Clone, Copy, Debug, PartialEq, Eq)]
+pub struct Failure;
 
 // Room for a portion of lines.
 pub fn text_space() -> [u8; 65536]
@@ -25,16 +42,9 @@ pub fn text_space() -> [u8; 65536]
     [0; 65536]
 }
 
-// What reading answers: how many bytes came until the end or until the room was full, or that a read failed.
-#[derive(Clone, Copy)]
-pub enum Input {
-    Bytes(usize),
-    Failed,
-}
-
 // Says in one line on standard error what the program was doing and the system's reason, which is std's text but for the number
 // behind it. Where that line can't be written either, nobody is left to tell.
-fn fail(rt: &impl Eprint, doing: &[u8], error: &io::Error) {
+fn fail(rt: &impl Eprint, doing: &[u8], error: &io::Error) -> Failure {
     let mut space = [0u8; 256];
     let mut out = Cursor::new(&mut space[..]);
     let _ = write!(out, "{error}");
@@ -45,6 +55,7 @@ fn fail(rt: &impl Eprint, doing: &[u8], error: &io::Error) {
         None => text,
     };
     let _ = rt.eprintln(format_args!("{}: {reason}", doing.escape_ascii()));
+    Failure
 }
 
 // Reads once, into the lent bytes from a place on, and answers how many bytes came.
@@ -55,48 +66,41 @@ fn read_at(reader: &mut impl Read, space: &mut [u8], at: usize) -> io::Result<us
     reader.read(&mut space[at..])
 }
 
-// Reads standard input to its end, or until the lent bytes are full.
-pub fn read_input(rt: &(impl StandardInput + Eprint), space: &mut [u8], doing: &[u8]) -> Input
-    ensures { Within result (length space.new) }
+// Reads standard input to its end, or until the lent bytes are full, and answers how many bytes came.
+pub fn read_input(
+    rt: &(impl Input + Eprint),
+    space: &mut [u8],
+    doing: &[u8],
+) -> Result<usize, Failure>
+    ensures { IfOk result (λ n. n ≤ length space.new) }
 {
+    // A loop, since no call of std fills lent bytes up to the end of the input. What was being done comes as bytes: `&str` would ask more.
     let mut reader = rt.reader();
     let mut used = 0;
     while used < space.len() {
-        match read_at(&mut reader, space, used) {
-            Ok(0) => return Input::Bytes(used),
-            Ok(n) => used += n,
-            Err(error) => {
-                fail(rt, doing, &error);
-                return Input::Failed;
-            }
+        let came = read_at(&mut reader, space, used).map_err(|error| fail(rt, doing, &error))?;
+        if came == 0 {
+            break;
         }
+        used += came;
     }
-    Input::Bytes(used)
+    Ok(used)
 }
 
-// Writes a text to standard output, and answers whether all of it went out.
-pub fn write_output(rt: &(impl Print + Eprint), text: &[u8], doing: &[u8]) -> bool {
-    match rt.write_all(text) {
-        Ok(()) => true,
-        Err(error) => {
-            fail(rt, doing, &error);
-            false
-        }
-    }
-}
-
-// Writes a portion of a text, and answers whether all of it went out.
-pub fn write_portion(rt: &(impl Print + Eprint), text: &[u8], doing: &[u8]) -> bool {
-    write_output(rt, text, doing)
+// Writes a text to standard output.
+pub fn write_output(rt: &(impl Print + Eprint), text: &[u8], doing: &[u8]) -> Result<(), Failure> {
+    rt.write_all(text).map_err(|error| fail(rt, doing, &error))
 }
 
 // Writes a program's last text, and answers the status to end with.
-pub fn ended(rt: &(impl Print + Eprint), text: &[u8], status: u8, doing: &[u8]) -> u8
-    ensures { Ends status result }
+pub fn ended(
+    rt: &(impl Print + Eprint),
+    text: &[u8],
+    status: Status,
+    doing: &[u8],
+) -> Result<Status, Failure>
+    ensures { Ends (status_number status) result }
 {
-    if write_output(rt, text, doing) {
-        status
-    } else {
-        FAILED
-    }
+    write_output(rt, text, doing)?;
+    Ok(status)
 }

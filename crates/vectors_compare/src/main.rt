@@ -4,8 +4,7 @@
 
 ghost use Rattle.std.specs.Prelude.{◌≡◌, length};
 
-use map_compare::compare::Compared;
-use vectors_text::Tally;
+use map_compare::compare::{Lent, compare};
 
 // Room for the lent bytes of one case.
 fn room() -> [u8; 1024]
@@ -14,26 +13,10 @@ fn room() -> [u8; 1024]
     [0; 1024]
 }
 
-// The numbers that a case hands over, and what it is expected to answer.
-#[derive(Clone, Copy)]
-struct Asked {
-    left: usize,
-    right: usize,
-    names: usize,
-    number: u64,
-    count: usize,
-}
-
-// Whether the comparison answers as expected, and leaves the list's bytes as expected.
-fn compares(left: &[u8], right: &[u8], list: &mut [u8], asked: Asked, after: &[u8]) -> bool {
-    match map_compare::compare::compare(left, asked.left, right, asked.right, asked.names, list) {
-        Compared::Done(count) => asked.number == 0
-            && count == asked.count
-            && check::same(list, after),
-        Compared::Refused(r) => {
-            asked.number == leaves::refusal::number(r) as u64 && check::same(list, after)
-        }
-    }
+// Whether the comparison answers as expected, how many stretches or the refusal's number, and leaves the list's bytes as expected.
+fn compares(lent: Lent<'_>, list: &mut [u8], expected: Result<usize, u64>, after: &[u8]) -> bool {
+    let answered = compare(lent, list).map_err(|refusal| refusal.number() as u64);
+    answered == expected && *list == *after
 }
 
 // What stands behind the tables of a line: `NAMES LIST = NUMBER COUNT LIST`; the count counts where the number is 0.
@@ -52,16 +35,18 @@ fn lists(
     let number = vectors_text::number_at(text, vectors_text::past_equals(text, t.next));
     let count = vectors_text::number_at(text, number.next);
     let a = vectors_text::bytes_at(text, count.next, &mut after);
-    let asked = Asked {
-        left: left_used as usize,
-        right: right_used as usize,
+    let lent = Lent {
+        left,
+        left_used: left_used as usize,
+        right,
+        right_used: right_used as usize,
         names: names.value as usize,
-        number: number.value,
-        count: count.value as usize,
     };
-    let k = t.count;
-    let j = a.count;
-    compares(left, right, &mut list[..k], asked, &after[..j])
+    let expected = match number.value {
+        0 => Ok(count.value as usize),
+        refused => Err(refused),
+    };
+    compares(lent, &mut list[..t.count], expected, &after[..a.count])
 }
 
 // A line `LEFT USED RIGHT USED`, and what stands behind it.
@@ -72,33 +57,19 @@ fn is_right(text: &[u8], at: usize) -> bool {
     let left_used = vectors_text::number_at(text, l.next);
     let r = vectors_text::bytes_at(text, left_used.next, &mut right);
     let right_used = vectors_text::number_at(text, r.next);
-    let n = l.count;
-    let m = r.count;
     lists(
         text,
         right_used.next,
-        &left[..n],
+        &left[..l.count],
         left_used.value,
-        &right[..m],
+        &right[..r.count],
         right_used.value,
     )
-}
-
-// Runs the lines of the name and prints the group's line.
-fn run(text: &[u8], name: &[u8]) {
-    let mut tally = Tally { cases: 0, wrong: 0 };
-    let mut at = vectors_text::group_from(text, 0, name);
-    while at < text.len() {
-        let right = is_right(text, vectors_text::word_end(text, at));
-        tally = vectors_text::heard(tally, text, at, right);
-        at = vectors_text::group_next(text, at, name);
-    }
-    vectors_text::print_group(name, tally);
 }
 
 fn main() {
     let mut data = vectors_text::data_room();
     let n = io::read_full(0, &mut data);
     let text = &data[..n];
-    run(text, b"compare");
+    vectors_text::run_group(text, b"compare", |at| is_right(text, at));
 }

@@ -4,8 +4,8 @@
 
 ghost use Rattle.std.specs.Prelude.{◌≡◌, length};
 
+use leaves::refusal::Refusal;
 use map_explain::explain::{Explained, Named};
-use vectors_text::Tally;
 
 // Room for the lent bytes of one case.
 fn room() -> [u8; 256]
@@ -16,7 +16,7 @@ fn room() -> [u8; 256]
 
 // A number of 32 bits; a greater one becomes 0.
 fn narrow(n: u64) -> u32 {
-    if n <= 4294967295 { n as u32 } else { 0 }
+    u32::try_from(n).unwrap_or(0)
 }
 
 // What a case asks.
@@ -71,23 +71,28 @@ fn is_expected(x: Named, e: Expected) -> bool {
     x.index == e.index && x.start == e.start && x.end == e.end && x.symbol as u64 == e.symbol
 }
 
+// Whether a reason is the expected one, with these intervals.
+fn is_reason(explained: Explained, reason: u64, first: Expected, second: Expected) -> bool {
+    match explained {
+        Explained::In(x) => reason == 1 && is_expected(x, first),
+        Explained::Unknown => reason == 2,
+        Explained::Before(x) => reason == 3 && is_expected(x, first),
+        Explained::After(x) => reason == 4 && is_expected(x, first),
+        Explained::Between(x, y) => reason == 5 && is_expected(x, first) && is_expected(y, second),
+    }
+}
+
 // Whether an explanation is the expected number, reason and intervals.
 fn is_told(
-    explained: Explained,
+    explained: Result<Explained, Refusal>,
     number: u64,
     reason: u64,
     first: Expected,
     second: Expected,
 ) -> bool {
     match explained {
-        Explained::In(x) => number == 0 && reason == 1 && is_expected(x, first),
-        Explained::Unknown => number == 0 && reason == 2,
-        Explained::Before(x) => number == 0 && reason == 3 && is_expected(x, first),
-        Explained::After(x) => number == 0 && reason == 4 && is_expected(x, first),
-        Explained::Between(x, y) => {
-            number == 0 && reason == 5 && is_expected(x, first) && is_expected(y, second)
-        }
-        Explained::Refused(r) => number == leaves::refusal::number(r) as u64,
+        Ok(explained) => number == 0 && is_reason(explained, reason, first, second),
+        Err(refusal) => number == u64::from(refusal.number()),
     }
 }
 
@@ -101,9 +106,8 @@ fn is_right(text: &[u8], at: usize) -> bool {
     let reason = vectors_text::number_at(text, number.next);
     let first = expected_at(text, reason.next);
     let second = expected_at(text, first.next);
-    let n = t.count;
     let explained = map_explain::explain::explain(
-        &table[..n],
+        &table[..t.count],
         q.used,
         q.names,
         q.instrument,
@@ -112,21 +116,9 @@ fn is_right(text: &[u8], at: usize) -> bool {
     is_told(explained, number.value, reason.value, first, second)
 }
 
-// Runs the lines of the name and prints the group's line.
-fn run(text: &[u8], name: &[u8]) {
-    let mut tally = Tally { cases: 0, wrong: 0 };
-    let mut at = vectors_text::group_from(text, 0, name);
-    while at < text.len() {
-        let right = is_right(text, vectors_text::word_end(text, at));
-        tally = vectors_text::heard(tally, text, at, right);
-        at = vectors_text::group_next(text, at, name);
-    }
-    vectors_text::print_group(name, tally);
-}
-
 fn main() {
     let mut data = vectors_text::data_room();
     let n = io::read_full(0, &mut data);
     let text = &data[..n];
-    run(text, b"explain");
+    vectors_text::run_group(text, b"explain", |at| is_right(text, at));
 }

@@ -9,6 +9,7 @@
 mod calls;
 
 use crate::calls::call_line;
+use feed_run::run::State;
 use records::merge::{empty_bytes, empty_numbers};
 use vectors_merge::few_bytes;
 use vectors_portions::lines::window_space;
@@ -21,21 +22,17 @@ fn run(text: &[u8], marks: &mut [u8]) {
     let mut heap = empty_bytes();
     let mut spans = empty_numbers();
     let mut window = window_space();
+    let mut state = State {
+        held: 0,
+        marks,
+        times: &mut times,
+        places: &mut places,
+        heads: &mut heads,
+        heap: &mut heap,
+    };
     let mut at = 0;
-    let mut held = 0;
     while at < text.len() {
-        held = call_line(
-            text,
-            at,
-            held,
-            marks,
-            &mut times,
-            &mut places,
-            &mut heads,
-            &mut heap,
-            &mut spans,
-            &mut window,
-        );
+        call_line(text, at, &mut state, &mut spans, &mut window);
         at = vectors_text::next_line(text, at);
     }
 }

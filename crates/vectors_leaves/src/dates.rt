@@ -1,50 +1,18 @@
 // Cases of dates: a month's first and last date with their days, and single dates.
-ghost use Rattle.std.specs.Prelude.{◌<◌};
-
-use leaves_days::days::{Date, Day, Moment};
+use leaves::refusal::Refusal;
+use leaves_days::days::{date_of, day_of, day_start};
 use vectors_text::narrow;
-
-// Above every day and date: a refusal's number is added to it.
-const REFUSED: u64 = 1000000000000;
-
-const NO_DATE: u64 = 1000000000011;
 
 const DAY_NANOSECONDS: u64 = 86400000000000;
 
-fn wide(n: u32) -> u64
-    ensures { result < 4294967296 }
-{
-    n as u64
-}
-
-// The day of a date, or the refusal's number above REFUSED.
-fn day_of(date: u64) -> u64 {
-    match leaves_days::days::day_of(narrow(date)) {
-        Day::Number(n) => wide(n),
-        Day::Refused(r) => REFUSED + wide(leaves::refusal::number(r)),
-    }
-}
-
-// The date of a day, in the same form.
-fn date_of(day: u64) -> u64 {
-    match leaves_days::days::date_of(narrow(day)) {
-        Date::Written(n) => wide(n),
-        Date::Refused(r) => REFUSED + wide(leaves::refusal::number(r)),
-    }
-}
-
 // Whether a date and a day belong together, both ways, and the day starts where it should.
-fn are_one(date: u64, day: u64) -> bool {
-    if day_of(date) != day {
-        return false;
-    }
-    if date_of(day) != date {
-        return false;
-    }
-    match leaves_days::days::day_start(narrow(day)) {
-        Moment::Nanoseconds(n) => n / DAY_NANOSECONDS == day && n % DAY_NANOSECONDS == 0,
-        Moment::Refused(_) => false,
-    }
+fn are_one(date: u32, day: u32) -> bool {
+    day_of(date) == Ok(day)
+        && date_of(day) == Ok(date)
+        && match day_start(day) {
+            Ok(start) => start / DAY_NANOSECONDS == day as u64 && start % DAY_NANOSECONDS == 0,
+            Err(_) => false,
+        }
 }
 
 // A line `YYYYMM FIRST LAST`.
@@ -52,24 +20,15 @@ pub fn month(text: &[u8], at: usize) -> bool {
     let month = vectors_text::number_at(text, at);
     let first = vectors_text::number_at(text, month.next);
     let last = vectors_text::number_at(text, first.next);
-    if 255412 < month.value {
+    if 255412 < month.value || 213503 < last.value || last.value < first.value {
         return false;
     }
-    if 213503 < last.value {
-        return false;
-    }
-    if last.value < first.value {
-        return false;
-    }
-    let base = month.value * 100;
-    let days = last.value - first.value + 1;
-    if !are_one(base + 1, first.value) {
-        return false;
-    }
-    if !are_one(base + days, last.value) {
-        return false;
-    }
-    day_of(base) == NO_DATE && day_of(base + days + 1) == NO_DATE
+    let base = month.value as u32 * 100;
+    let days = (last.value - first.value + 1) as u32;
+    are_one(base + 1, first.value as u32)
+        && are_one(base + days, last.value as u32)
+        && day_of(base) == Err(Refusal::NoDate)
+        && day_of(base + days + 1) == Err(Refusal::NoDate)
 }
 
 // A line `YYYYMMDD DAY`, the day a `-` where the date is refused.
@@ -77,7 +36,10 @@ pub fn date(text: &[u8], at: usize) -> bool {
     let date = vectors_text::number_at(text, at);
     let place = vectors_text::past_blanks(text, date.next);
     if vectors_text::byte_at(text, place) == b'-' {
-        return day_of(date.value) == NO_DATE;
+        return day_of(narrow(date.value)) == Err(Refusal::NoDate);
     }
-    are_one(date.value, vectors_text::number_at(text, place).value)
+    are_one(
+        narrow(date.value),
+        narrow(vectors_text::number_at(text, place).value),
+    )
 }

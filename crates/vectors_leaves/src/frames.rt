@@ -1,19 +1,8 @@
 // Cases of frames: what stands at a place of a stream, and what exactly one record asks for.
 ghost use Rattle.std.specs.Prelude.{◌≡◌, length};
 
-use leaves::frame::{Frame, Mapping};
-use leaves::refusal::Refusal;
-
-// An answer in numbers: the rules' number and the values that come with it, 0 where there are fewer than five.
-#[derive(Clone, Copy)]
-struct Numbers {
-    number: u64,
-    first: u64,
-    second: u64,
-    third: u64,
-    fourth: u64,
-    fifth: u64,
-}
+use leaves::frame::{Head, Mapping};
+use leaves::refusal::{Reason, Refusal};
 
 // Room for the bytes of one case.
 fn room() -> [u8; 2048]
@@ -22,106 +11,61 @@ fn room() -> [u8; 2048]
     [0; 2048]
 }
 
-fn in_numbers(
-    number: u64,
-    first: u64,
-    second: u64,
-    third: u64,
-    fourth: u64,
-    fifth: u64,
-) -> Numbers {
-    Numbers {
-        number,
-        first,
-        second,
-        third,
-        fourth,
-        fifth,
-    }
-}
-
-fn of_frame(frame: Frame) -> Numbers {
+// A frame in numbers: the rules' number and the values that come with it, 0 where there are fewer than five.
+fn of_frame(frame: Result<Option<Head>, Reason>) -> [u64; 6] {
     match frame {
-        Frame::Record {
-            length,
-            kind,
-            instrument,
-            time,
-        } => in_numbers(0, length as u64, kind as u64, instrument as u64, time, 0),
-        Frame::End => in_numbers(0, 0, 0, 0, 0, 0),
-        Frame::Damaged(reason) => in_numbers(13, reason as u64, 0, 0, 0, 0),
-    }
-}
-
-fn of_refusal(refusal: Refusal) -> Numbers {
-    match refusal {
-        Refusal::Damaged {
-            stream,
-            place,
-            reason,
-        } => in_numbers(13, stream, place, reason, 0, 0),
-        _ => in_numbers(0, 1, 1, 1, 1, 1),
-    }
-}
-
-fn of_mapping(mapping: Mapping) -> Numbers {
-    match mapping {
-        Mapping::Other => in_numbers(0, 0, 0, 0, 0, 0),
-        Mapping::Symbol {
-            instrument,
-            start,
-            end,
-            name_from,
-            name_to,
-        } => in_numbers(
+        Ok(Some(head)) => [
             0,
-            instrument as u64,
-            start,
-            end,
-            name_from as u64,
-            name_to as u64,
-        ),
-        Mapping::Refused(refusal) => of_refusal(refusal),
+            head.length as u64,
+            head.kind as u64,
+            head.instrument as u64,
+            head.time,
+            0,
+        ],
+        Ok(None) => [0; 6],
+        Err(reason) => [13, reason.number(), 0, 0, 0, 0],
+    }
+}
+
+// What a record asks for, in the same form. No other refusal than damage is one that is expected.
+fn of_mapping(mapping: Result<Option<Mapping>, Refusal>) -> [u64; 6] {
+    match mapping {
+        Ok(Some(mapping)) => [
+            0,
+            mapping.instrument as u64,
+            mapping.start,
+            mapping.end,
+            mapping.name_from as u64,
+            mapping.name_to as u64,
+        ],
+        Ok(None) => [0; 6],
+        Err(
+            Refusal::Damaged {
+                stream,
+                place,
+                reason,
+            },
+        ) => [13, stream, place, reason.number(), 0, 0],
+        Err(_) => [0, 1, 1, 1, 1, 1],
     }
 }
 
 // The answer that a line expects, and the place after it.
 #[derive(Clone, Copy)]
 struct Expected {
-    answer: Numbers,
+    answer: [u64; 6],
     next: usize,
 }
 
 fn expected_at(text: &[u8], at: usize) -> Expected {
-    let number = vectors_text::number_at(text, at);
-    let first = vectors_text::number_at(text, number.next);
-    let second = vectors_text::number_at(text, first.next);
-    let third = vectors_text::number_at(text, second.next);
-    let fourth = vectors_text::number_at(text, third.next);
-    let fifth = vectors_text::number_at(text, fourth.next);
-    let answer = in_numbers(
-        number.value,
-        first.value,
-        second.value,
-        third.value,
-        fourth.value,
-        fifth.value,
-    );
-    Expected {
-        answer,
-        next: fifth.next,
+    let mut answer = [0; 6];
+    let mut next = at;
+    for number in answer.iter_mut() {
+        let token = vectors_text::number_at(text, next);
+        *number = token.value;
+        next = token.next;
     }
-}
-
-fn are_same(x: Numbers, y: Numbers) -> bool {
-    if x.number != y.number {
-        return false;
-    }
-    x.first == y.first
-        && x.second == y.second
-        && x.third == y.third
-        && x.fourth == y.fourth
-        && x.fifth == y.fifth
+    Expected { answer, next }
 }
 
 // A line `PLACE NUMBER VALUES BYTES`.
@@ -130,11 +74,7 @@ pub fn frame(text: &[u8], at: usize) -> bool {
     let expected = expected_at(text, place.next);
     let mut bytes = room();
     let word = vectors_text::bytes_at(text, expected.next, &mut bytes);
-    let n = word.count;
-    are_same(
-        of_frame(leaves::frame::frame_at(&bytes[..n], place.value)),
-        expected.answer,
-    )
+    of_frame(leaves::frame::frame_at(&bytes[..word.count], place.value)) == expected.answer
 }
 
 // A line `NUMBER VALUES BYTES`.
@@ -142,9 +82,5 @@ pub fn mapping(text: &[u8], at: usize) -> bool {
     let expected = expected_at(text, at);
     let mut bytes = room();
     let word = vectors_text::bytes_at(text, expected.next, &mut bytes);
-    let n = word.count;
-    are_same(
-        of_mapping(leaves::frame::read_mapping(&bytes[..n])),
-        expected.answer,
-    )
+    of_mapping(leaves::frame::read_mapping(&bytes[..word.count])) == expected.answer
 }

@@ -9,51 +9,34 @@ mod texts;
 
 use vectors_text::Tally;
 
-// Whether the case that a line holds is answered as expected. A line of no kind is not.
-fn is_right(text: &[u8], at: usize, kind: u8) -> bool {
-    if kind == b'm' {
-        return dates::month(text, at);
-    }
-    if kind == b'd' {
-        return dates::date(text, at);
-    }
-    if kind == b'u' {
-        return texts::utf8(text, at);
-    }
-    if kind == b'n' {
-        return texts::number(text, at);
-    }
-    if kind == b'f' {
-        return frames::frame(text, at);
-    }
-    if kind == b'r' {
-        return frames::mapping(text, at);
-    }
-    false
-}
-
-// Runs the lines of one kind and prints the group's line.
-fn run(name: &[u8], text: &[u8], kind: u8) {
-    let mut tally = Tally { cases: 0, wrong: 0 };
+// Runs the lines of one kind, each from the place behind its kind on, and prints the group's line.
+fn run<F: Fn(usize) -> bool>(name: &[u8], text: &[u8], kind: u8, is_right: F)
+    requires { F.IsAlwaysCallable is_right }
+{
+    let mut tally = Tally::default();
     let mut at = 0;
     while at < text.len() {
         if text[at] == kind {
-            let right = is_right(text, at + 1, kind);
-            tally = vectors_text::heard(tally, text, at, right);
+            tally.hear(text, at, is_right(at + 1));
         }
         at = vectors_text::next_line(text, at);
     }
-    vectors_text::print_group(name, tally);
+    tally.print(name);
 }
 
 fn main() {
     let mut data = vectors_text::data_room();
     let n = io::read_full(0, &mut data);
     let text = &data[..n];
-    run(b"months", text, b'm');
-    run(b"dates", text, b'd');
-    run(b"UTF-8", text, b'u');
-    run(b"number texts", text, b'n');
-    run(b"frames", text, b'f');
-    run(b"single records", text, b'r');
+    run(b"months", text, b'm', |at| dates::month(text, at));
+    run(b"dates", text, b'd', |at| dates::date(text, at));
+    run(b"UTF-8", text, b'u', |at| texts::utf8(text, at));
+    run(b"number texts", text, b'n', |at| texts::number(text, at));
+    run(b"frames", text, b'f', |at| frames::frame(text, at));
+    run(
+        b"single records",
+        text,
+        b'r',
+        |at| frames::mapping(text, at),
+    );
 }

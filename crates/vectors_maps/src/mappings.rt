@@ -5,7 +5,7 @@ ghost use Rattle.io.specs.Counts.{IsPrefixLen};
 
 use crate::tables::room;
 use leaves::refusal::Refusal;
-use map_record::mapping::Recorded;
+use leaves_names::names::{NameList, NameRoom};
 use vectors_text::narrow;
 
 // The number that has a stream, a place and a reason behind it.
@@ -33,24 +33,14 @@ fn ends_at(text: &[u8], at: usize, out: &mut [u32]) -> Ends
     ensures { IsPrefixLen result.count out.new }
 {
     let many = vectors_text::number_at(text, at);
-    let mut place = many.next;
-    let mut i = 0;
-    while i < out.len() {
-        if many.value <= i as u64 {
-            return Ends {
-                count: i,
-                next: place,
-            };
-        }
-        let one = vectors_text::number_at(text, place);
-        out[i] = narrow(one.value);
-        place = one.next;
-        i += 1;
+    let count = out.len().min(many.value as usize);
+    let mut next = many.next;
+    for end in &mut out[..count] {
+        let one = vectors_text::number_at(text, next);
+        *end = narrow(one.value);
+        next = one.next;
     }
-    Ends {
-        count: i,
-        next: place,
-    }
+    Ends { count, next }
 }
 
 // Whether these ends stand at a place, behind their count.
@@ -60,14 +50,12 @@ fn are_ends(text: &[u8], at: usize, ends: &[u32]) -> bool {
         return false;
     }
     let mut place = many.next;
-    let mut i = 0;
-    while i < ends.len() {
+    for end in ends {
         let one = vectors_text::number_at(text, place);
-        if narrow(one.value) != ends[i] {
+        if narrow(one.value) != *end {
             return false;
         }
         place = one.next;
-        i += 1;
     }
     true
 }
@@ -93,51 +81,38 @@ fn in_use_at(text: &[u8], at: usize) -> InUse {
     }
 }
 
-// What a call answers: the rules' number, the reason where it is 13, and what is in use then.
+// What a call answers: the rules' number, the reason where it is 13, and what is in use of the table then.
 #[derive(Clone, Copy)]
 struct Said {
     number: u64,
     reason: u64,
     used: usize,
-    names: usize,
-    name_bytes: usize,
 }
 
 // The reason of damage, in stream 0 at place 0.
 fn reason_of(refusal: Refusal) -> u64 {
-    if let Refusal::Damaged {
-        stream,
-        place,
-        reason,
-    } = refusal
-    {
-        if stream == 0 && place == 0 {
-            return reason;
-        }
+    match refusal {
+        Refusal::Damaged {
+            stream: 0,
+            place: 0,
+            reason,
+        } => reason.number(),
+        _ => NO_REASON,
     }
-    NO_REASON
 }
 
 // What a call answers; a refusal leaves what is in use.
-fn answer_of(recorded: Recorded, before: InUse) -> Said {
+fn answer_of(recorded: Result<usize, Refusal>, before: usize) -> Said {
     match recorded {
-        Recorded::Done {
-            used,
-            names,
-            name_bytes,
-        } => Said {
+        Ok(used) => Said {
             number: 0,
             reason: NO_REASON,
             used,
-            names,
-            name_bytes,
         },
-        Recorded::Refused(r) => Said {
-            number: leaves::refusal::number(r) as u64,
-            reason: reason_of(r),
-            used: before.used,
-            names: before.names,
-            name_bytes: before.name_bytes,
+        Err(refusal) => Said {
+            number: u64::from(refusal.number()),
+            reason: reason_of(refusal),
+            used: before,
         },
     }
 }
@@ -165,40 +140,26 @@ fn past_number(text: &[u8], at: usize, said: Said) -> usize {
 fn past_bytes(text: &[u8], at: usize, bytes: &[u8]) -> usize {
     let mut expected = room();
     let given = vectors_text::bytes_at(text, at, &mut expected);
-    let n = given.count;
-    if check::same(bytes, &expected[..n]) {
+    if bytes == &expected[..given.count] {
         given.next
     } else {
         0
     }
 }
 
-// Whether a name list with these numbers in use is expected at a place.
-fn is_list(text: &[u8], at: usize, said: Said, bytes: &[u8], ends: &[u32]) -> bool {
+// Whether a name list is expected at a place.
+fn is_list(text: &[u8], at: usize, list: NameList<'_>) -> bool {
     let names = vectors_text::number_at(text, at);
-    if names.value as usize != said.names {
-        return false;
-    }
     let name_bytes = vectors_text::number_at(text, names.next);
-    if name_bytes.value as usize != said.name_bytes {
+    if names.value as usize != list.names || name_bytes.value as usize != list.name_bytes {
         return false;
     }
-    let behind = past_bytes(text, name_bytes.next, bytes);
-    if behind == 0 {
-        return false;
-    }
-    are_ends(text, behind, ends)
+    let behind = past_bytes(text, name_bytes.next, list.bytes);
+    behind != 0 && are_ends(text, behind, list.ends)
 }
 
 // Whether the answer and what the call left are as expected at a place.
-fn is_expected(
-    text: &[u8],
-    at: usize,
-    said: Said,
-    table: &[u8],
-    bytes: &[u8],
-    ends: &[u32],
-) -> bool {
+fn is_expected(text: &[u8], at: usize, said: Said, table: &[u8], list: NameList<'_>) -> bool {
     let from = past_number(text, at, said);
     if from == 0 {
         return false;
@@ -208,75 +169,46 @@ fn is_expected(
         return false;
     }
     let behind = past_bytes(text, used.next, table);
-    if behind == 0 {
-        return false;
-    }
-    is_list(text, behind, said, bytes, ends)
+    behind != 0 && is_list(text, behind, list)
 }
 
-// What a mapping call answers on a table over time, or on one at a point in time.
-fn called(
-    over_time: bool,
-    table: &mut [u8],
-    bytes: &mut [u8],
-    ends: &mut [u32],
-    given: InUse,
-    rec: &[u8],
-) -> Recorded {
-    let used = given.used;
-    let names = given.names;
-    let name_bytes = given.name_bytes;
-    if over_time {
-        return map_record::mapping::on_record(table, used, bytes, ends, names, name_bytes, rec);
-    }
-    map_record::mapping::on_record_point(table, used, bytes, ends, names, name_bytes, rec)
-}
-
-// Whether a call answers and leaves what is expected at a place.
-fn records(
+// What follows the table of a line, of a mapping call, where the table is this one.
+fn on_table<F: Fn(&mut [u8], usize, &mut NameRoom<'_>, &[u8]) -> Result<usize, Refusal>>(
     text: &[u8],
     at: usize,
-    over_time: bool,
+    call: F,
     table: &mut [u8],
-    bytes: &mut [u8],
-    ends: &mut [u32],
-    given: InUse,
-    rec: &[u8],
-) -> bool {
-    let recorded = called(over_time, table, bytes, ends, given, rec);
-    let answer = answer_of(recorded, given);
-    is_expected(text, at, answer, table, bytes, ends)
-}
-
-// What follows the table of a line, where the table is this one.
-fn on_table(text: &[u8], at: usize, over_time: bool, table: &mut [u8]) -> bool {
+) -> bool
+    requires { F.IsAlwaysCallable call }
+{
     let mut bytes = room();
     let mut ends = places();
     let mut rec = room();
     let given = in_use_at(text, at);
     let names = vectors_text::bytes_at(text, given.next, &mut bytes);
-    let m = names.count;
     let lie = ends_at(text, names.next, &mut ends);
-    let k = lie.count;
     let last = vectors_text::bytes_at(text, lie.next, &mut rec);
-    let l = last.count;
     let expected = vectors_text::past_equals(text, last.next);
-    records(
-        text,
-        expected,
-        over_time,
-        table,
-        &mut bytes[..m],
-        &mut ends[..k],
-        given,
-        &rec[..l],
-    )
+    let mut list = NameRoom {
+        bytes: &mut bytes[..names.count],
+        ends: &mut ends[..lie.count],
+        names: given.names,
+        name_bytes: given.name_bytes,
+    };
+    let recorded = call(table, given.used, &mut list, &rec[..last.count]);
+    let said = answer_of(recorded, given.used);
+    is_expected(text, expected, said, table, list.list())
 }
 
-// A line `TABLE USED NAMES NAME_BYTES BYTES ENDS RECORD = NUMBER USED TABLE NAMES NAME_BYTES BYTES ENDS`.
-pub fn on_record(text: &[u8], at: usize, over_time: bool) -> bool {
+// A line `TABLE USED NAMES NAME_BYTES BYTES ENDS RECORD = NUMBER USED TABLE NAMES NAME_BYTES BYTES ENDS`, of a mapping call.
+pub fn on_record<F: Fn(&mut [u8], usize, &mut NameRoom<'_>, &[u8]) -> Result<usize, Refusal>>(
+    text: &[u8],
+    at: usize,
+    call: F,
+) -> bool
+    requires { F.IsAlwaysCallable call }
+{
     let mut table = room();
     let lent = vectors_text::bytes_at(text, at, &mut table);
-    let n = lent.count;
-    on_table(text, lent.next, over_time, &mut table[..n])
+    on_table(text, lent.next, call, &mut table[..lent.count])
 }

@@ -6,9 +6,12 @@ use vectors_text::narrow;
 pub fn get(text: &[u8], at: usize) -> bool {
     let mut table = room();
     let given = vectors_text::bytes_at(text, at, &mut table);
-    let n = given.count;
     let used = vectors_text::number_at(text, given.next);
     let instrument = vectors_text::number_at(text, used.next);
-    let found = map_point::points::get(&table[..n], used.value as usize, narrow(instrument.value));
+    let found = map_point::points::get(
+        &table[..given.count],
+        used.value as usize,
+        narrow(instrument.value),
+    );
     is_found(found, expected_at(text, instrument.next))
 }

@@ -1,10 +1,10 @@
 // Cases of check, of either table, and of insert and get_for_ts, over time.
 ghost use Rattle.std.specs.Prelude.{◌≡◌, length};
 
-use map_look::lookup::{Found, Looked};
+use leaves::refusal::Refusal;
+use map_look::cursor::follow_once;
+use map_look::lookup::{Looked, get_for_ts as look_up};
 use map_table::interval::Interval;
-use map_table::table::Checked;
-use map_time::insert::Inserted;
 use vectors_text::narrow;
 
 // Room for the lent bytes of one case.
@@ -33,24 +33,26 @@ fn checking_at(text: &[u8], at: usize) -> Checking {
     }
 }
 
-// What the check of a table over time answers, or of one at a point in time.
-fn checked(table: &[u8], over_time: bool, asked: Checking) -> Checked {
-    if over_time {
-        return map_table::table::check(table, asked.used, asked.names);
+// The number of an answer: 0 where it is done, else the refusal's.
+pub fn number_of<T>(answer: &Result<T, Refusal>) -> u64 {
+    match answer {
+        Ok(_) => 0,
+        Err(refusal) => u64::from(refusal.number()),
     }
-    map_point::points::check_points(table, asked.used, asked.names)
 }
 
-// A line `TABLE USED NAMES = NUMBER`.
-pub fn check(text: &[u8], at: usize, over_time: bool) -> bool {
+// A line `TABLE USED NAMES = NUMBER`, of a check.
+pub fn check<F: Fn(&[u8], usize, usize) -> Result<(), Refusal>>(
+    text: &[u8],
+    at: usize,
+    check: F,
+) -> bool
+    requires { F.IsAlwaysCallable check }
+{
     let mut table = room();
     let given = vectors_text::bytes_at(text, at, &mut table);
-    let n = given.count;
     let asked = checking_at(text, given.next);
-    match checked(&table[..n], over_time, asked) {
-        Checked::WellFormed => asked.number == 0,
-        Checked::Refused(r) => asked.number == leaves::refusal::number(r) as u64,
-    }
+    number_of(&check(&table[..given.count], asked.used, asked.names)) == asked.number
 }
 
 // An insert, and what it is expected to answer.
@@ -93,22 +95,11 @@ fn asked_at(text: &[u8], at: usize) -> Asked {
     }
 }
 
-// Whether an insert answered as expected.
-fn is_inserted(inserted: Inserted, asked: Asked) -> bool {
-    match inserted {
-        Inserted::Done(used) => asked.number == 0 && used == asked.used_after,
-        Inserted::Refused(r) => asked.number == leaves::refusal::number(r) as u64,
-    }
-}
-
 // Whether the insert answers as expected, and leaves the lent bytes as expected.
 fn inserts(table: &mut [u8], asked: Asked, after: &[u8]) -> bool {
-    let interval = asked.interval;
-    let inserted = map_time::insert::insert(table, asked.used, asked.names, interval);
-    if !is_inserted(inserted, asked) {
-        return false;
-    }
-    check::same(table, after)
+    let inserted = map_time::insert::insert(table, asked.used, asked.names, asked.interval);
+    let used = inserted.unwrap_or(asked.used_after);
+    number_of(&inserted) == asked.number && used == asked.used_after && &*table == after
 }
 
 // A line `TABLE USED NAMES INSTRUMENT START END SYMBOL = NUMBER USED TABLE`.
@@ -116,11 +107,9 @@ pub fn insert(text: &[u8], at: usize) -> bool {
     let mut before = room();
     let mut after = room();
     let given = vectors_text::bytes_at(text, at, &mut before);
-    let n = given.count;
     let asked = asked_at(text, given.next);
     let expected = vectors_text::bytes_at(text, asked.next, &mut after);
-    let m = expected.count;
-    inserts(&mut before[..n], asked, &after[..m])
+    inserts(&mut before[..given.count], asked, &after[..expected.count])
 }
 
 // What a lookup is expected to find, and the place after it.
@@ -145,13 +134,14 @@ pub fn expected_at(text: &[u8], at: usize) -> Expected {
 }
 
 // Whether a lookup found what is expected.
-pub fn is_found(found: Found, expected: Expected) -> bool {
+pub fn is_found(found: Result<Option<u32>, Refusal>, expected: Expected) -> bool {
+    if number_of(&found) != expected.number {
+        return false;
+    }
     match found {
-        Found::Symbol(s) => {
-            expected.number == 0 && expected.found == 1 && expected.symbol == s as u64
-        }
-        Found::Nothing => expected.number == 0 && expected.found == 0,
-        Found::Refused(r) => expected.number == leaves::refusal::number(r) as u64,
+        Ok(Some(symbol)) => expected.found == 1 && expected.symbol == u64::from(symbol),
+        Ok(None) => expected.found == 0,
+        Err(_) => true,
     }
 }
 
@@ -185,24 +175,19 @@ fn lookup_at(text: &[u8], at: usize) -> Lookup {
 
 // Whether a lookup answered as expected.
 fn is_expected(looked: Looked, asked: Lookup) -> bool {
-    if looked.hint != asked.hint_after {
-        return false;
-    }
-    let found = looked.found;
-    let expected = asked.expected;
-    is_found(found, expected)
+    looked.hint == asked.hint_after && is_found(looked.found, asked.expected)
 }
 
 // Whether the lookup answers as expected, and so a cursor with the same hint.
 fn looks(table: &[u8], asked: Lookup) -> bool {
-    let looked = map_look::lookup::get_for_ts(
+    let looked = look_up(
         table,
         asked.used,
         asked.instrument,
         asked.moment,
         asked.hint,
     );
-    let followed = map_look::cursor::follow_once(
+    let followed = follow_once(
         table,
         asked.used,
         asked.instrument,
@@ -216,6 +201,5 @@ fn looks(table: &[u8], asked: Lookup) -> bool {
 pub fn get_for_ts(text: &[u8], at: usize) -> bool {
     let mut table = room();
     let given = vectors_text::bytes_at(text, at, &mut table);
-    let n = given.count;
-    looks(&table[..n], lookup_at(text, given.next))
+    looks(&table[..given.count], lookup_at(text, given.next))
 }

@@ -7,10 +7,10 @@ ghost use Rattle.std.specs.Prelude.{◌≡◌, ◌<◌, length};
 ghost use Rattle.io.specs.Counts.{IsPrefixLen};
 
 use leaves::refusal::Refusal;
-use records::merge::{Opening, Turn};
+use records::merge::Record;
 
 // Numbers read from the text: how many, and the place after them.
-#[derive(Clone, Copy)]
+#[derive(Clone, Copy, Debug, PartialEq, Eq)]
 pub struct Numbers {
     pub count: usize,
     pub next: usize,
@@ -42,39 +42,23 @@ pub fn read_numbers(text: &[u8], at: usize, out: &mut [u64]) -> Numbers
     ensures { IsPrefixLen result.count out.new }
 {
     let many = vectors_text::number_at(text, at);
-    let mut place = many.next;
-    let mut i = 0;
-    while i < out.len() {
-        if many.value <= i as u64 {
-            return Numbers {
-                count: i,
-                next: place,
-            };
-        }
-        let one = vectors_text::number_at(text, place);
-        out[i] = one.value;
-        place = one.next;
-        i += 1;
+    let count = many.value.min(out.len() as u64) as usize;
+    let mut next = many.next;
+    for number in &mut out[..count] {
+        let one = vectors_text::number_at(text, next);
+        *number = one.value;
+        next = one.next;
     }
-    Numbers {
-        count: i,
-        next: place,
-    }
+    Numbers { count, next }
 }
 
-// So many of these bytes, or none where there are fewer.
-pub fn bytes_of(many: u64, bytes: &[u8]) -> usize
-    ensures { IsPrefixLen result bytes.now }
-{
-    if many <= bytes.len() as u64 {
-        many as usize
-    } else {
-        0
-    }
+// So many of a list, or none where it has fewer.
+pub fn front<T>(many: u64, list: &[T]) -> &[T] {
+    list.get(..many as usize).unwrap_or(&list[..0])
 }
 
 // A case as it was read: how many numbers of its two lists and how many bytes.
-#[derive(Clone, Copy)]
+#[derive(Clone, Copy, Debug, PartialEq, Eq)]
 pub struct Case {
     pub first: usize,
     pub second: usize,
@@ -116,20 +100,20 @@ pub fn print_number(n: u64) {
     io::print_decimal(1, n);
 }
 
-fn print_record(stream: u64, place: u64, length: u64, kind: u64, instrument: u64, time: u64) {
+fn print_record(record: Record) {
     io::write_all(1, b"record");
-    print_number(stream);
-    print_number(place);
-    print_number(length);
-    print_number(kind);
-    print_number(instrument);
-    print_number(time);
+    print_number(record.stream);
+    print_number(record.place);
+    print_number(record.length as u64);
+    print_number(record.kind as u64);
+    print_number(record.instrument as u64);
+    print_number(record.time);
     io::write_all(1, b"\n");
 }
 
 // Prints a refusal's number, and of damage stream, place and reason.
 pub fn print_refusal(refusal: Refusal) {
-    io::print_decimal(1, leaves::refusal::number(refusal) as u64);
+    io::print_decimal(1, refusal.number() as u64);
     if let Refusal::Damaged {
         stream,
         place,
@@ -138,69 +122,33 @@ pub fn print_refusal(refusal: Refusal) {
     {
         print_number(stream);
         print_number(place);
-        print_number(reason);
+        print_number(reason.number());
     }
     io::write_all(1, b"\n");
 }
 
 // Prints an answer, and answers whether it is the end.
-pub fn print_turn(answer: Turn) -> bool {
+pub fn print_turn(answer: Result<Option<Record>, Refusal>) -> bool {
     match answer {
-        Turn::Record {
-            stream,
-            place,
-            length,
-            kind,
-            instrument,
-            time,
-        } => {
-            print_record(
-                stream,
-                place,
-                length as u64,
-                kind as u64,
-                instrument as u64,
-                time,
-            );
-            false
-        }
-        Turn::End => {
+        Ok(Some(record)) => print_record(record),
+        Ok(None) => {
             io::write_all(1, b"end\n");
-            true
         }
-        Turn::Refused(refusal) => {
-            print_refusal(refusal);
-            false
-        }
+        Err(refusal) => print_refusal(refusal),
     }
+    matches!(answer, Ok(None))
 }
 
 // No case has more calls.
 const MOST_CALLS: u64 = 1000;
 
-// How a merge begins: its streams, how many of them the heap holds, and how many calls may come.
-#[derive(Clone, Copy)]
-pub struct Start {
-    pub streams: usize,
-    pub held: usize,
-    pub calls: u64,
-}
-
-// The start after an opening; a refusal is printed, and no call comes.
-pub fn start_of(opening: Opening) -> Start {
+// How many calls may come after an opening; a refusal is printed, and none comes.
+pub fn calls_after(opening: Result<usize, Refusal>) -> u64 {
     match opening {
-        Opening::Opened { streams, held } => Start {
-            streams,
-            held,
-            calls: MOST_CALLS,
-        },
-        Opening::Refused(refusal) => {
+        Ok(_) => MOST_CALLS,
+        Err(refusal) => {
             print_refusal(refusal);
-            Start {
-                streams: 0,
-                held: 0,
-                calls: 0,
-            }
+            0
         }
     }
 }

@@ -4,25 +4,14 @@
 
 mod calls;
 
-use vectors_text::Tally;
-
-// Runs the lines of one kind and prints the group's line.
-fn run(text: &[u8], name: &[u8]) {
-    let mut tally = Tally { cases: 0, wrong: 0 };
-    let mut at = vectors_text::group_from(text, 0, name);
-    while at < text.len() {
-        let right = calls::merge(text, vectors_text::word_end(text, at));
-        tally = vectors_text::heard(tally, text, at, right);
-        at = vectors_text::group_next(text, at, name);
-    }
-    vectors_text::print_group(name, tally);
-}
+use crate::calls::is_right;
+use vectors_text::run_group;
 
 fn main() {
     let mut data = vectors_text::data_room();
     let n = io::read_full(0, &mut data);
     let text = &data[..n];
-    run(text, b"merge");
-    run(text, b"dbn_merge");
-    run(text, b"limit_merge");
+    run_group(text, b"merge", |at| is_right(text, at));
+    run_group(text, b"dbn_merge", |at| is_right(text, at));
+    run_group(text, b"limit_merge", |at| is_right(text, at));
 }

@@ -5,9 +5,10 @@
 
 ghost use Rattle.std.specs.Prelude.{◌≡◌, length};
 
-use leaves_names::names::{Checked, NamePlace, Named};
-use vectors_side::{Compared, at_most, list_at, list_too};
-use vectors_text::{Tally, narrow};
+use leaves::refusal::Refusal;
+use leaves_names::names::{NameList, NamePlace, NameRoom};
+use vectors_side::{at_most, list_at, list_too};
+use vectors_text::narrow;
 
 // Memory for a name list: one byte and one name more than the rules allow.
 const BYTES: usize = 65537;
@@ -32,90 +33,79 @@ fn room() -> [u8; 256]
 }
 
 // Whether these four numbers stand at a place: the rules' number and the values that come with it.
-fn are_numbers(text: &[u8], at: usize, number: u64, first: u64, second: u64, third: u64) -> bool {
-    let a = vectors_text::number_at(text, at);
-    let b = vectors_text::number_at(text, a.next);
-    let c = vectors_text::number_at(text, b.next);
-    let d = vectors_text::number_at(text, c.next);
-    a.value == number && b.value == first && c.value == second && d.value == third
+fn are_numbers(text: &[u8], at: usize, numbers: [u64; 4]) -> bool {
+    let mut place = at;
+    for number in numbers {
+        let token = vectors_text::number_at(text, place);
+        if token.value != number {
+            return false;
+        }
+        place = token.next;
+    }
+    true
 }
 
-// Whether naming answers what stands at a place: the name's number, the names and the bytes in use.
-fn is_named(text: &[u8], at: usize, named: Named) -> bool {
+// A refusal's numbers.
+fn of_refusal(refusal: Refusal) -> [u64; 4] {
+    [refusal.number() as u64, 0, 0, 0]
+}
+
+// The numbers of a naming: the name's number, the names and the bytes in use.
+fn of_named(named: Result<u32, Refusal>, names: usize, name_bytes: usize) -> [u64; 4] {
     match named {
-        Named::Number {
-            number,
-            names,
-            name_bytes,
-        } => are_numbers(text, at, 0, number as u64, names as u64, name_bytes as u64),
-        Named::Refused(r) => are_numbers(text, at, leaves::refusal::number(r) as u64, 0, 0, 0),
+        Ok(number) => [0, number as u64, names as u64, name_bytes as u64],
+        Err(refusal) => of_refusal(refusal),
     }
 }
 
-// Whether a name's place is what stands at a place: its first byte and its end.
-fn is_placed(text: &[u8], at: usize, placed: NamePlace) -> bool {
+// The numbers of a name's place: its first byte and its end.
+fn of_place(placed: Result<NamePlace, Refusal>) -> [u64; 4] {
     match placed {
-        NamePlace::At { first, end } => are_numbers(text, at, 0, first as u64, end as u64, 0),
-        NamePlace::Refused(r) => are_numbers(text, at, leaves::refusal::number(r) as u64, 0, 0, 0),
+        Ok(place) => [0, place.first as u64, place.end as u64, 0],
+        Err(refusal) => of_refusal(refusal),
     }
 }
 
-fn is_checked(text: &[u8], at: usize, checked: Checked) -> bool {
-    match checked {
-        Checked::Done => are_numbers(text, at, 0, 0, 0, 0),
-        Checked::Refused(r) => are_numbers(text, at, leaves::refusal::number(r) as u64, 0, 0, 0),
+// The numbers of a check.
+fn of_check(list: NameList<'_>) -> [u64; 4] {
+    match list.check() {
+        Ok(_) => [0; 4],
+        Err(refusal) => of_refusal(refusal),
     }
 }
 
 // What follows the list of a line that names: `NAME BYTES ENDS = NUMBER VALUES`, bytes and ends as naming leaves them.
-fn names_it(
-    text: &[u8],
-    at: usize,
-    bytes: &mut [u8],
-    ends: &mut [u32],
-    names: usize,
-    name_bytes: usize,
-) -> bool {
+fn names_it(text: &[u8], at: usize, list: NameRoom<'_>) -> bool {
+    let mut list = list;
     let mut name = room();
     let mut after = room();
     let word = vectors_text::bytes_at(text, at, &mut name);
-    let n = word.count;
-    let named = leaves_names::names::number_of(bytes, ends, names, name_bytes, &name[..n]);
+    let named = list.number_of(&name[..word.count]);
     let left = vectors_text::bytes_at(text, word.next, &mut after);
-    let k = left.count;
-    let same = check::same(bytes, &after[..k]);
-    let compared = list_too(
-        text,
-        Compared {
-            same,
-            next: left.next,
-        },
-        ends,
-    );
-    let behind = vectors_text::past_equals(text, compared.next);
-    compared.same && is_named(text, behind, named)
+    if &*list.bytes != &after[..left.count] {
+        return false;
+    }
+    match list_too(text, left.next, list.ends) {
+        Some(behind) => are_numbers(
+            text,
+            vectors_text::past_equals(text, behind),
+            of_named(named, list.names, list.name_bytes),
+        ),
+        None => false,
+    }
 }
 
 // What follows the list of a line, `NUMBER = NUMBER VALUES`: of a name's number its place; of `c`, whose first number says nothing, whether
 // the list is well-formed.
-fn reads_it(
-    text: &[u8],
-    at: usize,
-    call: u8,
-    bytes: &[u8],
-    ends: &[u32],
-    names: usize,
-    name_bytes: usize,
-) -> bool {
+fn reads_it(text: &[u8], at: usize, call: u8, list: NameList<'_>) -> bool {
     let asked = vectors_text::number_at(text, at);
     let behind = vectors_text::past_equals(text, asked.next);
-    if call == b'c' {
-        let checked = leaves_names::names::check_names(bytes, ends, names, name_bytes);
-        return is_checked(text, behind, checked);
-    }
-    let number = narrow(asked.value);
-    let placed = leaves_names::names::place_of_name(bytes, ends, names, name_bytes, number);
-    is_placed(text, behind, placed)
+    let numbers = if call == b'c' {
+        of_check(list)
+    } else {
+        of_place(list.place_of_name(narrow(asked.value)))
+    };
+    are_numbers(text, behind, numbers)
 }
 
 // A line `CALL NAMES NAME_BYTES LENT BYTES ENDS`: a name list, and what follows it.
@@ -131,42 +121,29 @@ fn is_right(text: &[u8], at: usize) -> bool {
     let list = list_at(text, given.next, &mut ends);
     let e = list.places;
     let b = at_most(lent.value, BYTES);
+    let names = names.value as usize;
+    let name_bytes = name_bytes.value as usize;
     if call == b'n' {
-        return names_it(
-            text,
-            list.next,
-            &mut bytes[..b],
-            &mut ends[..e],
-            names.value as usize,
-            name_bytes.value as usize,
-        );
+        let lent = NameRoom {
+            bytes: &mut bytes[..b],
+            ends: &mut ends[..e],
+            names,
+            name_bytes,
+        };
+        return names_it(text, list.next, lent);
     }
-    reads_it(
-        text,
-        list.next,
-        call,
-        &bytes[..b],
-        &ends[..e],
-        names.value as usize,
-        name_bytes.value as usize,
-    )
-}
-
-// Runs the lines of the name and prints the group's line.
-fn run(text: &[u8], name: &[u8]) {
-    let mut tally = Tally { cases: 0, wrong: 0 };
-    let mut at = vectors_text::group_from(text, 0, name);
-    while at < text.len() {
-        let right = is_right(text, vectors_text::word_end(text, at));
-        tally = vectors_text::heard(tally, text, at, right);
-        at = vectors_text::group_next(text, at, name);
-    }
-    vectors_text::print_group(name, tally);
+    let lent = NameList {
+        bytes: &bytes[..b],
+        ends: &ends[..e],
+        names,
+        name_bytes,
+    };
+    reads_it(text, list.next, call, lent)
 }
 
 fn main() {
     let mut data = vectors_text::data_room();
     let n = io::read_full(0, &mut data);
     let text = &data[..n];
-    run(text, b"names");
+    vectors_text::run_group(text, b"names", |at| is_right(text, at));
 }

@@ -1,64 +1,52 @@
 // Cases of opening and of finishing.
-ghost use Rattle.std.specs.Prelude.{length};
-ghost use Rattle.vectors_side.specs.Sides.{Within};
+use metadata_form::lists::{Lists, ListsMut};
+use metadata_open::opening::{finish, open};
+use vectors_side::expected::{entries, interval_words, is_expected, mapping_words};
+use vectors_side::side_at;
 
-use vectors_side::expected::{Said, entries, interval_words, is_expected, mapping_words, said_of};
-use vectors_side::{Side, side_at};
-
-// The calls of cases: opening, or finishing.
-pub const OPEN: bool = true;
-
-pub const FINISH: bool = false;
-
-// Opens or finishes the lent part of a side.
-fn called(
-    opening: bool,
-    a: Side,
-    symbols: &mut [u32],
-    partial: &mut [u32],
-    not_found: &mut [u32],
-    mappings: &mut [u32],
-    intervals: &mut [u32],
-) -> Said
-    requires { Within a (length symbols.old) (length partial.old) (length not_found.old) (length mappings.old) (length intervals.old) }
-{
-    let h = a.header;
-    let i = a.symbols;
-    let j = a.partial;
-    let k = a.not_found;
-    let m = a.mappings;
-    let v = a.intervals;
-    if opening {
-        let opened = metadata_open::opening::open(
-            h,
-            &mut symbols[..i],
-            &mut partial[..j],
-            &mut not_found[..k],
-            &mut mappings[..m],
-            &mut intervals[..v],
-        );
-        return said_of(opened, h);
-    }
-    let finished = metadata_open::opening::finish(
-        h,
-        &symbols[..i],
-        &partial[..j],
-        &not_found[..k],
-        &mappings[..m],
-        &intervals[..v],
-    );
-    said_of(finished, h)
+// The calls of cases.
+#[derive(Clone, Copy, Debug, PartialEq, Eq)]
+pub enum Call {
+    Open,
+    Finish,
 }
 
 // A line `SIDE = NUMBER`, behind 0 the side as it then is.
-pub fn is_right(text: &[u8], at: usize, opening: bool) -> bool {
-    let mut s = entries();
-    let mut p = entries();
-    let mut n = entries();
-    let mut m = mapping_words();
-    let mut v = interval_words();
-    let a = side_at(text, at, &mut s, &mut p, &mut n, &mut m, &mut v);
-    let said = called(opening, a, &mut s, &mut p, &mut n, &mut m, &mut v);
-    let behind = vectors_text::past_equals(text, a.next);
-    is_expected(text, behind, at, said, &s, &p, &n, &m, &v)
+pub fn is_right(text: &[u8], at: usize, call: Call) -> bool {
+    let mut symbols = entries();
+    let mut partial = entries();
+    let mut not_found = entries();
+    let mut mappings = mapping_words();
+    let mut intervals = interval_words();
+    let side = side_at(
+        text,
+        at,
+        &mut ListsMut {
+            symbols: &mut symbols,
+            partial: &mut partial,
+            not_found: &mut not_found,
+            mappings: &mut mappings,
+            intervals: &mut intervals,
+        },
+    );
+    let mut part = ListsMut {
+        symbols: &mut symbols[..side.symbols],
+        partial: &mut partial[..side.partial],
+        not_found: &mut not_found[..side.not_found],
+        mappings: &mut mappings[..side.mappings],
+        intervals: &mut intervals[..side.intervals],
+    };
+    let said = match call {
+        Call::Open => open(side.header, &mut part),
+        Call::Finish => finish(side.header, part.shared()),
+    };
+    let after = Lists {
+        symbols: &symbols,
+        partial: &partial,
+        not_found: &not_found,
+        mappings: &mappings,
+        intervals: &intervals,
+    };
+    let behind = vectors_text::past_equals(text, side.next);
+    is_expected(text, behind, at, side.header, said, after)
 }

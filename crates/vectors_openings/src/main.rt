@@ -4,28 +4,16 @@
 
 mod calls;
 
-use crate::calls::{FINISH, OPEN, is_right};
-use vectors_text::Tally;
-
-// Runs the lines of one kind and prints the group's line.
-fn run(text: &[u8], name: &[u8], opening: bool) {
-    let mut tally = Tally { cases: 0, wrong: 0 };
-    let mut at = vectors_text::group_from(text, 0, name);
-    while at < text.len() {
-        let right = is_right(text, vectors_text::word_end(text, at), opening);
-        tally = vectors_text::heard(tally, text, at, right);
-        at = vectors_text::group_next(text, at, name);
-    }
-    vectors_text::print_group(name, tally);
-}
+use crate::calls::{Call, is_right};
+use vectors_text::run_group;
 
 fn main() {
     let mut data = vectors_text::data_room();
     let n = io::read_full(0, &mut data);
     let text = &data[..n];
-    run(text, b"open", OPEN);
-    run(text, b"finish", FINISH);
-    run(text, b"dbn_open", OPEN);
-    run(text, b"limit_open", OPEN);
-    run(text, b"limit_finish", FINISH);
+    run_group(text, b"open", |at| is_right(text, at, Call::Open));
+    run_group(text, b"finish", |at| is_right(text, at, Call::Finish));
+    run_group(text, b"dbn_open", |at| is_right(text, at, Call::Open));
+    run_group(text, b"limit_open", |at| is_right(text, at, Call::Open));
+    run_group(text, b"limit_finish", |at| is_right(text, at, Call::Finish));
 }

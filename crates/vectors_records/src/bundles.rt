@@ -1,7 +1,7 @@
 // A case that is a bundle.
 ghost use Rattle.std.specs.Prelude.{◌≡◌, length};
 
-use replay_text::replay::Replayed;
+use vectors_merge::front;
 
 // Room for the longest bundle and a byte more.
 fn space() -> [u8; 60001]
@@ -13,11 +13,10 @@ fn space() -> [u8; 60001]
 // Prints the replay of a bundle.
 fn show(bundle: &[u8], text: &mut [u8]) {
     match replay_text::replay::replay(bundle, text) {
-        Replayed::Text(k) => {
-            let written = vectors_merge::bytes_of(k as u64, text);
-            io::write_all(1, &text[..written]);
+        Ok(written) => {
+            io::write_all(1, front(written as u64, text));
         }
-        Replayed::Refused(refusal) => vectors_merge::print_refusal(refusal),
+        Err(refusal) => vectors_merge::print_refusal(refusal),
     }
 }
 
@@ -26,7 +25,6 @@ pub fn run(text: &[u8], at: usize) {
     let length = vectors_text::number_at(text, at);
     let mut bytes = space();
     vectors_text::bytes_at(text, length.next, &mut bytes);
-    let size = vectors_merge::bytes_of(length.value, &bytes);
     let mut out = replay_text::replay::text_space();
-    show(&bytes[..size], &mut out);
+    show(front(length.value, &bytes), &mut out);
 }

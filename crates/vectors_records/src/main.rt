@@ -12,17 +12,12 @@ mod plains;
 fn run_line(text: &[u8], at: usize) {
     let kind = vectors_text::byte_at(text, at);
     let rest = vectors_text::past(text, at);
-    if kind == b'=' {
-        vectors_merge::print_line(text, rest);
-    }
-    if kind == b'b' {
-        bundles::run(text, rest);
-    }
-    if kind == b'm' {
-        merges::run(text, rest, false);
-    }
-    if kind == b'w' {
-        merges::run(text, rest, true);
+    match kind {
+        b'=' => vectors_merge::print_line(text, rest),
+        b'b' => bundles::run(text, rest),
+        b'm' => merges::run(text, rest, merges::both),
+        b'w' => merges::run(text, rest, plains::wrong),
+        _ => {}
     }
 }
 

@@ -1,59 +1,50 @@
 // A case that is a merge of streams with hints: by the heap, then by the plain engine.
-use crate::plains;
-use records::merge::{empty_bytes, empty_numbers, next, open};
-use vectors_merge::{buffer_space, calls_left, numbers_space, print_turn, read_case, start_of};
+use records::engine::{Engine, Heap};
+use records::merge::{empty_bytes, empty_numbers, open};
+use records_plain::plain::Plain;
+use records_state::state::State;
+use vectors_merge::{buffer_space, calls_after, calls_left, numbers_space, print_turn, read_case};
 
-// Opens the streams, with arrays of its own, and prints the heap's answers to the end, and one more; or the refusal.
-fn merge(buffer: &[u8], cuts: &[u64], hints: &[u64]) {
+// Opens the streams, with arrays of its own, and prints an engine's answers to the end, and one more; or the refusal.
+fn merge<E: Engine>(buffer: &[u8], cuts: &[u64], hints: &[u64]) {
     let mut marks = empty_bytes();
     let mut times = empty_numbers();
     let mut places = empty_numbers();
     let mut heads = empty_numbers();
     let mut heap = empty_bytes();
-    let opening = open(
-        buffer,
-        cuts,
-        hints,
-        &mut marks,
-        &mut times,
-        &mut places,
-        &mut heads,
-        &mut heap,
-    );
-    let start = start_of(opening);
-    let mut held = start.held;
-    let mut calls = start.calls;
+    let mut state = State {
+        held: 0,
+        marks: &mut marks,
+        times: &mut times,
+        places: &mut places,
+        heads: &mut heads,
+        heap: &mut heap,
+    };
+    let mut calls = calls_after(open(buffer, cuts, hints, &mut state));
     while 0 < calls {
-        let turned = next(
-            buffer,
-            cuts,
-            held,
-            &mut marks,
-            &mut times,
-            &mut places,
-            &mut heads,
-            &mut heap,
-        );
-        held = turned.held;
-        let answer = turned.answer;
+        let answer = E::next(buffer, cuts, &mut state);
         calls = calls_left(calls, print_turn(answer));
     }
 }
 
-// Runs the case at a place, hints, cuts and the buffer, by both engines, or by the plain one on memory that is not right.
-pub fn run(text: &[u8], at: usize, wrong: bool) {
+// The answers of both engines.
+pub fn both(buffer: &[u8], cuts: &[u64], hints: &[u64]) {
+    merge::<Heap>(buffer, cuts, hints);
+    io::write_all(1, b"plain\n");
+    merge::<Plain>(buffer, cuts, hints);
+}
+
+// Runs the case at a place, hints, cuts and the buffer.
+pub fn run<F: FnOnce(&[u8], &[u64], &[u64])>(text: &[u8], at: usize, show: F)
+    requires { F.IsAlwaysCallable show }
+{
     let mut hints = numbers_space();
     let mut cuts = numbers_space();
     let mut buffer = buffer_space();
     let case = read_case(text, at, &mut hints, &mut cuts, &mut buffer);
-    let hinted = case.first;
-    let cut = case.second;
-    let size = case.bytes;
-    if wrong {
-        plains::wrong(&buffer[..size], &cuts[..cut], &hints[..hinted]);
-        return;
-    }
-    merge(&buffer[..size], &cuts[..cut], &hints[..hinted]);
-    io::write_all(1, b"plain\n");
-    plains::merge(&buffer[..size], &cuts[..cut], &hints[..hinted]);
+    show(
+        &buffer[..case.bytes],
+        &cuts[..case.second],
+        &hints[..case.first],
+    );
 }

@@ -1,106 +1,71 @@
-// The plain engine (RULES, Requests, No. 12) on streams with hints, and on memory that is not right.
-use records::merge::{Opening, empty_bytes, empty_numbers};
-use records_plain::plain::{next, open};
-use vectors_merge::{calls_left, few_bytes, print_number, print_refusal, print_turn, start_of};
+// The plain engine (RULES, Requests, No. 12) on memory that is not right.
+use records::merge::{empty_bytes, empty_numbers, open};
+use records_plain::plain::next;
+use records_state::state::State;
+use vectors_merge::{few_bytes, print_number, print_refusal, print_turn};
 
 // One stream more than there may be.
 const OVER: usize = 257;
 
-// Opens the streams, with arrays of its own, and prints the answers to the end, and one more; or the refusal.
-pub fn merge(buffer: &[u8], cuts: &[u64], hints: &[u64]) {
-    let mut marks = empty_bytes();
-    let mut times = empty_numbers();
-    let mut places = empty_numbers();
-    let mut heads = empty_numbers();
-    let opening = open(
-        buffer,
-        cuts,
-        hints,
-        &mut marks,
-        &mut times,
-        &mut places,
-        &mut heads,
-    );
-    let start = start_of(opening);
-    let streams = start.streams;
-    let mut calls = start.calls;
-    while 0 < calls {
-        let answer = next(
-            buffer,
-            cuts,
-            streams,
-            &mut marks,
-            &mut times,
-            &mut places,
-            &mut heads,
-        );
-        calls = calls_left(calls, print_turn(answer));
+// The state in these arrays.
+fn lent<'a>(
+    held: usize,
+    marks: &'a mut [u8],
+    times: &'a mut [u64],
+    places: &'a mut [u64],
+    heads: &'a mut [u64],
+    heap: &'a mut [u8],
+) -> State<'a> {
+    State {
+        held,
+        marks,
+        times,
+        places,
+        heads,
+        heap,
     }
 }
 
-fn print_opening(opening: Opening) {
-    match opening {
-        Opening::Opened { streams, held } => {
+// Opens the streams on what is lent, and prints what the opening answers.
+fn print_opened(buffer: &[u8], cuts: &[u64], hints: &[u64], mut state: State<'_>) {
+    match open(buffer, cuts, hints, &mut state) {
+        Ok(streams) => {
             io::write_all(1, b"opened");
             print_number(streams as u64);
-            print_number(held as u64);
+            print_number(state.held as u64);
             io::write_all(1, b"\n");
         }
-        Opening::Refused(refusal) => print_refusal(refusal),
+        Err(refusal) => print_refusal(refusal),
     }
+}
+
+// Calls once on what is lent, and prints the answer.
+fn print_next(buffer: &[u8], cuts: &[u64], mut state: State<'_>) {
+    print_turn(next(buffer, cuts, &mut state));
 }
 
 // An opening and a call on too few marks, and a call with too many streams, get 15 each; the opening and the call beside them, of one
 // stream, show that nothing was touched.
 pub fn wrong(buffer: &[u8], cuts: &[u64], hints: &[u64]) {
-    let mut few = few_bytes();
-    let mut marks = empty_bytes();
-    let mut times = empty_numbers();
-    let mut places = empty_numbers();
-    let mut heads = empty_numbers();
-    print_opening(open(
+    let few = &mut few_bytes();
+    let marks = &mut empty_bytes();
+    let times = &mut empty_numbers();
+    let places = &mut empty_numbers();
+    let heads = &mut empty_numbers();
+    let heap = &mut empty_bytes();
+    print_opened(
         buffer,
         cuts,
         hints,
-        &mut few,
-        &mut times,
-        &mut places,
-        &mut heads,
-    ));
-    print_opening(open(
+        lent(0, few, times, places, heads, heap),
+    );
+    print_opened(
         buffer,
         cuts,
         hints,
-        &mut marks,
-        &mut times,
-        &mut places,
-        &mut heads,
-    ));
-    print_turn(next(
-        buffer,
-        cuts,
-        1,
-        &mut few,
-        &mut times,
-        &mut places,
-        &mut heads,
-    ));
-    print_turn(next(
-        buffer,
-        cuts,
-        OVER,
-        &mut marks,
-        &mut times,
-        &mut places,
-        &mut heads,
-    ));
-    print_turn(next(
-        buffer,
-        cuts,
-        1,
-        &mut marks,
-        &mut times,
-        &mut places,
-        &mut heads,
-    ));
+        lent(0, marks, times, places, heads, heap),
+    );
+    print_next(buffer, cuts, lent(1, few, times, places, heads, heap));
+    print_next(buffer, cuts, lent(OVER, marks, times, places, heads, heap));
+    print_next(buffer, cuts, lent(1, marks, times, places, heads, heap));
 }

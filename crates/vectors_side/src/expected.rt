@@ -5,18 +5,8 @@ ghost use Rattle.std.specs.Prelude.{◌≡◌, length};
 
 use crate::is_side;
 use leaves::refusal::Refusal;
-use metadata_form::header::{Header, MetadataAnswer};
-
-// What a call says: its number, the field that comes with 6 (else 0), and the header after it.
-#[derive(Clone, Copy)]
-pub struct Said {
-    pub number: u64,
-    pub field: u64,
-    pub header: Header,
-}
-
-// The number of 6: metadata differ.
-const DIFFER: u64 = 6;
+use metadata_form::header::Header;
+use metadata_form::lists::Lists;
 
 // Memory for the lists of one side: one entry, one mapping and one interval more than the rules allow.
 pub fn entries() -> [u32; 4097]
@@ -37,56 +27,32 @@ pub fn interval_words() -> [u32; 196611]
     [0; 196611]
 }
 
-fn field_of(refusal: Refusal) -> u64 {
+// Whether a refusal comes with this field, where one comes with it.
+fn is_field(refusal: Refusal, value: u64) -> bool {
     match refusal {
-        Refusal::Differ(field) => field as u64,
-        _ => 0,
+        Refusal::Differ(field) => u64::from(field.number()) == value,
+        _ => true,
     }
 }
 
-// What a call says that was handed this header.
-pub fn said_of(answer: MetadataAnswer, handed: Header) -> Said {
-    match answer {
-        MetadataAnswer::Done(header) => Said {
-            number: 0,
-            field: 0,
-            header,
-        },
-        MetadataAnswer::Refused(refusal) => Said {
-            number: leaves::refusal::number(refusal) as u64,
-            field: field_of(refusal),
-            header: handed,
-        },
-    }
-}
-
-// Whether a call says what stands at a place, and leaves the side behind its 0, or, refused, the side that it was handed.
+// Whether a call says what stands at a place, and leaves the side behind its 0, or, refused, the side that it was handed, which
+// stands at the place `handed`.
 pub fn is_expected(
     text: &[u8],
     at: usize,
     handed: usize,
-    said: Said,
-    symbols: &[u32],
-    partial: &[u32],
-    not_found: &[u32],
-    mappings: &[u32],
-    intervals: &[u32],
+    header: Header,
+    said: Result<Header, Refusal>,
+    lists: Lists<'_>,
 ) -> bool {
     let number = vectors_text::number_at(text, at);
-    let field = vectors_text::number_at(text, number.next);
-    if number.value != said.number {
-        return false;
+    match said {
+        Ok(after) => number.value == 0 && is_side(text, number.next, after, lists),
+        Err(refusal) => {
+            let field = vectors_text::number_at(text, number.next);
+            number.value == u64::from(refusal.number())
+                && is_field(refusal, field.value)
+                && is_side(text, handed, header, lists)
+        }
     }
-    if number.value == DIFFER && field.value != said.field {
-        return false;
-    }
-    let place = if number.value == 0 {
-        number.next
-    } else {
-        handed
-    };
-    let h = said.header;
-    is_side(
-        text, place, h, symbols, partial, not_found, mappings, intervals,
-    )
 }

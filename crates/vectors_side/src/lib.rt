@@ -7,14 +7,16 @@ pub mod expected;
 mod rule;
 
 ghost use Rattle.std.specs.Prelude.{◌≤◌, ◌<◌, length};
+ghost use Rattle.metadata_form.specs.Header.{lent, lent_mut, SameLoans};
 ghost use Rattle.vectors_side.specs.Sides.{Within};
 
-use crate::rule::{NONE, Rule, made, rule_at};
+use crate::rule::{Rule, made, rule_at};
 use metadata_form::header::Header;
+use metadata_form::lists::{Lists, ListsMut};
 use vectors_text::{Token, narrow};
 
 // A side: its header, the places lent of each list, and the place behind it in the text.
-#[derive(Clone, Copy)]
+#[derive(Clone, Copy, Debug, PartialEq, Eq)]
 pub struct Side {
     pub header: Header,
     pub symbols: usize,
@@ -25,95 +27,81 @@ pub struct Side {
     pub next: usize,
 }
 
+impl Side {
+    // The lent part of the lists that hold the side.
+    pub fn part<'a>(self, lists: Lists<'a>) -> Lists<'a>
+        requires { Within self (lent lists) }
+    {
+        Lists {
+            symbols: &lists.symbols[..self.symbols],
+            partial: &lists.partial[..self.partial],
+            not_found: &lists.not_found[..self.not_found],
+            mappings: &lists.mappings[..self.mappings],
+            intervals: &lists.intervals[..self.intervals],
+        }
+    }
+}
+
 // A header read from the text, and the place behind it.
-#[derive(Clone, Copy)]
+#[derive(Clone, Copy, Debug, PartialEq, Eq)]
 struct Headed {
     header: Header,
     next: usize,
 }
 
 // A list read from the text: the places lent, and the place behind it.
-#[derive(Clone, Copy)]
+#[derive(Clone, Copy, Debug, PartialEq, Eq)]
 pub struct Listed {
     pub places: usize,
     pub next: usize,
 }
 
-// Whether all that was compared so far is the same, and the place behind it in the text.
-#[derive(Clone, Copy)]
-pub struct Compared {
-    pub same: bool,
-    pub next: usize,
-}
-
-// A number in so many bits; one that doesn't fit becomes the largest.
-fn of_8(n: u64) -> u8 {
-    if n <= 255 { n as u8 } else { 255 }
-}
-
-fn of_16(n: u64) -> u16 {
-    if n <= 65535 { n as u16 } else { 65535 }
-}
-
+// A header's fourteen numbers, in the order of its fields; one that doesn't fit its field becomes the largest.
 fn header_at(text: &[u8], at: usize) -> Headed {
-    let version = vectors_text::number_at(text, at);
-    let dataset = vectors_text::number_at(text, version.next);
-    let schema = vectors_text::number_at(text, dataset.next);
-    let start = vectors_text::number_at(text, schema.next);
-    let end = vectors_text::number_at(text, start.next);
-    let limit = vectors_text::number_at(text, end.next);
-    let stype_in = vectors_text::number_at(text, limit.next);
-    let stype_out = vectors_text::number_at(text, stype_in.next);
-    let ts_out = vectors_text::number_at(text, stype_out.next);
-    let symbol_cstr_len = vectors_text::number_at(text, ts_out.next);
-    let symbols = vectors_text::number_at(text, symbol_cstr_len.next);
-    let partial = vectors_text::number_at(text, symbols.next);
-    let not_found = vectors_text::number_at(text, partial.next);
-    let mappings = vectors_text::number_at(text, not_found.next);
-    let header = Header {
-        version: of_8(version.value),
-        dataset: narrow(dataset.value),
-        schema: of_16(schema.value),
-        start: start.value,
-        end: end.value,
-        limit: limit.value,
-        stype_in: of_8(stype_in.value),
-        stype_out: of_8(stype_out.value),
-        ts_out: ts_out.value == 1,
-        symbol_cstr_len: symbol_cstr_len.value,
-        symbols: symbols.value as usize,
-        partial: partial.value as usize,
-        not_found: not_found.value as usize,
-        mappings: mappings.value as usize,
-    };
-    Headed {
-        header,
-        next: mappings.next,
+    let mut numbers = [0u64; 14];
+    let mut next = at;
+    for i in 0..14 {
+        let number = vectors_text::number_at(text, next);
+        numbers[i] = number.value;
+        next = number.next;
     }
+    let header = Header {
+        version: u8::try_from(numbers[0]).unwrap_or(u8::MAX),
+        dataset: narrow(numbers[1]),
+        schema: u16::try_from(numbers[2]).unwrap_or(u16::MAX),
+        start: numbers[3],
+        end: numbers[4],
+        limit: numbers[5],
+        stype_in: u8::try_from(numbers[6]).unwrap_or(u8::MAX),
+        stype_out: u8::try_from(numbers[7]).unwrap_or(u8::MAX),
+        ts_out: numbers[8] == 1,
+        symbol_cstr_len: numbers[9],
+        symbols: numbers[10] as usize,
+        partial: numbers[11] as usize,
+        not_found: numbers[12] as usize,
+        mappings: numbers[13] as usize,
+    };
+    Headed { header, next }
 }
 
 // So many places, or all that there are.
 pub fn at_most(places: u64, all: usize) -> usize
     ensures { result ≤ all }
 {
-    if places < all as u64 {
-        places as usize
-    } else {
-        all
-    }
+    places.min(all as u64) as usize
 }
 
 // The i-th word of a list, of which so many are given: by a rule, by the number at a place, or 0.
-fn word_at(text: &[u8], at: usize, given: u64, rule: Rule, i: usize) -> Token {
+fn word_at(text: &[u8], at: usize, given: u64, rule: Option<Rule>, i: usize) -> Token {
     if given <= i as u64 {
         return Token { value: 0, next: at };
     }
-    if rule.letter == NONE {
-        return vectors_text::number_at(text, at);
-    }
-    Token {
-        value: made(rule, i),
-        next: at,
+    match rule {
+        None => vectors_text::number_at(text, at),
+        Some(rule) => Token {
+            value: made(rule, i),
+            next: at,
+        },
     }
 }
 
@@ -124,136 +112,99 @@ pub fn list_at(text: &[u8], at: usize, out: &mut [u32]) -> Listed
     let lent = vectors_text::number_at(text, at);
     let given = vectors_text::number_at(text, lent.next);
     let ruled = rule_at(text, given.next);
-    let rule = ruled.rule;
     let places = at_most(lent.value, out.len());
-    let mut place = ruled.next;
-    let mut i = 0;
-    while i < places {
-        let word = word_at(text, place, given.value, rule, i);
+    let mut next = ruled.next;
+    for i in 0..places {
+        let word = word_at(text, next, given.value, ruled.rule, i);
         out[i] = narrow(word.value);
-        place = word.next;
-        i += 1;
+        next = word.next;
     }
-    Listed {
-        places,
-        next: place,
-    }
+    Listed { places, next }
 }
 
 // Reads the side at a place.
-pub fn side_at(
-    text: &[u8],
-    at: usize,
-    symbols: &mut [u32],
-    partial: &mut [u32],
-    not_found: &mut [u32],
-    mappings: &mut [u32],
-    intervals: &mut [u32],
-) -> Side
-    ensures { Within result (length symbols.new) (length partial.new) (length not_found.new) (length mappings.new) (length intervals.new) }
+pub fn side_at(text: &[u8], at: usize, lists: &mut ListsMut<'_>) -> Side
+    ensures within { Within result (lent_mut lists.new) }
+    ensures same_loans { SameLoans lists.old lists.new }
 {
     let headed = header_at(text, at);
-    let header = headed.header;
-    let a = list_at(text, headed.next, symbols);
-    let b = list_at(text, a.next, partial);
-    let c = list_at(text, b.next, not_found);
-    let m = list_at(text, c.next, mappings);
-    let v = list_at(text, m.next, intervals);
+    let symbols = list_at(text, headed.next, lists.symbols);
+    let partial = list_at(text, symbols.next, lists.partial);
+    let not_found = list_at(text, partial.next, lists.not_found);
+    let mappings = list_at(text, not_found.next, lists.mappings);
+    let intervals = list_at(text, mappings.next, lists.intervals);
     Side {
-        header,
-        symbols: a.places,
-        partial: b.places,
-        not_found: c.places,
-        mappings: m.places,
-        intervals: v.places,
-        next: v.next,
+        header: headed.header,
+        symbols: symbols.places,
+        partial: partial.places,
+        not_found: not_found.places,
+        mappings: mappings.places,
+        intervals: intervals.places,
+        next: intervals.next,
     }
 }
 
-// Whether the number behind what was compared so far is this one, too.
-fn number_too(text: &[u8], so_far: Compared, n: u64) -> Compared {
-    let one = vectors_text::number_at(text, so_far.next);
-    Compared {
-        same: so_far.same && one.value == n,
-        next: one.next,
+// The place behind the number at a place of the text, where it is this one.
+fn number_too(text: &[u8], at: usize, n: u64) -> Option<usize> {
+    let number = vectors_text::number_at(text, at);
+    if number.value != n {
+        return None;
     }
+    Some(number.next)
 }
 
-// Whether the list behind what was compared so far is this one, too, as many places of it as are lent.
-pub fn list_too(text: &[u8], so_far: Compared, list: &[u32]) -> Compared {
-    let lent = vectors_text::number_at(text, so_far.next);
+// The place behind the list at a place of the text, where it is this one, as many places of it as are lent.
+pub fn list_too(text: &[u8], at: usize, list: &[u32]) -> Option<usize> {
+    let lent = vectors_text::number_at(text, at);
     let given = vectors_text::number_at(text, lent.next);
     let ruled = rule_at(text, given.next);
-    let rule = ruled.rule;
-    let places = at_most(lent.value, list.len());
-    let mut same = so_far.same;
-    let mut place = ruled.next;
-    let mut i = 0;
-    while i < places {
-        let word = word_at(text, place, given.value, rule, i);
+    let mut next = ruled.next;
+    for i in 0..at_most(lent.value, list.len()) {
+        let word = word_at(text, next, given.value, ruled.rule, i);
         if list[i] != narrow(word.value) {
-            same = false;
+            return None;
         }
-        place = word.next;
-        i += 1;
+        next = word.next;
     }
-    Compared { same, next: place }
+    Some(next)
 }
 
-fn from_8(n: u8) -> u64 {
-    n as u64
+// The place behind the header at a place of the text, where it is this one.
+fn header_too(text: &[u8], at: usize, header: Header) -> Option<usize> {
+    let numbers = [
+        u64::from(header.version),
+        u64::from(header.dataset),
+        u64::from(header.schema),
+        header.start,
+        header.end,
+        header.limit,
+        u64::from(header.stype_in),
+        u64::from(header.stype_out),
+        u64::from(header.ts_out),
+        header.symbol_cstr_len,
+        header.symbols as u64,
+        header.partial as u64,
+        header.not_found as u64,
+        header.mappings as u64,
+    ];
+    let mut next = at;
+    for n in numbers {
+        next = number_too(text, next, n)?;
+    }
+    Some(next)
 }
 
-fn from_16(n: u16) -> u64 {
-    n as u64
-}
-
-fn from_32(n: u32) -> u64 {
-    n as u64
-}
-
-fn from_bool(b: bool) -> u64 {
-    if b { 1 } else { 0 }
-}
-
-// Whether the header at a place of the text is this one.
-fn same_header(text: &[u8], at: usize, header: Header) -> Compared {
-    let mut so_far = Compared {
-        same: true,
-        next: at,
-    };
-    so_far = number_too(text, so_far, from_8(header.version));
-    so_far = number_too(text, so_far, from_32(header.dataset));
-    so_far = number_too(text, so_far, from_16(header.schema));
-    so_far = number_too(text, so_far, header.start);
-    so_far = number_too(text, so_far, header.end);
-    so_far = number_too(text, so_far, header.limit);
-    so_far = number_too(text, so_far, from_8(header.stype_in));
-    so_far = number_too(text, so_far, from_8(header.stype_out));
-    so_far = number_too(text, so_far, from_bool(header.ts_out));
-    so_far = number_too(text, so_far, header.symbol_cstr_len);
-    so_far = number_too(text, so_far, header.symbols as u64);
-    so_far = number_too(text, so_far, header.partial as u64);
-    so_far = number_too(text, so_far, header.not_found as u64);
-    number_too(text, so_far, header.mappings as u64)
+// The place behind the side at a place of the text, where it is this header with these lists, every place that is lent of them.
+fn side_too(text: &[u8], at: usize, header: Header, lists: Lists<'_>) -> Option<usize> {
+    let symbols = header_too(text, at, header)?;
+    let partial = list_too(text, symbols, lists.symbols)?;
+    let not_found = list_too(text, partial, lists.partial)?;
+    let mappings = list_too(text, not_found, lists.not_found)?;
+    let intervals = list_too(text, mappings, lists.mappings)?;
+    list_too(text, intervals, lists.intervals)
 }
 
 // Whether the side at a place of the text is this header with these lists, every place that is lent of them.
-pub fn is_side(
-    text: &[u8],
-    at: usize,
-    header: Header,
-    symbols: &[u32],
-    partial: &[u32],
-    not_found: &[u32],
-    mappings: &[u32],
-    intervals: &[u32],
-) -> bool {
-    let head = same_header(text, at, header);
-    let a = list_too(text, head, symbols);
-    let b = list_too(text, a, partial);
-    let c = list_too(text, b, not_found);
-    let m = list_too(text, c, mappings);
-    let v = list_too(text, m, intervals);
-    v.same
+pub fn is_side(text: &[u8], at: usize, header: Header, lists: Lists<'_>) -> bool {
+    side_too(text, at, header, lists).is_some()
 }

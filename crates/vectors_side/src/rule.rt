@@ -6,49 +6,55 @@ ghost use Rattle.std.specs.Prelude.{◌<◌};
 
 use vectors_text::narrow;
 
-// A rule; of no letter where the words themselves stand in the text.
-#[derive(Clone, Copy)]
-pub struct Rule {
-    pub letter: u8,
-    pub first: u32,
-    pub again: u32,
-    pub each: u32,
+// Names from the first on, and from the place `again` on the same once more.
+#[derive(Clone, Copy, Debug, PartialEq, Eq)]
+pub struct Names {
+    first: u32,
+    again: u32,
 }
 
-// A rule read from the text, and the place behind it.
-#[derive(Clone, Copy)]
+#[derive(Clone, Copy, Debug, PartialEq, Eq)]
+pub enum Rule {
+    Names(Names),
+    // Mappings of such names, each with so many intervals.
+    Mappings(Names, u32),
+    // Intervals from this day on.
+    Days(u32),
+    EveryOtherDay(u32),
+}
+
+// A rule read from the text, and the place behind it; none where the words themselves stand in the text.
+#[derive(Clone, Copy, Debug, PartialEq, Eq)]
 pub struct Ruled {
-    pub rule: Rule,
+    pub rule: Option<Rule>,
     pub next: usize,
 }
-
-// The letter of no rule.
-pub const NONE: u8 = 0;
 
 // The rule at a place, blanks before it passed over.
 pub fn rule_at(text: &[u8], at: usize) -> Ruled {
     let place = vectors_text::past_blanks(text, at);
     let letter = vectors_text::byte_at(text, place);
     if letter < b'a' {
-        let rule = Rule {
-            letter: NONE,
-            first: 0,
-            again: 0,
-            each: 0,
+        return Ruled {
+            rule: None,
+            next: at,
         };
-        return Ruled { rule, next: at };
     }
     let first = vectors_text::number_at(text, vectors_text::past(text, place));
     let again = vectors_text::number_at(text, first.next);
     let each = vectors_text::number_at(text, again.next);
-    let rule = Rule {
-        letter,
+    let names = Names {
         first: narrow(first.value),
         again: narrow(again.value),
-        each: narrow(each.value),
+    };
+    let rule = match letter {
+        b'n' => Rule::Names(names),
+        b'm' => Rule::Mappings(names, narrow(each.value)),
+        b'd' => Rule::Days(names.first),
+        _ => Rule::EveryOtherDay(names.first),
     };
     Ruled {
-        rule,
+        rule: Some(rule),
         next: each.next,
     }
 }
@@ -60,20 +66,12 @@ fn wide(n: u32) -> usize
 }
 
 // The i-th name.
-fn name(rule: Rule, i: usize) -> u64 {
-    let again = wide(rule.again);
+fn name(names: Names, i: usize) -> u64 {
+    let again = wide(names.again);
     if i < again {
-        return (wide(rule.first) + i) as u64;
+        return (wide(names.first) + i) as u64;
     }
-    (wide(rule.first) + (i - again) % 4294967296) as u64
-}
-
-// The i-th word of mappings.
-fn mapping_word(rule: Rule, i: usize) -> u64 {
-    if i % 2 == 0 {
-        return name(rule, i / 2);
-    }
-    wide(rule.each) as u64
+    (wide(names.first) + (i - again) % 4294967296) as u64
 }
 
 // The n-th date: 27 of each month, so that the day after each is a date too.
@@ -85,23 +83,20 @@ fn date(n: usize) -> u64
 
 // A word of the interval of the n-th day: its date, the next one, and a symbol below 4,096.
 fn interval_word(n: usize, part: usize) -> u64 {
-    if part == 0 {
-        return date(n);
+    match part {
+        0 => date(n),
+        1 => date(n) + 1,
+        _ => (n % 4096) as u64,
     }
-    if part == 1 {
-        return date(n) + 1;
-    }
-    (n % 4096) as u64
 }
 
 // The i-th word of a rule.
 pub fn made(rule: Rule, i: usize) -> u64 {
-    let first = wide(rule.first);
-    let letter = rule.letter;
-    match letter {
-        b'n' => name(rule, i),
-        b'm' => mapping_word(rule, i),
-        b'd' => interval_word(first + i / 3, i % 3),
-        _ => interval_word(first + i / 3 * 2, i % 3),
+    match rule {
+        Rule::Names(names) => name(names, i),
+        Rule::Mappings(names, _) if i % 2 == 0 => name(names, i / 2),
+        Rule::Mappings(_, each) => u64::from(each),
+        Rule::Days(first) => interval_word(wide(first) + i / 3, i % 3),
+        Rule::EveryOtherDay(first) => interval_word(wide(first) + i / 3 * 2, i % 3),
     }
 }

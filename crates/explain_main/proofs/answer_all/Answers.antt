@@ -1,18 +1,13 @@
 -- Each way through the test is one law. Assumes nothing.
-use native.Mathlib.Omega.{arith}
-use Rattle.explain_main.specs.TextLaws.{check_ready}
-use Rattle.explain_main.specs.AskedLaws.{asked_none, asked_told}
+use Rattle.std.proofs.Common.{◌∙◌, ap}
+use Rattle.explain_main.specs.Asked.{answer_status}
+use Rattle.explain_main.specs.AskedLaws.{asked_none, asked_told, ends_too}
 use Rattle.explain_main.proofs.answer_all.Goals as goal
 
 pub returns-then-not-are_questions : goal.returns-then-not-are_questions
-returns-then-not-are_questions g c =
-    asked_none _ _ _ c.are_questions.ensures c.if-not-are_questions.true-raw c.say.ensures
-
-pub tell_all-requires : goal.tell_all-requires
-tell_all-requires g c =
-    let h = c.requires in
-    (check_ready _ _ _ _ c.check-checked.ensures, omega arith, omega arith)
+returns-then-not-are_questions g c = ends_too _ (asked_none _ _ _ c.are_questions.ensures c.if-not-are_questions.true) c.say.ensures
 
 pub returns : goal.returns
 returns g c =
-    asked_told _ _ _ _ c.are_questions.ensures c.if-not-are_questions.false-raw c.check-checked.ensures c.tell_all.ensures
+    let e = ap answer_status c.new.ensures.checked in
+    ends_too _ (e ∙ asked_told _ _ _ c.are_questions.ensures c.if-not-are_questions.false) c.tell_all.ensures

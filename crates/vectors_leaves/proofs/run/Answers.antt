@@ -1,7 +1,6 @@
 -- `vectors_leaves::run` meets its contract: it is safe and ends; the measure is what is left of the text, and each line takes some of it. Assumes nothing.
-use Prim.Native.Nat.{◌-◌}
 use native.Mathlib.Omega.{arith}
 use Rattle.vectors_leaves.proofs.run.Goals as goal
 
 pub loop-at-smaller : goal.loop-at-smaller
-loop-at-smaller c = omega (arith, c.next_line-at.ensures (omega arith))
+loop-at-smaller g c = omega (arith, c.next_line-at.ensures (omega arith))

@@ -1,10 +1,7 @@
--- What each turn keeps, and what gets less.
+-- What gets less.
 use Prim.Native.Nat.{◌-◌}
 use lib.ListN.{length}
 use Rattle.vectors_records.proofs.run.Given as goal
-
-abbrev pub invariant-loop-at : goal.invariant-loop-at
-invariant-loop-at l = Unit {0}
 
 abbrev pub decreases-loop-at : goal.decreases-loop-at
 decreases-loop-at l = length l.text - l.at

@@ -1,5 +1,4 @@
 -- The invariant: the place never falls below where it began; the measure is what is left of the text. Assumes nothing.
-use Prim.Native.Nat.{◌-◌}
 use native.Mathlib.Omega.{arith}
 use Rattle.vectors_text.proofs.group_from.Goals as goal
 

@@ -1,19 +1,7 @@
--- The invariant: the search from here on finds what the whole search does. Assumes nothing.
-use borrow.Author.Rules.{rules}
-use Rattle.build_entry.specs.Counted.{passed_none, passed_all, passed_bad, passed_found, passed_one}
+-- A date that is none ends the search. Assumes nothing.
+use native.Mathlib.Omega.{arith}
+use Rattle.build_entry.specs.Counted.{passed_bad}
 use Rattle.build_entry.proofs.counted.first_covering.Goals as goal
 
-pub loop-k-init : goal.loop-k-init
-loop-k-init c = search (rules, passed_none)
-
-pub returns-in-Undated : goal.returns-in-Undated
-returns-in-Undated c = search (rules, passed_bad)
-
-pub returns-in-Covers : goal.returns-in-Covers
-returns-in-Covers c = search (rules, passed_found)
-
-pub loop-k-preserved : goal.loop-k-preserved
-loop-k-preserved c = search (rules, passed_one)
-
-pub returns : goal.returns
-returns c = search (rules, passed_all)
+pub returns-in-Err : goal.returns-in-Err
+returns-in-Err c = passed_bad _ _ _ c.loop-k.invariant (omega arith) _ c.interval_at-interval.ensures _ c.in-Err.ensures

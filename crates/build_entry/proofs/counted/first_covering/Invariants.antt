@@ -1,10 +1,6 @@
--- What each turn keeps, and what gets less.
-use Prim.Native.Nat.{◌-◌}
+-- What each turn keeps: the search from here on finds what the whole search does.
 use Rattle.build_entry.specs.Counted.{Passed}
 use Rattle.build_entry.proofs.counted.first_covering.Given as goal
 
 abbrev pub invariant-loop-k : goal.invariant-loop-k
-invariant-loop-k l = Passed l.intervals l.from l.count l.day l.k
-
-abbrev pub decreases-loop-k : goal.decreases-loop-k
-decreases-loop-k l = l.count - l.k
+invariant-loop-k l = Passed l.intervals l.day l.k

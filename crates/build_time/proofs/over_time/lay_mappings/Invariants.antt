@@ -1,12 +1,8 @@
--- What each turn keeps, and what gets less.
-use Prim.Native.Nat.{◌-◌}
-use Rattle.leaves_names.specs.Names.{names_of}
+-- What each turn keeps.
+use Rattle.leaves_names.specs.Names.{names_in}
 use Rattle.build_time.specs.OverTimeMappings.{Mapped}
 use Rattle.build_time.proofs.over_time.lay_mappings.Given as goal
 
 abbrev pub invariant-loop-t : goal.invariant-loop-t
 invariant-loop-t l =
-    Mapped l.names (names_of l.bytes l.ends l.names) l.direction l.mappings l.intervals l.count l.initial.table l.table l.used l.from l.t
-
-abbrev pub decreases-loop-t : goal.decreases-loop-t
-decreases-loop-t l = l.count - l.t
+    Mapped l.names.list.names (names_in l.names.list) l.direction l.mappings.words.now l.mappings.intervals.now l.mappings.count l.initial.table l.table l.used l.from l.t

@@ -1,50 +1,39 @@
--- Each word fits its field, as the test of the header says. Assumes nothing.
+-- Each word fits its field, as the test of the words says. Assumes nothing.
 use native.Mathlib.Omega.{arith}
-use mathlib.Core.Path.{ap}
-use lib.Dec.{eqb}
-use Prim.Native.Nat.{ℕ, ◌≤◌}
-use Rattle.door_answers.specs.HeaderLaws.{word_fits, header_same}
+use mathlib.Core.Bool.{Bool, true, cond}
+use mathlib.Core.List.{List}
+use mathlib.Core.Path.{◌≡◌, ap, sym, ◌∙◌}
+use lib.ListN.{get_or}
+use Prim.Native.Nat.{ℕ, ◌≤◌, ◌<◌}
+use Rattle.std.specs.Prelude.{Some, None}
+use Rattle.door_answers.specs.Header.{widths, within, header_fits, header_of}
+use Rattle.door_answers.specs.HeaderLaws.{within_word}
 use Rattle.door_answers.proofs.header.header_of.Goals as goal
 
+fits : (w : List ℕ) {b : Bool} → b ≡ within w widths → b ≡ true → (i : ℕ) → i < 14 → get_or w i 0 ≤ get_or widths i 0
+fits w e t = within_word w widths (sym e ∙ t)
+
 pub overflow_cast-result : goal.overflow_cast-result
-overflow_cast-result c =
-    let f : c.word.result ≤ 255 = word_fits c.args.words.now c.requires 0 (omega arith) c.word.ensures in
-    omega (arith, f)
+overflow_cast-result c = omega (arith, fits c.args.words.now c.is_within.ensures c.if-not-is_within.false 0 (omega arith))
 
 pub overflow_cast-result-2 : goal.overflow_cast-result-2
-overflow_cast-result-2 c =
-    let f : c.word-2.result ≤ 4294967295 = word_fits c.args.words.now c.requires 1 (omega arith) c.word-2.ensures in
-    omega (arith, f)
+overflow_cast-result-2 c = omega (arith, fits c.args.words.now c.is_within.ensures c.if-not-is_within.false 1 (omega arith))
 
 pub overflow_cast-result-3 : goal.overflow_cast-result-3
-overflow_cast-result-3 c =
-    let f : c.word-3.result ≤ 65535 = word_fits c.args.words.now c.requires 2 (omega arith) c.word-3.ensures in
-    omega (arith, f)
+overflow_cast-result-3 c = omega (arith, fits c.args.words.now c.is_within.ensures c.if-not-is_within.false 2 (omega arith))
 
 pub overflow_cast-result-4 : goal.overflow_cast-result-4
-overflow_cast-result-4 c =
-    let f : c.word-7.result ≤ 255 = word_fits c.args.words.now c.requires 6 (omega arith) c.word-7.ensures in
-    omega (arith, f)
+overflow_cast-result-4 c = omega (arith, fits c.args.words.now c.is_within.ensures c.if-not-is_within.false 6 (omega arith))
 
 pub overflow_cast-result-5 : goal.overflow_cast-result-5
-overflow_cast-result-5 c =
-    let f : c.word-8.result ≤ 255 = word_fits c.args.words.now c.requires 7 (omega arith) c.word-8.ensures in
-    omega (arith, f)
+overflow_cast-result-5 c = omega (arith, fits c.args.words.now c.is_within.ensures c.if-not-is_within.false 7 (omega arith))
+
+pub returns-then-not-is_within : goal.returns-then-not-is_within
+unfolding header_fits
+returns-then-not-is_within c =
+    ap (λ (b : Bool). cond b (Some (header_of c.args.words.now)) None) (sym c.if-not-is_within.true ∙ c.is_within.ensures)
 
 pub returns : goal.returns
+unfolding header_fits
 returns c =
-    header_same c.args.words.now
-    c.word.ensures
-    c.word-2.ensures
-    c.word-3.ensures
-    c.word-4.ensures
-    c.word-5.ensures
-    c.word-6.ensures
-    c.word-7.ensures
-    c.word-8.ensures
-    (ap (λ (n : ℕ). eqb n 1) c.word-9.ensures)
-    c.word-10.ensures
-    c.word-11.ensures
-    c.word-12.ensures
-    c.word-13.ensures
-    c.word-14.ensures
+    ap (λ (b : Bool). cond b (Some (header_of c.args.words.now)) None) (sym c.if-not-is_within.false ∙ c.is_within.ensures)

@@ -1,24 +1,18 @@
--- Each arm of the match is what its case says. Assumes nothing.
-use mathlib.Core.Path.{sym, ◌∙◌}
+-- Words that are no header, and a build that was called. Assumes nothing.
 use lib.ListN.{length}
 use Rattle.metadata_form.specs.Header.{lists}
 use Rattle.build_point.specs.Build.{point_in_time_answer, point_in_time_memory}
 use Rattle.door_builds.specs.Build.{build_unfit, build_told}
 use Rattle.door_builds.proofs.build.desk_build_points.Goals as goal
 
-pub returns-then-not-is_header : goal.returns-then-not-is_header
-returns-then-not-is_header c =
+pub returns-in_default : goal.returns-in_default
+returns-in_default c =
     let a = c.args in
+    let l = lists a.symbols.now a.partial.now a.not_found.now a.mappings.now a.intervals.now in
     build_unfit (length a.table.now) a.header.now
-    (λ h. point_in_time_answer (length a.table.now) h
-    (lists a.symbols.now a.partial.now a.not_found.now a.mappings.now a.intervals.now) a.bytes.now a.ends.now a.names
-    a.name_bytes a.date) (λ h. point_in_time_memory (length a.table.now) h
-    (lists a.symbols.now a.partial.now a.not_found.now a.mappings.now a.intervals.now) a.bytes.now a.ends.now a.names
-    a.name_bytes a.date) _ c.is_header.ensures
-    c.if-not-is_header.true c.clear.ensures
-
-pub header_of-h-requires : goal.header_of-h-requires
-header_of-h-requires c = sym c.is_header.ensures ∙ c.if-not-is_header.false
+    (λ h. point_in_time_answer (length a.table.now) h l a.bytes.now a.ends.now a.names a.name_bytes a.date)
+    (λ h. point_in_time_memory (length a.table.now) h l a.bytes.now a.ends.now a.names a.name_bytes a.date)
+    c.header_of.result c.header_of.ensures c.in_default.not-Some (c.fill.ensures.after (λ y e. e))
 
 pub returns : goal.returns
 returns c =
@@ -27,5 +21,4 @@ returns c =
     build_told (length a.table.now) a.header.now
     (λ h. point_in_time_answer (length a.table.now) h l a.bytes.now a.ends.now a.names a.name_bytes a.date)
     (λ h. point_in_time_memory (length a.table.now) h l a.bytes.now a.ends.now a.names a.name_bytes a.date)
-    c.point_in_time-built.result _ c.is_header.ensures c.if-not-is_header.false _ c.header_of-h.ensures
-    c.point_in_time-built.ensures.answered c.point_in_time-built.ensures.memory c.number_of.ensures c.used_of.ensures
+    c.point_in_time.result _ c.in-Some.ensures c.point_in_time.ensures.answered c.point_in_time.ensures.memory c.told.ensures.returns c.told.ensures.counts

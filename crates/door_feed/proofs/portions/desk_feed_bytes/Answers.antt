@@ -1,34 +1,32 @@
 -- Each arm of the match is what its case says. Assumes nothing.
-use Rattle.feed_window.specs.Answers.{added_of}
+use Rattle.std.specs.Prelude.{Result}
+use Rattle.theory.specs.Answer.{Answer, one_value}
+use Rattle.leaves.specs.Refusal.{answer_with}
 use Rattle.door_answers.specs.Answers.{number_in, value_in}
-use Rattle.door_answers.specs.AnswersLaws.{answer_same, done_number, done_value, not_number, not_value}
+use Rattle.door_answers.specs.AnswersLaws.{done_number, done_value, not_number, not_value}
 use Rattle.door_feed.proofs.portions.desk_feed_bytes.Goals as goal
 
-pub returns-in-Taken : goal.returns-in-Taken
+pub returns-in-Ok : goal.returns-in-Ok
 unfolding number_in value_in
-returns-in-Taken c =
-    let o = c.add-added.ensures in
+returns-in-Ok c =
+    let o = c.in-Ok.ensures in
     let t = c.args.taken.now in
-    let g = c.in-Taken.is in
     record {
-      refused = λ w. let x = o.refused w in let e = answer_same added_of x.0 g in (done_number e, done_value t 0 e, x.1, x.2);
+      refused = λ w. let x = o.refused w in (done_number x.0, done_value t 0 x.0, x.1, x.2);
       says = λ w n held ts hp hn ok.
           let x = o.says w n held ts hp hn ok in
-          let e = answer_same added_of x.heard g in
-          (done_number e, done_value t 0 e, rw (← x.heard) x);
+          (done_number x.heard, done_value t 0 x.heard, rw (← x.heard) x);
     }
 
-pub returns-in-Refused : goal.returns-in-Refused
+pub returns-in-Err : goal.returns-in-Err
 unfolding number_in value_in
-returns-in-Refused c =
-    let o = c.add-added.ensures in
+returns-in-Err c =
+    let o = c.in-Err.ensures in
     let t = c.args.taken.now in
-    let g = c.in-Refused.is in
-    let r = c.in-Refused.refusal in
+    let r = c.in-Err.refusal in
     record {
-      refused = λ w. let x = o.refused w in let e = answer_same added_of x.0 g in (not_number r c.number.ensures e, not_value r t 0 e, x.1, x.2);
+      refused = λ w. let x = o.refused w in (not_number r c.number.ensures x.0, not_value r t 0 x.0, x.1, x.2);
       says = λ w n held ts hp hn ok.
           let x = o.says w n held ts hp hn ok in
-          let e = answer_same added_of x.heard g in
-          (not_number r c.number.ensures e, not_value r t 0 e, rw (← x.heard) x);
+          (not_number r c.number.ensures x.heard, not_value r t 0 x.heard, rw (← x.heard) x);
     }

@@ -1,26 +1,13 @@
 -- Each arm of the match is what its case says. Assumes nothing.
-use mathlib.Core.Path.{refl}
-use Rattle.feed.specs.Answers.{opened_of}
-use Rattle.door_answers.specs.AnswersLaws.{answer_same, done_number, done_value, not_number, not_value}
+use borrow.Author.Rules.{rules}
+use Rattle.door_feed.specs.HandingLaws.{open_done, open_not}
 use Rattle.door_feed.proofs.portions.desk_feed_open.Goals as goal
 
-pub returns-in-Opened : goal.returns-in-Opened
-returns-in-Opened c =
-    let o = c.open-opened.ensures in
-    let e = answer_same opened_of o.answers c.in-Opened.is in
-    record {
-      returns = done_number e;
-      holds = done_value c.args.held.now 1 e;
-      opens = record { answers = refl; refused = o.refused; accepted = o.accepted };
-    }
+pub returns-in-Ok : goal.returns-in-Ok
+returns-in-Ok c =
+    open_done c.open.new.state (search rules) (search rules) (search rules) (search rules) (search rules) c.in-Ok.ensures.says
 
-pub returns-in-Refused : goal.returns-in-Refused
-returns-in-Refused c =
-    let o = c.open-opened.ensures in
-    let e = answer_same opened_of o.answers c.in-Refused.is in
-    let r = c.in-Refused.refusal in
-    record {
-      returns = not_number r c.number.ensures e;
-      holds = not_value r c.args.held.now 1 e;
-      opens = record { answers = refl; refused = o.refused; accepted = o.accepted };
-    }
+pub returns-in-Err : goal.returns-in-Err
+returns-in-Err c =
+    open_not c.open.new.state (search rules) (search rules) (search rules) (search rules) (search rules) c.in-Err.refusal
+    c.number.ensures c.in-Err.ensures.says

@@ -1,81 +1,35 @@
--- Each arm of the match is what its case says. Assumes nothing.
-use Rattle.feed_run.specs.Run.{last_of}
-use Rattle.door_answers.specs.AnswersLaws.{answer_same}
-use Rattle.door_run.specs.Handing.{ran_done, ran_needs, ran_not}
+-- What the run made is handed over. Assumes nothing.
+use mathlib.Core.Path.{◌≡◌, sym}
+use mathlib.Core.List.{List}
+use Prim.Native.Nat.{ℕ}
+use borrow.Author.Rules.{rules}
+use Rattle.theory.specs.Answer.{Answer}
+use Rattle.records_state.specs.declared.state.State.{State}
+use Rattle.feed_rules.specs.Spans.{FeedArrays, feed_arrays}
+use Rattle.feed.specs.Lent.{feed_arrays_of}
+use Rattle.feed_run.specs.Run.{FeedRunGives}
+use Rattle.door_run.specs.Handing.{Numbers, RunHanded, handed_as}
+use Rattle.door_feed_run.specs.Run.{DeskFeedRun}
 use Rattle.door_feed_run.proofs.run.desk_feed_run.Goals as goal
 
-pub returns-in-Going : goal.returns-in-Going
-returns-in-Going c =
-    let ran = c.run-made.ensures in
-    record {
-      refused = λ w.
-          let x = ran.refused w in
-          (ran_done _ x.calls x.written (answer_same last_of x.answers c.in-Going.is), x.held, x.untouched, x.list);
-      made = λ w n h s.
-          let x = ran.says w n h s in
-          let g = x.gives in
-          record {
-            hands = record { handed = ran_done _ g.calls g.written (answer_same last_of g.answers c.in-Going.is); list = g.list };
-            leaves = x.leaves;
-            sound = x.sound;
-          };
-    }
+-- the caller's arrays where the state t was left in them
+there : (t : State) {ms ts cs hs hp : List ℕ} (ps : List ℕ) → ms ≡ t.marks.now → ts ≡ t.times.now → cs ≡ t.places.now → hs ≡ t.heads.now
+    → hp ≡ t.heap.now → feed_arrays_of t ps ≡ feed_arrays ms ts cs hs hp ps
+there t ps em et ec eh ep = λ i. feed_arrays (sym em i) (sym et i) (sym ec i) (sym eh i) (sym ep i) ps
 
-pub returns-in-End : goal.returns-in-End
-returns-in-End c =
-    let ran = c.run-made.ensures in
-    record {
-      refused = λ w.
-          let x = ran.refused w in
-          (ran_done _ x.calls x.written (answer_same last_of x.answers c.in-End.is), x.held, x.untouched, x.list);
-      made = λ w n h s.
-          let x = ran.says w n h s in
-          let g = x.gives in
-          record {
-            hands = record { handed = ran_done _ g.calls g.written (answer_same last_of g.answers c.in-End.is); list = g.list };
-            leaves = x.leaves;
-            sound = x.sound;
-          };
-    }
+handed : {window : List ℕ} {allowance held c w r : ℕ} {a a' : FeedArrays} {ws ws' : List ℕ} {x : Answer} {o o' : Numbers} (t : State) (ps : List ℕ)
+    → feed_arrays_of t ps ≡ a' → FeedRunGives window allowance held a ws c w t.held x (feed_arrays_of t ps) ws'
+    → RunHanded x c w r o o' → DeskFeedRun window allowance held a ws o r t.held a' ws' o'
+handed t ps e g h = rw (← e) (record {
+  refused = λ no. let y = g.refused no in (handed_as h y.answers y.calls y.written, y.held, y.untouched, y.list);
+  made = λ yes n few ok.
+      let y = g.says yes n few ok in
+      let z = y.gives in
+      record { hands = record { handed = handed_as h z.answers z.calls z.written; list = z.list }; leaves = y.leaves; sound = y.sound };
+})
 
-pub returns-in-NeedMore : goal.returns-in-NeedMore
-returns-in-NeedMore c =
-    let ran = c.run-made.ensures in
-    record {
-      refused = λ w.
-          let x = ran.refused w in
-          (ran_needs _ x.calls x.written (answer_same last_of x.answers c.in-NeedMore.is), x.held, x.untouched, x.list);
-      made = λ w n h s.
-          let x = ran.says w n h s in
-          let g = x.gives in
-          record {
-            hands = record { handed = ran_needs _ g.calls g.written (answer_same last_of g.answers c.in-NeedMore.is); list = g.list };
-            leaves = x.leaves;
-            sound = x.sound;
-          };
-    }
-
-pub returns-in-Refused : goal.returns-in-Refused
-returns-in-Refused c =
-    let ran = c.run-made.ensures in
-    let k = c.moved.ensures in
-    let m = c.moved-in-Refused.ensures in
-    let i = c.stream_in.ensures in
-    let p = c.place_in.ensures in
-    let q = c.reason_in.ensures in
-    let r = c.in-Refused.refusal in
-    record {
-      refused = λ w.
-          let x = ran.refused w in
-          let e = answer_same last_of x.answers c.in-Refused.is in
-          (ran_not _ x.calls x.written r c.number.ensures k m i p q e, x.held, x.untouched, x.list);
-      made = λ w n h s.
-          let x = ran.says w n h s in
-          let g = x.gives in
-          let e = answer_same last_of g.answers c.in-Refused.is in
-          record {
-            hands = record { handed = ran_not _ g.calls g.written r c.number.ensures k m i p q e; list = g.list };
-            leaves = x.leaves;
-            sound = x.sound;
-          };
-    }
+pub returns : goal.returns
+returns c =
+    handed c.run-made.new.state c.run-made.new.spans
+    (there c.run-made.new.state c.run-made.new.spans (search rules) (search rules) (search rules) (search rules) (search rules))
+    c.run-made.ensures.says c.hand_made.ensures

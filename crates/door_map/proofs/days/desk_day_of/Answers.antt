@@ -1,21 +1,11 @@
 -- Each arm of the match is what its case says. Assumes nothing.
-use Rattle.leaves_days.specs.Days.{day_answer_of}
-use Rattle.door_answers.specs.AnswersLaws.{answer_same, done_number, done_value, not_number, not_value}
+use Rattle.door_answers.specs.AnswersLaws.{done_number, done_value, not_number, not_value}
 use Rattle.door_map.proofs.days.desk_day_of.Goals as goal
 
-pub returns-in-Number : goal.returns-in-Number
-returns-in-Number c =
-    let e = answer_same day_answer_of c.day_of-answer.ensures c.in-Number.is in
-    record {
-      value = done_number e;
-      day_after = done_value c.args.day.now 0 e;
-    }
+pub returns-in-Ok : goal.returns-in-Ok
+returns-in-Ok c = record { value = done_number c.in-Ok.ensures; day_after = done_value c.args.day.now 0 c.in-Ok.ensures }
 
-pub returns-in-Refused : goal.returns-in-Refused
-returns-in-Refused c =
-    let e = answer_same day_answer_of c.day_of-answer.ensures c.in-Refused.is in
-    let r = c.in-Refused.refusal in
-    record {
-      value = not_number r c.number.ensures e;
-      day_after = not_value r c.args.day.now 0 e;
-    }
+pub returns-in-Err : goal.returns-in-Err
+returns-in-Err c =
+    let r = c.in-Err.refusal in
+    record { value = not_number r c.number.ensures c.in-Err.ensures; day_after = not_value r c.args.day.now 0 c.in-Err.ensures }

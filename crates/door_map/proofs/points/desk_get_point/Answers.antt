@@ -1,36 +1,20 @@
 -- Each arm of the match is what its case says. Assumes nothing.
-use mathlib.Core.Path.{refl, sym, ap, ◌∙◌}
-use Rattle.map_rules.specs.Looks.{number_in as looked-number}
-use Rattle.map_look.specs.declared.lookup.Found.{Found}
-use Rattle.map_point.specs.Points.{point_found_of}
-use Rattle.door_answers.specs.AnswersLaws.{answer_same, done_number, done_value, done_given, not_number, not_value, not_given}
+use mathlib.Core.Path.{◌∙◌}
+use Rattle.door_answers.specs.AnswersLaws.{done_number, not_number, not_value, not_given}
+use Rattle.door_map.specs.Symbol.{point_found, point_symbol}
 use Rattle.door_map.proofs.points.desk_get_point.Goals as goal
 
-pub returns-in-Symbol : goal.returns-in-Symbol
-returns-in-Symbol c =
-    let a = c.args in record {
-      right = λ t.
-          let e = answer_same point_found_of (c.get-answer.ensures.right t) c.in-Symbol.is in
-          (done_number e, done_given a.found.now 0 e, done_value a.symbol.now 0 e);
-      accepted = λ w. refl;
-    }
-
-pub returns-in-Nothing : goal.returns-in-Nothing
-returns-in-Nothing c =
-    let a = c.args in record {
-      right = λ t.
-          let e = answer_same point_found_of (c.get-answer.ensures.right t) c.in-Nothing.is in
-          (done_number e, done_given a.found.now 0 e, done_value a.symbol.now 0 e);
-      accepted = λ w. refl;
-    }
-
-pub returns-in-Refused : goal.returns-in-Refused
-returns-in-Refused c =
+pub returns-in-Ok-clause-right : goal.returns-in-Ok-clause-right
+returns-in-Ok-clause-right c = λ t.
     let a = c.args in
-    let r = c.in-Refused.refusal in record {
-      right = λ t.
-          let e = answer_same point_found_of (c.get-answer.ensures.right t) c.in-Refused.is in
-          (not_number r c.number.ensures e, not_given r a.found.now 0 e, not_value r a.symbol.now 0 e);
-      accepted = λ w.
-          c.number.ensures ∙ sym (ap (λ (x : Found). looked-number (point_found_of x)) c.in-Refused.is) ∙ c.get-answer.ensures.accepted w;
-    }
+    let x = c.in-Ok.answer in
+    let e = c.in-Ok.ensures.right t in
+    let h = c.hand_symbol.ensures in
+    (done_number e, h.0 ∙ point_found a.found.now x e, h.1 ∙ point_symbol a.symbol.now x e)
+
+pub returns-in-Err-clause-right : goal.returns-in-Err-clause-right
+returns-in-Err-clause-right c = λ t.
+    let a = c.args in
+    let r = c.in-Err.refusal in
+    let e = c.in-Err.ensures.right t in
+    (not_number r c.number.ensures e, not_given r a.found.now 0 e, not_value r a.symbol.now 0 e)

@@ -1,23 +1,12 @@
 -- Each arm of the match is what its case says. Assumes nothing.
-use mathlib.Core.Path.{ap}
-use Rattle.leaves_text.specs.NumberText.{reading_of}
+use mathlib.Core.Path.{ap, ◌∙◌}
 use Rattle.door_answers.specs.Answers.{number_in, value_in}
-use Rattle.door_answers.specs.AnswersLaws.{answer_same, done_number, done_value}
+use Rattle.door_answers.specs.AnswersLaws.{done_number, done_value}
 use Rattle.door_map.proofs.text.desk_number_text.Goals as goal
 
-pub returns-in-Value : goal.returns-in-Value
-returns-in-Value c =
-    let e = answer_same reading_of c.number-reading.ensures c.in-Value.is in
-    record {
-      value = done_number e;
-      value_after = done_value c.args.value.now 0 e;
-    }
+pub returns-in-Ok : goal.returns-in-Ok
+returns-in-Ok c = record { value = done_number c.in-Ok.ensures; value_after = done_value c.args.value.now 0 c.in-Ok.ensures }
 
-pub returns-in-Stuck : goal.returns-in-Stuck
+pub returns-in-Err : goal.returns-in-Err
 unfolding number_in value_in
-returns-in-Stuck c =
-    let e = answer_same reading_of c.number-reading.ensures c.in-Stuck.is in
-    record {
-      value = ap number_in e;
-      value_after = ap (value_in c.args.value.now 0) e;
-    }
+returns-in-Err c = record { value = c.number-in-Err.ensures ∙ ap number_in c.in-Err.ensures; value_after = ap (value_in c.args.value.now 0) c.in-Err.ensures }

@@ -8,6 +8,6 @@ pub returns-then-is_utf8 : goal.returns-then-is_utf8
 unfolding number_in utf8_answer
 returns-then-is_utf8 c = ap (λ (b : Bool). number_in (utf8_answer b)) (sym c.if-is_utf8.true ∙ c.is_utf8.ensures)
 
-pub returns : goal.returns
+pub returns-else-is_utf8 : goal.returns-else-is_utf8
 unfolding number_in utf8_answer
-returns c = ap (λ (b : Bool). number_in (utf8_answer b)) (sym c.if-is_utf8.false ∙ c.is_utf8.ensures)
+returns-else-is_utf8 c = c.number.ensures ∙ ap (λ (b : Bool). number_in (utf8_answer b)) (sym c.if-is_utf8.false ∙ c.is_utf8.ensures)

@@ -1,28 +1,26 @@
 -- Each arm of the match is what its case says. Assumes nothing.
 use mathlib.Core.Path.{sym, ◌∙◌}
 use Rattle.metadata_form.specs.Header.{lists}
+use Rattle.door_answers.specs.HeaderLaws.{header_some, header_none}
 use Rattle.door_metadata.specs.MergerLaws.{finish_unfit, finish_done, finish_refused}
 use Rattle.door_metadata.proofs.merger.desk_metadata_finish.Goals as goal
 
-pub returns-then-not-is_header : goal.returns-then-not-is_header
-returns-then-not-is_header c =
+pub returns-in_default : goal.returns-in_default
+returns-in_default c =
     let a = c.args in
-    finish_unfit a.header.now (lists a.symbols.now a.partial.now a.not_found.now a.mappings.now a.intervals.now) _ c.is_header.ensures c.if-not-is_header.true
+    finish_unfit a.header.now (lists a.symbols.now a.partial.now a.not_found.now a.mappings.now a.intervals.now)
+    (header_none _ (sym c.in_default.is ∙ c.header_of.ensures))
 
-pub header_of-h-requires : goal.header_of-h-requires
-header_of-h-requires c = sym c.is_header.ensures ∙ c.if-not-is_header.false
-
-pub returns-in-Done : goal.returns-in-Done
-returns-in-Done c =
+pub returns-in-Ok : goal.returns-in-Ok
+returns-in-Ok c =
     let a = c.args in
-    finish_done a.header.now (lists a.symbols.now a.partial.now a.not_found.now a.mappings.now a.intervals.now) _
-    c.is_header.ensures c.if-not-is_header.false _
-    c.header_of-h.ensures _ c.finish-finished.ensures _ c.in-Done.is
+    let s = header_some _ _ (sym c.in-Some.is ∙ c.header_of.ensures) in
+    finish_done a.header.now (lists a.symbols.now a.partial.now a.not_found.now a.mappings.now a.intervals.now)
+    s.0 _ s.1 _ c.finish.ensures _ c.in-Ok.is
 
-pub returns-in-Refused : goal.returns-in-Refused
-returns-in-Refused c =
+pub returns-in-Err : goal.returns-in-Err
+returns-in-Err c =
     let a = c.args in
-    finish_refused a.header.now (lists a.symbols.now a.partial.now a.not_found.now a.mappings.now a.intervals.now) _
-    c.is_header.ensures
-    c.if-not-is_header.false _ c.header_of-h.ensures _
-    c.finish-finished.ensures _ c.in-Refused.is _ c.number.ensures
+    let s = header_some _ _ (sym c.in-Some.is ∙ c.header_of.ensures) in
+    finish_refused a.header.now (lists a.symbols.now a.partial.now a.not_found.now a.mappings.now a.intervals.now)
+    s.0 _ s.1 _ c.finish.ensures _ c.in-Err.is _ c.number.ensures

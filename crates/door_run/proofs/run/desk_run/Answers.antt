@@ -1,64 +1,34 @@
--- Each arm of the match is what its case says. Assumes nothing.
-use Rattle.records_run.specs.Run.{last_of}
-use Rattle.door_answers.specs.AnswersLaws.{answer_same}
-use Rattle.door_run.specs.Handing.{ran_done, ran_not}
+-- What the run made is handed over. Assumes nothing.
+use mathlib.Core.Path.{◌≡◌, sym}
+use mathlib.Core.List.{List}
+use Prim.Native.Nat.{ℕ}
+use borrow.Author.Rules.{rules}
+use Rattle.theory.specs.Answer.{Answer}
+use Rattle.records_rules.specs.Machine.{Stream}
+use Rattle.records_rules.specs.State.{Arrays, arrays}
+use Rattle.records_state.specs.Lent.{arrays_of}
+use Rattle.records_state.specs.declared.state.State.{State}
+use Rattle.records_run.specs.Run.{RunGives}
+use Rattle.door_run.specs.Handing.{Numbers, RunHanded, handed_as}
+use Rattle.door_run.specs.Run.{DeskRun}
 use Rattle.door_run.proofs.run.desk_run.Goals as goal
 
-pub returns-in-Going : goal.returns-in-Going
-returns-in-Going c =
-    let ran = c.run-made.ensures in
-    record {
-      refused = λ w.
-          let x = ran.refused w in
-          (ran_done _ x.calls x.written (answer_same last_of x.answers c.in-Going.is), x.held, x.untouched, x.list);
-      made = λ w n h s.
-          let x = ran.says w n h s in
-          let g = x.gives in
-          record {
-            hands = record { handed = ran_done _ g.calls g.written (answer_same last_of g.answers c.in-Going.is); list = g.list };
-            leaves = x.leaves;
-            sound = x.sound;
-          };
-    }
+-- the caller's arrays where the state t was left in them
+there : (t : State) {ms ts cs hs hp : List ℕ} → ms ≡ t.marks.now → ts ≡ t.times.now → cs ≡ t.places.now → hs ≡ t.heads.now → hp ≡ t.heap.now
+    → arrays_of t ≡ arrays ms ts cs hs hp
+there t em et ec eh ep = λ i. arrays (sym em i) (sym et i) (sym ec i) (sym eh i) (sym ep i)
 
-pub returns-in-End : goal.returns-in-End
-returns-in-End c =
-    let ran = c.run-made.ensures in
-    record {
-      refused = λ w.
-          let x = ran.refused w in
-          (ran_done _ x.calls x.written (answer_same last_of x.answers c.in-End.is), x.held, x.untouched, x.list);
-      made = λ w n h s.
-          let x = ran.says w n h s in
-          let g = x.gives in
-          record {
-            hands = record { handed = ran_done _ g.calls g.written (answer_same last_of g.answers c.in-End.is); list = g.list };
-            leaves = x.leaves;
-            sound = x.sound;
-          };
-    }
+handed : {b : ℕ → Stream} {allowance held c w r : ℕ} {a a' : Arrays} {ws ws' : List ℕ} {x : Answer} {o o' : Numbers} (t : State) → arrays_of t ≡ a'
+    → RunGives b allowance held a ws c w t.held x (arrays_of t) ws' → RunHanded x c w r o o' → DeskRun b allowance held a ws o r t.held a' ws' o'
+handed t e g h = rw (← e) (record {
+  refused = λ no. let y = g.refused no in (handed_as h y.answers y.calls y.written, y.held, y.untouched, y.list);
+  made = λ yes n few ok.
+      let y = g.says yes n few ok in
+      let z = y.gives in
+      record { hands = record { handed = handed_as h z.answers z.calls z.written; list = z.list }; leaves = y.leaves; sound = y.sound };
+})
 
-pub returns-in-Refused : goal.returns-in-Refused
-returns-in-Refused c =
-    let ran = c.run-made.ensures in
-    let k = c.moved.ensures in
-    let m = c.moved-in-Refused.ensures in
-    let i = c.stream_in.ensures in
-    let p = c.place_in.ensures in
-    let q = c.reason_in.ensures in
-    let r = c.in-Refused.refusal in
-    record {
-      refused = λ w.
-          let x = ran.refused w in
-          let e = answer_same last_of x.answers c.in-Refused.is in
-          (ran_not _ x.calls x.written r c.number.ensures k m i p q e, x.held, x.untouched, x.list);
-      made = λ w n h s.
-          let x = ran.says w n h s in
-          let g = x.gives in
-          let e = answer_same last_of g.answers c.in-Refused.is in
-          record {
-            hands = record { handed = ran_not _ g.calls g.written r c.number.ensures k m i p q e; list = g.list };
-            leaves = x.leaves;
-            sound = x.sound;
-          };
-    }
+pub returns : goal.returns
+returns c =
+    handed c.run-made.new.state (there c.run-made.new.state (search rules) (search rules) (search rules) (search rules) (search rules))
+    c.run-made.ensures.says c.hand_made.ensures

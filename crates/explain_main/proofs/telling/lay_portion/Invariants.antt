@@ -1,10 +1,7 @@
--- What each turn keeps, and what gets less.
-use Prim.Native.Nat.{◌-◌}
+-- What each turn keeps.
+use Rattle.std.specs.Prelude.{◌/◌, length}
 use Rattle.explain_main.specs.Portions.{Telling}
 use Rattle.explain_main.proofs.telling.lay_portion.Given as goal
 
-abbrev pub invariant-loop-next : goal.invariant-loop-next
-invariant-loop-next l = Telling l.table l.used l.checked l.questions l.count l.from l.next l.at l.initial.text l.text
-
-abbrev pub decreases-loop-next : goal.decreases-loop-next
-decreases-loop-next l = l.count - l.next
+abbrev pub invariant-loop-k : goal.invariant-loop-k
+invariant-loop-k l = Telling l.asked.table.now l.asked.used l.asked.checked l.questions (length l.questions / 12) l.from l.k l.at l.initial.text l.text

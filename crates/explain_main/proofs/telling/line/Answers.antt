@@ -13,5 +13,5 @@ unfolding line_text blank newline
 returns c =
     let a = c.args in
     let h : a.at ≤ length a.text.now = omega arith in
-    let l = lays_then h (lays_then h (lays_then h c.number-a.ensures.0 c.word-b.ensures) c.number-c.ensures.0) c.reason-d.ensures.0 in
+    let l = lays_then h (lays_then h (lays_then h c.number-a.ensures.0 c.word-b.ensures) c.number-c.ensures.0) c.answer-d.ensures.0 in
     (lays_then h l c.word.ensures, search rules)

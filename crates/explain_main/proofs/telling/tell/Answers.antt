@@ -5,5 +5,5 @@ use Rattle.explain_main.proofs.telling.tell.Goals as goal
 
 pub returns : goal.returns
 returns c =
-    let e = question_text_lem _ _ _ _ _ c.u32_at-instrument.ensures c.u64_at-moment.ensures c.answer-explained.ensures in
+    let e = question_text_lem _ _ _ _ _ c.u32_at-instrument.ensures c.u64_at-moment.ensures c.explain-said.ensures in
     (lays_same e c.line.ensures.0, c.line.ensures.1)

@@ -2,11 +2,18 @@
 use Rattle.records_rules.specs.Kept.{waits}
 use Rattle.records_rules.specs.View.{statuses_of}
 use Rattle.feed_rules.specs.Going.{Going⁺}
+use Rattle.records_state.specs.Lent.{SameMemory}
 use Rattle.feed.proofs.turns.turns.Given as goal
 
-abbrev pub invariant-loop-size : goal.invariant-loop-size
-invariant-loop-size l =
-    Going⁺ l.window l.held l.initial.marks l.initial.times l.initial.places l.initial.heads l.initial.heap l.initial.spans l.size l.marks l.times l.places l.heads l.heap l.spans
+abbrev pub invariant-loop-state : goal.invariant-loop-state
+invariant-loop-state l =
+    let s = l.initial.state in
+    let t = l.state in
+    record {
+      going : Going⁺ l.window s.held s.marks.now s.times.now s.places.now s.heads.now s.heap.now l.initial.spans
+          t.held t.marks.now t.times.now t.places.now t.heads.now t.heap.now l.spans;
+      memory : SameMemory s t;
+    }
 
-abbrev pub decreases-loop-size : goal.decreases-loop-size
-decreases-loop-size l = waits (statuses_of 256 l.marks l.times l.places l.heads)
+abbrev pub decreases-loop-state : goal.decreases-loop-state
+decreases-loop-state l = let t = l.state in waits (statuses_of 256 t.marks.now t.times.now t.places.now t.heads.now)

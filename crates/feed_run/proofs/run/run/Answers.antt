@@ -1,41 +1,36 @@
--- What is lent is tested once, and the run is made on it. Assumes nothing.
-use mathlib.Core.Path.{◌≡◌, refl, sym, ap, subst, ◌∙◌}
-use mathlib.Core.Bool.{Bool, true, false}
-use native.Mathlib.Omega.{arith}
-use lib.ListN.{length}
-use lib.Dec.{T}
-use Rattle.run_rules.specs.Rows.{run_fits}
-use Rattle.run_rules.specs.RowsLaws.{fits_arrays}
-use Rattle.feed_rules.specs.Spans.{feed_fits}
-use Rattle.feed_rules.specs.SpansLaws.{fits_room}
+-- The run of what is called again and again, from what is kept. Assumes nothing.
+use mathlib.Core.Path.{◌≡◌, refl, ap, ◌∙◌}
+use mathlib.Core.List.{List}
+use Prim.Native.Nat.{ℕ}
+use borrow.Author.Rules.{rules}
+use Rattle.records_state.specs.declared.state.State.{State}
+use Rattle.feed_rules.specs.Windows.{Feed}
+use Rattle.feed.specs.Lent.{feed_arrays_of}
+use Rattle.feed_run.specs.Calls.{Shows⁺}
+use Rattle.feed_run.specs.declared.run.Window.{Window}
 use Rattle.feed_run.proofs.run.run.Goals as goal
 
-pub returns-then-not-run_fits : goal.returns-then-not-run_fits
-returns-then-not-run_fits c =
-    let a = c.args in
-    let no : run_fits (feed_fits _ _ _ _ _ _ _ _) a.allowance (length a.list.now) ≡ false =
-    ap (λ (m : Bool). run_fits m a.allowance (length a.list.now)) (sym c.feed_fits-arrays.ensures)
-    ∙ sym c.run_fits.ensures
-    ∙ c.if-not-run_fits.true in
-    record {
-      refused = λ e. record { answers = refl; calls = refl; written = refl; held = refl; untouched = refl; list = refl };
-      says = λ e. absurd (subst T (sym e ∙ no) tt);
-    }
+same : {s t : State} {ps qs rs : List ℕ} → t ≡ s → qs ≡ ps → rs ≡ qs → feed_arrays_of t rs ≡ feed_arrays_of s ps
+same a b e = λ i. feed_arrays_of (a i) ((e ∙ b) i)
 
-pub steps-requires : goal.steps-requires
-steps-requires c =
-    let a = c.args in
-    let fit = sym c.run_fits.ensures ∙ c.if-not-run_fits.false in
-    let arrays = sym c.feed_fits-arrays.ensures ∙ fits_arrays _ _ _ fit in
-    let room = fits_room a.held a.marks.now a.times.now a.places.now a.heads.now a.heap.now a.spans.now a.window.now arrays in
-    (room.0, omega (arith, c.limit_of-limit.ensures))
+lent : {v w : List ℕ} {t : State} {ps qs : List ℕ} {n : ℕ} {F : Feed} → Shows⁺ v t ps n F → v ≡ w → qs ≡ ps → Shows⁺ w t qs n F
+lent s a b = rw (← a, b) s
 
-pub returns : goal.returns
-returns c =
-    let a = c.args in
-    let fit : run_fits (feed_fits _ _ _ _ _ _ _ _) a.allowance (length a.list.now) ≡ true =
-    ap (λ (m : Bool). run_fits m a.allowance (length a.list.now)) (sym c.feed_fits-arrays.ensures)
-    ∙ sym c.run_fits.ensures
-    ∙ c.if-not-run_fits.false in
-    let ran = c.steps.ensures.says in
-    record { refused = λ e. absurd (subst T (sym fit ∙ e) tt); says = λ e n few ok. rw (← c.limit_of-limit.ensures) (ran n few ok) }
+pub returns-clause-says : goal.returns-clause-says
+returns-clause-says c = record {
+  refused = λ e.
+      let z = c.run.ensures.refused e in
+      let x = z.0 in
+      record {
+        answers = x.answers;
+        calls = x.calls;
+        written = x.written;
+        held = ap (λ (s : State). s.held) x.untouched;
+        untouched = same x.untouched (ap (λ (w : Window). w.spans.now) z.1) (search rules);
+        list = x.list;
+      };
+  says = λ e n few ok.
+      let z = c.run.ensures.says e n _ (record { few = few; sound = ok; alike = record { statuses = refl; kept = λ p d. refl } }) in
+      let s = lent z.1 (ap (λ b. b.now) c.run.ensures.memory.2) (search rules) in
+      record { gives = z.0; leaves = s.alike; sound = s.sound };
+}

@@ -7,6 +7,6 @@ pub returns-then-mark-eq-WAITING : goal.returns-then-mark-eq-WAITING
 unfolding counts
 returns-then-mark-eq-WAITING c = simp (eq-eqb _ _ c.if-mark-eq-WAITING.true)
 
-pub returns : goal.returns
+pub returns-else-mark-eq-WAITING : goal.returns-else-mark-eq-WAITING
 unfolding counts
-returns c = simp (ne_eqb _ _ c.if-mark-eq-WAITING.false)
+returns-else-mark-eq-WAITING c = simp (ne_eqb _ _ c.if-mark-eq-WAITING.false)

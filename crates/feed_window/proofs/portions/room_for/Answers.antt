@@ -1,13 +1,15 @@
 -- The span is tested, then the least of three. Assumes nothing.
-use borrow.Author.Tests.{lt-ltb, le-ltb}
-use Rattle.feed_rules.specs.Adding.{room_for}
+use borrow.Author.Rules.{rules}
+use native.Mathlib.Omega.{arith}
+use Rattle.feed_window.proofs.SpanNumber.{none_taken, some_taken}
 use Rattle.feed_window.proofs.portions.room_for.Goals as goal
 
-pub returns-then-span-fill-gt-WINDOW : goal.returns-then-span-fill-gt-WINDOW
-unfolding room_for
-returns-then-span-fill-gt-WINDOW c = simp (lt-ltb _ _ c.if-span-fill-gt-WINDOW.true)
+pub returns-then-from-fill-gt-WINDOW-clause-value : goal.returns-then-from-fill-gt-WINDOW-clause-value
+returns-then-from-fill-gt-WINDOW-clause-value c =
+    none_taken c.args.span (search rules) (search rules) _ _ _ _ (omega (arith, c.if-from-fill-gt-WINDOW.true))
 
-pub returns : goal.returns
-unfolding room_for
-returns c =
-    simp (le-ltb _ _ c.if-span-fill-gt-WINDOW.false, c.lesser-2.ensures, c.lesser.ensures, c.to_most-most.ensures, c.counting.ensures)
+pub returns-clause-value : goal.returns-clause-value
+returns-clause-value c =
+    let t = some_taken c.args.span (search rules) (search rules) c.args.size c.args.mark c.args.place c.args.head
+    (omega (arith, c.if-from-fill-gt-WINDOW.false)) in
+    simp (c.min-2.ensures, c.min.ensures, c.saturating_sub-most.ensures, c.saturating_sub-had.ensures, c.counting.ensures, c.from-fill.ensures) t

@@ -7,6 +7,6 @@ pub returns-then-time-eq-MISSING : goal.returns-then-time-eq-MISSING
 unfolding mapping_start
 returns-then-time-eq-MISSING c = simp (eq-eqb _ _ c.if-time-eq-MISSING.true)
 
-pub returns : goal.returns
+pub returns-else-time-eq-MISSING : goal.returns-else-time-eq-MISSING
 unfolding mapping_start
-returns c = simp (ne_eqb _ _ c.if-time-eq-MISSING.false)
+returns-else-time-eq-MISSING c = simp (ne_eqb _ _ c.if-time-eq-MISSING.false)

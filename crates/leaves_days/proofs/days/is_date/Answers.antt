@@ -1,10 +1,12 @@
--- `days::is_date` meets its contract: each `false` is one way in which the date is none or out of range; a day up to the 28th is one of any month.
+-- The first tests are ways in which the date is none or out of range; a day up to the 28th is one of any month.
 -- Assumes nothing.
 use Prim.Native.Nat.{ℕ, ◌+◌, ◌-◌, ◌≤◌, ◌<◌}
 use native.Mathlib.Numerals.{add-one}
 use native.Mathlib.Omega.{arith}
-use mathlib.Core.Path.{◌≡◌, ap}
-use mathlib.Core.Bool.{true, false}
+use mathlib.Core.Path.{◌≡◌, refl, ap}
+use borrow.Author.Tests.{leb-true, leb-false}
+use Rattle.std.specs.Prelude.{leb}
+use mathlib.Core.Bool.{Bool, true, false}
 use Rattle.leaves_days.specs.Calendar.{is_leap, month_days, days_before, year_in, month_in, day_in}
 use Rattle.leaves_days.specs.CalendarLaws.{before_suc, month_long}
 use Rattle.leaves_days.specs.CalendarDates.{date_yes, yes_date, in_month}
@@ -13,21 +15,6 @@ use Rattle.leaves_days.specs.DaysLaws.{good_known, not_known}
 use Rattle.leaves_days.proofs.days.is_date.Goals as goal
 
 module _ (date : ℕ) where
-  too_early : date < 19700101 → false ≡ known_date date
-  too_early h = not_known date (λ g. omega (arith, g.from))
-
-  too_late : 25540721 < date → false ≡ known_date date
-  too_late h = not_known date (λ g. omega (arith, g.to))
-
-  no_month : month_in date < 1 → false ≡ known_date date
-  no_month h = not_known date (λ g. let m = in_month _ _ _ (date_yes date g.is) in omega (arith, m.from))
-
-  past_december : 12 < month_in date → false ≡ known_date date
-  past_december h = not_known date (λ g. let m = in_month _ _ _ (date_yes date g.is) in omega (arith, m.to))
-
-  no_day : day_in date < 1 → false ≡ known_date date
-  no_day h = not_known date (λ g. omega (arith, (date_yes date g.is).from))
-
   within : 19700101 ≤ date → date ≤ 25540721 → 1 ≤ day_in date → day_in date ≤ month_days (is_leap (year_in date)) (month_in date) → true ≡ known_date date
   within h k i j = good_known date (record { is = yes_date date (record { from = i; to = j }); from = h; to = k })
 
@@ -45,34 +32,28 @@ module _ (date : ℕ) where
     in_length : day_in date ≤ next - before → day_in date ≤ month_days (is_leap (year_in date)) (month_in date)
     in_length h = omega (arith, month_length)
 
+    decided : 19700101 ≤ date → date ≤ 25540721 → 1 ≤ day_in date → leb (day_in date) (next - before) ≡ known_date date
+    decided h k i = go (leb (day_in date) (next - before)) refl
+      where
+        go : (t : Bool) → leb (day_in date) (next - before) ≡ t → t ≡ known_date date
+        go true e = within h k i (in_length (leb-true _ _ e))
+        go false e = past_month (leb-false _ _ e)
+
 pub returns-then-date-lt-FIRST_DATE : goal.returns-then-date-lt-FIRST_DATE
-returns-then-date-lt-FIRST_DATE c = too_early c.args.date (omega arith)
-
-pub returns-then-date-gt-LAST_DATE : goal.returns-then-date-gt-LAST_DATE
-returns-then-date-gt-LAST_DATE c = too_late c.args.date (omega arith)
-
-pub returns-then-month-lt1 : goal.returns-then-month-lt1
-returns-then-month-lt1 c = no_month c.args.date (omega arith)
-
-pub returns-then-month-gt-DECEMBER : goal.returns-then-month-gt-DECEMBER
-returns-then-month-gt-DECEMBER c = past_december c.args.date (omega arith)
-
-pub returns-then-day-lt1 : goal.returns-then-day-lt1
-returns-then-day-lt1 c = no_day c.args.date (omega arith)
+returns-then-date-lt-FIRST_DATE c =
+    not_known c.args.date
+    (λ g. let d = date_yes c.args.date g.is in
+    let m = in_month _ _ _ d in
+    grind (arith, g.from, g.to, m.from, m.to, d.from, c.then-date-lt-FIRST_DATE.either))
 
 pub returns-then-day-le-SHORTEST_MONTH : goal.returns-then-day-le-SHORTEST_MONTH
 returns-then-day-le-SHORTEST_MONTH c =
     any_month c.args.date (omega arith) (omega arith) (omega arith) (omega arith) (omega arith) (omega arith)
 
-pub overflow_sub-before_month : goal.overflow_sub-before_month
-overflow_sub-before_month c =
+pub overflow_sub-result : goal.overflow_sub-result
+overflow_sub-result c =
     omega (arith, month_length c.args.date _ _ c.before_month.ensures c.before_month-2.ensures)
-
-pub returns-then-before_month-day : goal.returns-then-before_month-day
-returns-then-before_month-day c =
-    past_month c.args.date _ _ c.before_month.ensures c.before_month-2.ensures (omega arith)
 
 pub returns : goal.returns
 returns c =
-    within c.args.date (omega arith) (omega arith) (omega arith)
-    (in_length c.args.date _ _ c.before_month.ensures c.before_month-2.ensures (omega arith))
+    decided c.args.date _ _ c.before_month.ensures c.before_month-2.ensures (omega arith) (omega arith) (omega arith)

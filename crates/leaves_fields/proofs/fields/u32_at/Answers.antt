@@ -4,4 +4,4 @@ use Rattle.theory.specs.Fields.{field_4}
 use Rattle.leaves_fields.proofs.fields.u32_at.Goals as goal
 
 pub returns : goal.returns
-returns c = simp field_4 (omega arith)
+returns c = simp field_4 (omega (arith, c.from_le_bytes.ensures))

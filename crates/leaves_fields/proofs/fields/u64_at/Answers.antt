@@ -1,7 +1,8 @@
--- The field is its lower half and its upper half. Assumes nothing.
+-- The sum is the field written out. Assumes nothing.
 use native.Mathlib.Omega.{arith}
-use Rattle.theory.specs.Fields.{field_8}
+use Rattle.theory.specs.Fields.{field_4, field_8}
+use Rattle.std.proofs.Common.{add_assoc}
 use Rattle.leaves_fields.proofs.fields.u64_at.Goals as goal
 
 pub returns : goal.returns
-returns c = simp field_8 (omega arith)
+returns c = simp (field_8, field_4, add_assoc) (omega (arith, c.from_le_bytes.ensures))

@@ -1,14 +1,10 @@
 -- A section ends behind its bytes. Assumes nothing.
-use native.Mathlib.Omega.{arith}
-use borrow.Author.Rules.{rules}
+use mathlib.Core.Path.{sym, ◌∙◌}
 use Rattle.lines.specs.Parts.{end_none, end_some}
 use Rattle.lines.proofs.parts.part_end.Goals as goal
 
-pub returns-then-size-eq0 : goal.returns-then-size-eq0
-returns-then-size-eq0 c = (search (rules, end_none), search rules)
+pub returns-in_err-size-clause-whole : goal.returns-in_err-size-clause-whole
+returns-in_err-size-clause-whole c = c.from_residual.ensures ∙ end_none _ _ _ (sym c.in_err-size.was ∙ c.part_size.ensures.whole)
 
-pub overflow_add-result : goal.overflow_add-result
-overflow_add-result c = omega (arith, (end_some _ _ _ c.requires c.part_size-size.ensures c.if-size-eq0.false).1)
-
-pub returns : goal.returns
-returns c = end_some _ _ _ c.requires c.part_size-size.ensures c.if-size-eq0.false
+pub returns-clause-whole : goal.returns-clause-whole
+returns-clause-whole c = end_some _ _ _ (sym c.in_ok-size.was ∙ c.part_size.ensures.whole)

@@ -1,40 +1,22 @@
--- Each way through the tests is one law. Assumes nothing.
-use mathlib.Core.Bool.{not}
-use mathlib.Core.Path.{refl, ap}
+-- A refusal of the tables, or the room judged. Assumes nothing.
+use mathlib.Core.Path.{ap, ◌∙◌}
 use native.Mathlib.Omega.{arith}
-use Rattle.map_compare.specs.CompareLaws.{lends, formed_order, compared_unfit, compared_ill, compared_no_room, compared_done}
+use lib.ListN.{length}
+use Rattle.map_compare_rules.specs.Memory.{lay_stretches}
+use Rattle.map_compare.specs.CompareLaws.{compared_err, compared_no_room, compared_done, holds_stretches}
 use Rattle.map_compare.proofs.compare.compare.Goals as goal
 
-pub both_formed-requires : goal.both_formed-requires
-both_formed-requires c =
-    let w = lends _ _ _ _ _ _ c.compare_fits.ensures (ap not c.if-not-compare_fits.false) in (w.left_fits, w.right_fits)
-
-pub needed-requires : goal.needed-requires
-needed-requires c =
-    let w = lends _ _ _ _ _ _ c.compare_fits.ensures (ap not c.if-not-compare_fits.false) in
-    formed_order _ _ _ _ _ w c.both_formed.ensures c.if-both_formed.true
-
-pub lay-total-requires : goal.lay-total-requires
-lay-total-requires c =
-    let w = lends _ _ _ _ _ _ c.compare_fits.ensures (ap not c.if-not-compare_fits.false) in
-    let e = c.needed.ensures.fits (omega arith) in
-    (formed_order _ _ _ _ _ w c.both_formed.ensures c.if-both_formed.true, omega arith)
-
-pub returns-then-not-compare_fits : goal.returns-then-not-compare_fits
-returns-then-not-compare_fits c = compared_unfit _ _ _ _ _ _ c.compare_fits.ensures (ap not c.if-not-compare_fits.true)
+pub returns-in_err-tables : goal.returns-in_err-tables
+returns-in_err-tables c = compared_err _ _ _ _ _ _ _ _ _ c.from_residual.ensures.1 c.in_err-tables.ensures.answer
 
 pub returns-then-room-needed : goal.returns-then-room-needed
 returns-then-room-needed c =
-    compared_no_room _ _ _ _ _ _ c.compare_fits.ensures (ap not c.if-not-compare_fits.false) c.both_formed.ensures c.if-both_formed.true
-    refl (c.needed.ensures.over (omega arith))
+    let e = holds_stretches c.in_ok-tables.ensures.whole in
+    compared_no_room _ _ _ _ _ _ c.in_ok-tables.ensures.answer (omega (arith, c.needed.ensures.over c.if-room-needed.true, ap length e))
 
-pub returns-else-room-needed : goal.returns-else-room-needed
-returns-else-room-needed c =
-    let e = c.needed.ensures.fits (omega arith) in
-    let l = c.lay-total.ensures in
-    compared_done _ _ _ _ _ _ c.compare_fits.ensures (ap not c.if-not-compare_fits.false) c.both_formed.ensures
-    c.if-both_formed.true l.0 (omega (arith, e, l.0)) l.1
-
-pub returns-else-both_formed : goal.returns-else-both_formed
-returns-else-both_formed c =
-    compared_ill _ _ _ _ _ _ c.compare_fits.ensures (ap not c.if-not-compare_fits.false) c.both_formed.ensures c.if-both_formed.false
+pub returns : goal.returns
+returns c =
+    let e = holds_stretches c.in_ok-tables.ensures.whole in
+    let l = c.lay.ensures in
+    compared_done _ _ _ _ _ _ c.in_ok-tables.ensures.answer (l.count ∙ ap length e)
+    (omega (arith, l.count, c.needed.ensures.fits c.if-room-needed.false)) (l.list ∙ ap (λ ds. lay_stretches c.args.stretches.now 0 ds) e)

@@ -1,10 +1,9 @@
--- What each turn keeps, and what gets less.
-use Rattle.map_compare_walk.specs.Walk.{turns_left}
+-- What each turn keeps.
+use Rattle.map_compare_rules.specs.Memory.{stretches_of}
+use Rattle.map_compare_walk.specs.Stretches.{rest}
 use Rattle.map_compare.specs.CompareLaws.{Laying}
 use Rattle.map_compare.proofs.compare.lay.Given as goal
 
-abbrev pub invariant-loop-l : goal.invariant-loop-l
-invariant-loop-l l = Laying l.left l.n l.right l.m l.initial.stretches l.stretches l.l l.r l.i
-
-abbrev pub decreases-loop-l : goal.decreases-loop-l
-decreases-loop-l l = turns_left l.left l.n l.right l.m l.l l.r
+abbrev pub invariant-loop-stretch : goal.invariant-loop-stretch
+invariant-loop-stretch l =
+    Laying (stretches_of l.fn.tables.left.now l.fn.tables.left_used l.fn.tables.right.now l.fn.tables.right_used) l.initial.stretches l.stretches l.total (rest l.stretch-iterator)

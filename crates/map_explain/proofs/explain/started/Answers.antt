@@ -1,22 +1,15 @@
 -- The last interval that has started covers the moment, or the next is the instrument's too, or it is the last. Assumes nothing.
-use native.Mathlib.Omega.{arith}
-use Rattle.map_explain.specs.ExplainLaws.{own_within, in_told, between_told, after_told}
-use borrow.Author.Rules.{rules}
+use Rattle.map_explain.specs.ExplainLaws.{in_told, between_told, after_told}
 use Rattle.map_explain.proofs.explain.started.Goals as goal
 
-pub interval_at-y-requires : goal.interval_at-y-requires
-interval_at-y-requires c = let h = own_within _ _ _ _ c.is_own.ensures c.if-is_own.true in omega arith
-
 pub returns-then-moment-x : goal.returns-then-moment-x
-returns-then-moment-x c =
-    in_told c.requires.0 (search rules) c.interval_at-x.ensures c.numbered-last.ensures (omega arith)
+returns-then-moment-x c = in_told c.requires.0 c.requires.1 c.interval_at-x.ensures c.numbered-last.ensures c.if-moment-x.true
 
-pub returns-then-is_own : goal.returns-then-is_own
-returns-then-is_own c =
-    between_told c.requires.0 (search rules) c.interval_at-x.ensures c.numbered-last.ensures (omega arith)
-    c.is_own.ensures c.if-is_own.true c.interval_at-y.ensures c.numbered-next.ensures
+pub returns-in-Some : goal.returns-in-Some
+returns-in-Some c =
+    let y = c.in-Some.ensures in
+    between_told c.requires.0 c.requires.1 c.interval_at-x.ensures c.numbered-last.ensures c.if-moment-x.false y.0 y.1 c.numbered.ensures
 
-pub returns-else-is_own : goal.returns-else-is_own
-returns-else-is_own c =
-    after_told c.requires.0 (search rules) c.interval_at-x.ensures c.numbered-last.ensures (omega arith)
-    c.is_own.ensures c.if-is_own.false
+pub returns-in-None : goal.returns-in-None
+returns-in-None c =
+    after_told c.requires.0 c.requires.1 c.interval_at-x.ensures c.numbered-last.ensures c.if-moment-x.false c.in-None.ensures

@@ -1,50 +1,32 @@
 -- The tests in the rules' order, then the record. Assumes nothing.
 use mathlib.Core.Path.{sym, ap, ◌∙◌}
-use Rattle.leaves_names.specs.NamesLaws.{memory}
-use Rattle.map_table.specs.Table.{checked_of}
-use Rattle.map_plan.specs.WantedLaws.{ready_refused, ready_planned, judged_memory, judged_table, judged_list, judged_on}
+use Rattle.std.proofs.lemmas.Result.{err_from_is_err_and}
+use Rattle.theory.specs.Answer.{no_values}
+use Rattle.leaves.specs.Refusal.{answer_with}
+use Rattle.map_plan.specs.WantedLaws.{judged_memory, judged_table, judged_checked, judged_on}
 use Rattle.map_plan.proofs.planning.judge.Goals as goal
 
-pub returns-then-not-list_fits : goal.returns-then-not-list_fits
-returns-then-not-list_fits c =
-    record {
-      result_value = judged_memory _ _ _ _ _ _ (sym c.list_fits.ensures ∙ c.if-not-list_fits.true);
-      ready = ready_refused;
-    }
+pub returns-then-not-fits-clause-result_value : goal.returns-then-not-fits-clause-result_value
+returns-then-not-fits-clause-result_value c = judged_memory _ _ _ _ _ _ (sym c.fits.ensures ∙ c.if-not-fits.true)
 
-pub is_list-requires : goal.is_list-requires
-is_list-requires c =
-    let m = memory _ _ _ _ (sym c.list_fits.ensures ∙ c.if-not-list_fits.false) in
-    (m.held, m.room)
+pub returns-in_err-checked-clause-result_value : goal.returns-in_err-checked-clause-result_value
+returns-in_err-checked-clause-result_value c =
+    let p = err_from_is_err_and c.from_residual.result c.from_residual.ensures.1 in
+    rw (p.1, p.2) (judged_table _ _ _ _ _ _ (sym c.fits.ensures ∙ c.if-not-fits.false) _ (sym (ap (answer_with no_values) c.in_err-checked.was)))
 
-pub plan_record-requires : goal.plan_record-requires
-plan_record-requires c =
-    (sym c.list_fits.ensures ∙ c.if-not-list_fits.false, sym c.is_list.ensures ∙ c.if-is_list.true)
+pub returns-in_err-names-clause-result_value : goal.returns-in_err-names-clause-result_value
+returns-in_err-names-clause-result_value c =
+    let p = err_from_is_err_and c.from_residual-in_err-names.result c.from_residual-in_err-names.ensures.1 in
+    rw (p.1, p.2)
+    (judged_checked _ _ _ _ _ _ (sym c.fits.ensures ∙ c.if-not-fits.false) _ (sym (ap (answer_with no_values) c.in_ok-checked.was)) c.in_err-names.ensures.answer)
 
-pub returns-in-Refused : goal.returns-in-Refused
-returns-in-Refused c =
-    let f = sym c.list_fits.ensures ∙ c.if-not-list_fits.false in
-    record {
-      result_value = judged_table _ _ _ _ _ _ f c.in-Refused.refusal (sym (ap checked_of c.in-Refused.is));
-      ready = ready_refused;
-    }
+pub returns-clause-result_value : goal.returns-clause-result_value
+returns-clause-result_value c =
+    let k = c.in_ok-names.ensures.formed in
+    (rw c.in_ok-names.ensures.list at c.plan_record.ensures.result_value)
+    ∙ judged_on _ _ _ _ _ _ k.0 (sym (ap (answer_with no_values) c.in_ok-checked.was)) k.1
 
-pub returns-then-is_list : goal.returns-then-is_list
-returns-then-is_list c =
-    let f = sym c.list_fits.ensures ∙ c.if-not-list_fits.false in
-    let q = sym (ap checked_of c.in-WellFormed.is) in
-    let k = sym c.is_list.ensures ∙ c.if-is_list.true in
-    let a = c.args in
-    let e = c.plan_record.ensures in record {
-      result_value = e.result_value ∙ judged_on _ _ _ _ _ _ f q k;
-      ready = ready_planned a.over_time a.bytes.now a.ends.now a.names a.name_bytes a.rec.now c.plan_record.result q e.placed e.forward;
-    }
-
-pub returns-else-is_list : goal.returns-else-is_list
-returns-else-is_list c =
-    let f = sym c.list_fits.ensures ∙ c.if-not-list_fits.false in
-    let q = sym (ap checked_of c.in-WellFormed.is) in
-    record {
-      result_value = judged_list _ _ _ _ _ _ f q (sym c.is_list.ensures ∙ c.if-is_list.false);
-      ready = ready_refused;
-    }
+pub returns-clause-ready : goal.returns-clause-ready
+returns-clause-ready c =
+    let q = ap (answer_with no_values) c.in_ok-checked.was in
+    rw q (rw c.in_ok-names.ensures.list at c.plan_record.ensures.ready)

@@ -1,65 +1,68 @@
 -- Each of the record's cases, of the name's and of the two times. Assumes nothing.
-use mathlib.Core.Bool.{true, not}
-use mathlib.Core.Path.{ap}
+use mathlib.Core.Bool.{true}
 use mathlib.Core.List.{[]}
-use Rattle.map_plan.specs.WantedLaws.{asked_other, asked_refused, asked_part, asked_bad, asked_point, asked_reversed, asked_empty, asked_symbol, point_forward, time_forward}
+use mathlib.Core.Path.{◌≡◌, ap, sym, ◌∙◌, refl}
+use Prim.Native.Nat.{◌<◌}
+use Rattle.std.specs.Prelude.{Ok}
+use Rattle.std.proofs.lemmas.Grind.{common_steps}
+use native.Mathlib.Omega.{arith}
+use borrow.Author.Rules.{rules}
+use Rattle.std.proofs.lemmas.Result.{err_from_is_err_and}
+use Rattle.map_plan.specs.Wanted.{numbered}
+use Rattle.map_plan.specs.WantedLaws.{asked_other, asked_refused, asked_bounds, asked_name, asked_naming, asked_bad, asked_reversed, asked_empty, asked_stored, lies}
 use Rattle.map_plan.proofs.planning.plan_record.Goals as goal
 
-pub is_name-requires : goal.is_name-requires
-is_name-requires c =
-    let p = asked_part true [] [] _ 0 0 c.read_mapping-asked.ensures c.in-Symbol.is in
-    (p.0, p.1)
+pub slice_bounds-name-count : goal.slice_bounds-name-count
+slice_bounds-name-count c = (asked_bounds true [] [] _ 0 0 c.read_mapping.ensures (c.in_ok-mapping.was ∙ ap Ok c.in-Some.is)).0
 
-pub returns-then-not-is_name : goal.returns-then-not-is_name
-returns-then-not-is_name c =
-    let e = c.read_mapping-asked.ensures in
-    let s = c.in-Symbol.is in
-    let n = c.is_name.ensures in
-    record { result_value = asked_bad _ _ _ _ _ _ e s n (ap not c.if-not-is_name.true); placed = tt; forward = tt }
+pub slice_bounds-name-start : goal.slice_bounds-name-start
+slice_bounds-name-start c =
+    let b = asked_bounds true [] [] _ 0 0 c.read_mapping.ensures (c.in_ok-mapping.was ∙ ap Ok c.in-Some.is) in
+    search (rules, b.0, b.1)
 
-pub plan_name-named-requires : goal.plan_name-named-requires
-plan_name-named-requires c =
+pub returns-in_err-mapping-clause-result_value : goal.returns-in_err-mapping-clause-result_value
+returns-in_err-mapping-clause-result_value c =
+    let p = err_from_is_err_and c.from_residual.result c.from_residual.ensures.1 in
+    rw (p.1, p.2) (asked_refused _ _ _ _ _ _ c.read_mapping.ensures c.in_err-mapping.was)
+
+pub returns-in_default-clause-result_value : goal.returns-in_default-clause-result_value
+returns-in_default-clause-result_value c = asked_other _ _ _ _ _ _ c.read_mapping.ensures (c.in_ok-mapping.was ∙ ap Ok c.in_default.is)
+
+pub returns-then-not-is_name-clause-result_value : goal.returns-then-not-is_name-clause-result_value
+returns-then-not-is_name-clause-result_value c =
+    asked_bad _ _ _ _ _ _ c.read_mapping.ensures (c.in_ok-mapping.was ∙ ap Ok c.in-Some.is) c.is_name.ensures c.if-not-is_name.true
+
+pub returns-then-mapping-clause-result_value : goal.returns-then-mapping-clause-result_value
+returns-then-mapping-clause-result_value c =
+    asked_reversed _ _ _ _ _ _ c.read_mapping.ensures (c.in_ok-mapping.was ∙ ap Ok c.in-Some.is) c.is_name.ensures c.if-not-is_name.false c.if-over_time.true c.if-mapping.true
+
+pub returns-then-mapping-2-clause-result_value : goal.returns-then-mapping-2-clause-result_value
+returns-then-mapping-2-clause-result_value c =
+    asked_empty _ _ _ _ _ _ c.read_mapping.ensures (c.in_ok-mapping.was ∙ ap Ok c.in-Some.is) c.is_name.ensures c.if-not-is_name.false (search rules) (search rules)
+
+pub returns-in_err-naming-clause-result_value : goal.returns-in_err-naming-clause-result_value
+returns-in_err-naming-clause-result_value c =
+    let m = c.in-Some.mapping in
+    let s = c.in_ok-mapping.was ∙ ap Ok c.in-Some.is in
+    let f : c.args.over_time ≡ true → m.start < m.end = grind (arith, common_steps) in
+    let p = err_from_is_err_and c.from_residual-in_err-naming.result c.from_residual-in_err-naming.ensures.1 in
+    let n = asked_naming c.args.over_time c.args.names.list.bytes.now c.args.names.list.ends.now c.args.rec.now c.args.names.list.names c.args.names.list.name_bytes c.read_mapping.ensures s c.number_for.ensures in
+    rw (p.1, p.2) (ap (numbered m.instrument m.start m.end) (sym c.in_err-naming.was ∙ n) ∙ asked_stored _ _ _ _ _ _ c.read_mapping.ensures s c.is_name.ensures c.if-not-is_name.false f)
+
+pub returns-clause-result_value : goal.returns-clause-result_value
+returns-clause-result_value c =
+    let m = c.in-Some.mapping in
+    let s = c.in_ok-mapping.was ∙ ap Ok c.in-Some.is in
+    let f : c.args.over_time ≡ true → m.start < m.end = grind (arith, common_steps) in
+    let n = asked_naming c.args.over_time c.args.names.list.bytes.now c.args.names.list.ends.now c.args.rec.now c.args.names.list.names c.args.names.list.name_bytes c.read_mapping.ensures s c.number_for.ensures in
+    ap (numbered m.instrument m.start m.end) (sym c.in_ok-naming.was ∙ n) ∙ asked_stored _ _ _ _ _ _ c.read_mapping.ensures s c.is_name.ensures c.if-not-is_name.false f
+
+pub returns-clause-ready : goal.returns-clause-ready
+returns-clause-ready c =
+    let s = c.in_ok-mapping.was ∙ ap Ok c.in-Some.is in
+    let n = asked_naming c.args.over_time c.args.names.list.bytes.now c.args.names.list.ends.now c.args.rec.now c.args.names.list.names c.args.names.list.name_bytes c.read_mapping.ensures s c.number_for.ensures in
     record {
-      name_bytes_value = c.requires;
-      from_le_to = asked_part true [] [] _ 0 0 c.read_mapping-asked.ensures c.in-Symbol.is;
+      placed = lies _ _ _ _ _ _ (asked_name c.args.over_time [] [] _ 0 0 c.read_mapping.ensures s) (sym c.in_ok-naming.was ∙ n);
+      forward = grind (arith, common_steps);
+      formed = refl;
     }
-
-pub returns-in-Other : goal.returns-in-Other
-returns-in-Other c = record { result_value = asked_other _ _ _ _ _ _ c.read_mapping-asked.ensures c.in-Other.is; placed = tt; forward = tt }
-
-pub returns-in-Refused : goal.returns-in-Refused
-returns-in-Refused c = record { result_value = asked_refused _ _ _ _ _ _ c.read_mapping-asked.ensures c.in-Refused.is; placed = tt; forward = tt }
-
-pub returns-then-not-over_time : goal.returns-then-not-over_time
-returns-then-not-over_time c =
-    let e = c.read_mapping-asked.ensures in
-    let s = c.in-Symbol.is in
-    let n = c.is_name.ensures in
-    let q = c.plan_name-named.ensures in
-    let a = c.args in
-    let f = point_forward a.over_time a.bytes.now a.ends.now a.rec.now a.names a.name_bytes e s c.plan_name-named.result q.result_value (ap not c.if-not-over_time.true) in
-    record { result_value = asked_point _ _ _ _ _ _ e s n (ap not c.if-not-is_name.false) (ap not c.if-not-over_time.true) q.result_value; placed = q.placed; forward = f }
-
-pub returns-then-end-start : goal.returns-then-end-start
-returns-then-end-start c =
-    let e = c.read_mapping-asked.ensures in
-    let s = c.in-Symbol.is in
-    let n = c.is_name.ensures in
-    record { result_value = asked_reversed _ _ _ _ _ _ e s n (ap not c.if-not-is_name.false) (ap not c.if-not-over_time.false) c.if-end-start.true; placed = tt; forward = tt }
-
-pub returns-then-start-end : goal.returns-then-start-end
-returns-then-start-end c =
-    let e = c.read_mapping-asked.ensures in
-    let s = c.in-Symbol.is in
-    let n = c.is_name.ensures in
-    let q = c.plan_name-named.ensures in
-    let a = c.args in
-    let f = time_forward a.over_time a.bytes.now a.ends.now a.rec.now a.names a.name_bytes e s c.plan_name-named.result q.result_value c.if-start-end.true in
-    record { result_value = asked_symbol _ _ _ _ _ _ e s n (ap not c.if-not-is_name.false) (ap not c.if-not-over_time.false) c.if-start-end.true q.result_value; placed = q.placed; forward = f }
-
-pub returns-else-start-end : goal.returns-else-start-end
-returns-else-start-end c =
-    let e = c.read_mapping-asked.ensures in
-    let s = c.in-Symbol.is in
-    let n = c.is_name.ensures in
-    record { result_value = asked_empty _ _ _ _ _ _ e s n (ap not c.if-not-is_name.false) (ap not c.if-not-over_time.false) c.if-end-start.false c.if-start-end.false; placed = tt; forward = tt }

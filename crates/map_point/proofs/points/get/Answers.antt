@@ -19,19 +19,11 @@ place_of-place-requires c = search (rules, fit_in_lem)
 pub holds-requires : goal.holds-requires
 holds-requires c = search (rules, fit_in_lem)
 
-pub returns-then-not-holds : goal.returns-then-not-holds
-returns-then-not-holds c =
-    record {
-      right = search (rules, get_nothing);
-      accepted = λ f. refl;
-    }
+pub entry_at-requires : goal.entry_at-requires
+entry_at-requires c = search (rules, get_within)
 
-pub entry_at-x-requires : goal.entry_at-x-requires
-entry_at-x-requires c = search (rules, get_within)
+pub returns-then-holds : goal.returns-then-holds
+returns-then-holds c = record { right = search (rules, get_symbol); accepted = λ f. refl }
 
-pub returns : goal.returns
-returns c =
-    record {
-      right = search (rules, get_symbol);
-      accepted = λ f. refl;
-    }
+pub returns-else-holds : goal.returns-else-holds
+returns-else-holds c = record { right = search (rules, get_nothing); accepted = λ f. refl }

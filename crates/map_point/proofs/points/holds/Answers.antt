@@ -3,8 +3,8 @@ use Rattle.map_point.specs.PointsReads.{holds_past, holds_own}
 use borrow.Author.Rules.{rules}
 use Rattle.map_point.proofs.points.holds.Goals as goal
 
-pub returns-then-used-place : goal.returns-then-used-place
-returns-then-used-place c = search (rules, holds_past)
+pub returns-then-place-used : goal.returns-then-place-used
+returns-then-place-used c = search (rules, holds_own)
 
-pub returns : goal.returns
-returns c = search (rules, holds_own)
+pub returns-else-place-used : goal.returns-else-place-used
+returns-else-place-used c = search (rules, holds_past)

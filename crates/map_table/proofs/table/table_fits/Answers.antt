@@ -8,9 +8,3 @@ returns-then-length-eq0 c = search (rules, table_many, table_long, table_odd, ta
 
 pub returns-else-length-eq0 : goal.returns-else-length-eq0
 returns-else-length-eq0 c = search (rules, table_many, table_long, table_odd, table_rest)
-
-pub returns-else-length-le-BYTE_LIMIT : goal.returns-else-length-le-BYTE_LIMIT
-returns-else-length-le-BYTE_LIMIT c = search (rules, table_many, table_long, table_odd, table_rest)
-
-pub returns-else-used-le-ROOM : goal.returns-else-used-le-ROOM
-returns-else-used-le-ROOM c = search (rules, table_many, table_long, table_odd, table_rest)

@@ -6,8 +6,5 @@ use Rattle.map_time.proofs.insert.joined_end.Goals as goal
 pub returns-then-same_value : goal.returns-then-same_value
 returns-then-same_value c = search (rules, end_yes, end_not, end_ge)
 
-pub returns-else-same_value : goal.returns-else-same_value
-returns-else-same_value c = search (rules, end_yes, end_not, end_ge)
-
 pub returns-else-n-z : goal.returns-else-n-z
 returns-else-n-z c = search (rules, end_yes, end_not, end_ge)

@@ -6,8 +6,5 @@ use Rattle.map_time.proofs.insert.joined_start.Goals as goal
 pub returns-then-same_value : goal.returns-then-same_value
 returns-then-same_value c = search (rules, start_yes, start_not, start_ge)
 
-pub returns-else-same_value : goal.returns-else-same_value
-returns-else-same_value c = search (rules, start_yes, start_not, start_ge)
-
 pub returns-else-x-n : goal.returns-else-x-n
 returns-else-x-n c = search (rules, start_yes, start_not, start_ge)

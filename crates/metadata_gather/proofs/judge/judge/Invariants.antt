@@ -1,14 +1,10 @@
--- What each turn keeps, and what gets less.
+-- What each turn keeps.
 use mathlib.Core.Path.{◌≡◌}
 use mathlib.Core.Bool.{true}
-use Prim.Native.Nat.{◌≤◌, ◌-◌}
 use Rattle.metadata_words.specs.Words.{rest}
 use Rattle.metadata_gather.specs.Judge.{judged_by}
 use Rattle.metadata_gather.proofs.judge.judge.Given as goal
 
 abbrev pub invariant-loop-i : goal.invariant-loop-i
 invariant-loop-i l =
-    (l.i ≤ l.count) × (judged_by l.names l.all_known l.all_forward (rest l.intervals l.i l.count) ≡ judged_by l.names l.known true (rest l.intervals 0 l.count))
-
-abbrev pub decreases-loop-i : goal.decreases-loop-i
-decreases-loop-i l = l.count - l.i
+    (judged_by l.names l.all_known l.all_forward (rest l.intervals l.i l.count) ≡ judged_by l.names l.known true (rest l.intervals 0 l.count))

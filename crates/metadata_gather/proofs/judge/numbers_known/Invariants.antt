@@ -1,14 +1,9 @@
--- What each turn keeps, and what gets less.
+-- What each turn keeps.
 use mathlib.Core.Path.{◌≡◌}
-use Prim.Native.Nat.{◌≤◌, ◌+◌, ◌-◌, ◌*◌}
-use lib.ListN.{length}
+use Prim.Native.Nat.{◌-◌, ◌*◌}
 use Rattle.metadata_rules.specs.Metadata.{every}
 use Rattle.metadata_gather.specs.Judge.{below, spaced}
 use Rattle.metadata_gather.proofs.judge.numbers_known.Given as goal
 
 abbrev pub invariant-loop-i : goal.invariant-loop-i
-invariant-loop-i l =
-    (l.i ≤ l.count) × (l.at + (l.count - l.i) * l.stride ≤ length l.words) × (every (below l.names) (spaced l.words l.stride l.at (l.count - l.i)) ≡ every (below l.names) (spaced l.words l.stride 0 l.count))
-
-abbrev pub decreases-loop-i : goal.decreases-loop-i
-decreases-loop-i l = l.count - l.i
+invariant-loop-i l = every (below l.names) (spaced l.words l.stride (l.i * l.stride) (l.count - l.i)) ≡ every (below l.names) (spaced l.words l.stride 0 l.count)

@@ -12,8 +12,10 @@ lay_places-requires c =
 
 pub returns : goal.returns
 returns c =
-    let a = c.args in
-    c.lay_places.ensures ∙ ap
-    (lay_all a.both_mappings.now a.laid_mappings a.both_intervals.now a.laid_intervals)
-    (side_picked _ _ _ _ _ c.offsets.ensures.1
-    c.count_up.ensures)
+    let a = c.args in (
+      c.lay_places.ensures.0,
+      c.lay_places.ensures.1 ∙ ap
+          (lay_all a.both_mappings.now a.laid.mappings a.both_intervals.now a.laid.intervals)
+          (side_picked _ _ _ _ _ c.offsets.ensures.1
+          c.count_up.ensures),
+    )

@@ -10,9 +10,10 @@ pub returns : goal.returns
 returns c =
     let a = c.args in (
       c.put_mapping.ensures ∙ ap
-          (λ (u : ℕ). put_mapping a.both_mappings.now a.laid_mappings u c.count_at-size.result) c.name_at-name.ensures
-          ∙ ap (put_mapping a.both_mappings.now a.laid_mappings (name_at a.mappings.now a.i)) c.count_at-size.ensures,
-      c.copy_intervals.ensures ∙ ap (lay_intervals a.both_intervals.now a.laid_intervals)
+          (λ (u : ℕ). put_mapping a.both_mappings.now a.laid.mappings u c.count_at-size.result) c.name_at-name.ensures
+          ∙ ap (put_mapping a.both_mappings.now a.laid.mappings (name_at a.mappings.words.now a.i)) c.count_at-size.ensures,
+      c.copy_intervals.ensures ∙ ap (lay_intervals a.both_intervals.now a.laid.intervals)
           (rest_list _ _ _ _ _ _ refl c.count_at-size.ensures),
-      ap (λ (u : ℕ). a.laid_intervals + u) c.count_at-size.ensures,
+      refl,
+      ap (λ (u : ℕ). a.laid.intervals + u) c.count_at-size.ensures,
     )

@@ -8,11 +8,11 @@ use Rattle.metadata_plan.proofs.plan.merge_names.Goals as goal
 
 pub link-requires : goal.link-requires
 link-requires c =
-    let args = c.args in (
+    let both = c.args.both in (
       c.requires.words,
       omega (arith, c.requires.count),
       λ t h. let a = c.requires.names t h in omega arith,
-      full args.count 4096 (replicate 4096 args.count)
+      full both.count 4096 (replicate 4096 both.count)
           refl,
     )
 

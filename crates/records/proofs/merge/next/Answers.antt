@@ -3,13 +3,15 @@ use mathlib.Core.Path.{◌≡◌, refl, sym, ◌∙◌}
 use mathlib.Core.Bool.{true, false}
 use Prim.Native.Nat.{ℕ}
 use native.Mathlib.Omega.{arith}
-use Rattle.records_rules.specs.State.{arrays_fit}
+use Rattle.records_rules.specs.State.{fit_in}
 use Rattle.records_rules.specs.Opening.{arrays_room}
+use Rattle.records_state.specs.Lent.{arrays_of}
 use Rattle.records.proofs.merge.next.Goals as goal
 
-pub returns-then-not-arrays_fit : goal.returns-then-not-arrays_fit
-returns-then-not-arrays_fit c =
-    let no : arrays_fit _ _ _ _ _ _ ≡ false = sym c.arrays_fit.ensures ∙ c.if-not-arrays_fit.true in
+pub returns-then-not-fits-clause-says : goal.returns-then-not-fits-clause-says
+returns-then-not-fits-clause-says c =
+    let s = c.args.state.now in
+    let no : fit_in s.held (arrays_of s) ≡ false = sym c.fits.ensures ∙ c.if-not-fits.true in
     record {
       fewer = omega arith;
       refused = λ e. (refl, refl, refl);
@@ -18,16 +20,16 @@ returns-then-not-arrays_fit c =
 
 pub turns-requires : goal.turns-requires
 turns-requires c =
-    let a = c.args in
-    arrays_room a.held a.marks.now a.times.now a.places.now a.heads.now a.heap.now
-    (sym c.arrays_fit.ensures ∙ c.if-not-arrays_fit.false)
+    let s = c.args.state.now in
+    arrays_room s.held s.marks.now s.times.now s.places.now s.heads.now s.heap.now (sym c.fits.ensures ∙ c.if-not-fits.false)
 
-pub returns : goal.returns
-returns c =
-    let yes : arrays_fit _ _ _ _ _ _ ≡ true = sym c.arrays_fit.ensures ∙ c.if-not-arrays_fit.false in
-    let turn = c.turns in
+pub returns-clause-says : goal.returns-clause-says
+returns-clause-says c =
+    let s = c.args.state.now in
+    let yes : fit_in s.held (arrays_of s) ≡ true = sym c.fits.ensures ∙ c.if-not-fits.false in
+    let turn = c.turns.ensures.says in
     record {
-      fewer = turn.ensures.fewer;
+      fewer = turn.fewer;
       refused = λ e. let z : ◌≡◌ {A = ℕ} 0 1 = cc in absurd (omega arith);
-      says = λ e. turn.ensures.says;
+      says = λ e. turn.says;
     }

@@ -1,66 +1,72 @@
 -- Each turn looks at the heap's root. The invariant: the arrays keep their lengths, and where the entry was sound, this state is, and
 -- the machine goes on from it as from the entry. The measure is the streams waiting, which falls with each read. Assumes nothing.
+use mathlib.Core.Path.{◌≡◌, refl, sym, ◌∙◌}
+use Prim.Native.Nat.{◌%◌}
 use native.Mathlib.Omega.{arith}
-use lib.ListN.{length-set}
+use borrow.Author.Rules.{rules}
+use lib.ListN.{get_or, length-set}
+use Rattle.leaves.specs.Refusal.{reason_number}
 use Rattle.records_rules.specs.Bytes.{stream_short}
-use Rattle.records_rules.specs.StateLaws.{less_gone, less_stand}
-use Rattle.records_rules.specs.Steps.{going_start}
+use Rattle.records_rules.specs.StateLaws.{less_gone, less_stand, stood_packed}
+use Rattle.records_rules.specs.View.{rec_in}
 use Rattle.records_rules.proofs.Steps.{step_end, step_record, step_ended, step_damaged, step_whole}
 use Rattle.records.proofs.merge.turns.Goals as goal
 
-pub loop-size-init : goal.loop-size-init
-loop-size-init c = going_start _ _ _ _ _ _ _
+pub returns-clause-says : goal.returns-clause-says
+returns-clause-says c = step_end c.loop-state.invariant.going c.requires (omega (arith, c.loop-state-test.false))
 
-pub returns-then-size-eq0 : goal.returns-then-size-eq0
-returns-then-size-eq0 c = step_end c.loop-size.invariant c.requires c.if-size-eq0.true
-
-pub sift_down-requires : goal.sift_down-requires
-sift_down-requires c = simp length-set (omega arith)
-
-pub returns-then-found-ne0 : goal.returns-then-found-ne0
-returns-then-found-ne0 c =
-    let got = c.read_stream-got in
-    let at = c.loop-size in
-    rw c.damaged-report.ensures (step_damaged at.invariant c.requires c.slot-p.ensures.0 (omega (arith, c.if-size-eq0.false))
-    c.if-marks-p-eq-WAITING.true got.result.found got.result.time got.result.head got.ensures
-    c.sift_down.ensures c.if-found-ne0.true
-    c.if-found-lt-RECORD.true)
-
-pub loop-size-smaller-else-found-ne0 : goal.loop-size-smaller-else-found-ne0
-loop-size-smaller-else-found-ne0 c =
-    let got = c.read_stream-got in
-    let at = c.loop-size in
-    less_gone 256 at.marks at.times at.places at.heads c.slot-p.result (omega arith) (omega arith) (omega arith) (omega arith) (omega arith) c.if-marks-p-eq-WAITING.true
-
-pub loop-size-preserved-else-found-ne0 : goal.loop-size-preserved-else-found-ne0
-loop-size-preserved-else-found-ne0 c =
-    let got = c.read_stream-got in
-    let at = c.loop-size in
-    step_ended at.invariant c.requires c.slot-p.ensures.0 (omega (arith, c.if-size-eq0.false)) c.if-marks-p-eq-WAITING.true got.result.found
-    got.result.time got.result.head got.ensures c.sift_down.ensures c.if-found-ne0.false c.sift_down.auto.heap
-
-pub sift_down-requires-else-found-lt-RECORD : goal.sift_down-requires-else-found-lt-RECORD
-sift_down-requires-else-found-lt-RECORD c = simp length-set (omega arith)
-
-pub loop-size-smaller : goal.loop-size-smaller
-loop-size-smaller c =
-    let got = c.read_stream-got in
-    let at = c.loop-size in
-    less_stand 256 at.marks at.times at.places at.heads c.slot-p.result (omega arith) (omega arith) (omega arith) (omega arith) (omega arith) _ _ c.if-marks-p-eq-WAITING.true
-
-pub loop-size-preserved : goal.loop-size-preserved
-loop-size-preserved c =
-    let got = c.read_stream-got in
-    let at = c.loop-size in
-    step_whole at.invariant c.requires c.slot-p.ensures.0 (omega (arith, c.if-size-eq0.false)) c.if-marks-p-eq-WAITING.true got.result.found
-    got.result.time got.result.head got.ensures c.if-found-lt-RECORD.false
-    (omega (arith, stream_short c.args.buffer.now c.args.cuts.now c.slot-p.result, c.well_formed.0.0))
-    c.sift_down-else-found-lt-RECORD.ensures c.sift_down-else-found-lt-RECORD.auto.heap
-
-pub returns-else-marks-p-eq-WAITING : goal.returns-else-marks-p-eq-WAITING
-returns-else-marks-p-eq-WAITING c =
-    let at = c.loop-size in
+pub returns-then-state-p-ne-WAITING-clause-says : goal.returns-then-state-p-ne-WAITING-clause-says
+unfolding rec_in
+returns-then-state-p-ne-WAITING-clause-says c =
+    let s = c.loop-state.state in
+    let long : c.handed-record.result.length ≡ get_or s.heads.now (get_or s.heap.now 0 0) 0 % 65536 = cc in
     rw c.handed-record.ensures
-    (step_record at.invariant c.requires c.slot-p.ensures.0
-    (omega (arith, c.if-size-eq0.false)) c.if-marks-p-eq-WAITING.false
-    c.plus.result c.plus.ensures)
+    (step_record c.loop-state.invariant.going c.requires refl c.loop-state-test.true c.if-state-p-ne-WAITING.true c.plus.result (rw (← long) c.plus.ensures))
+
+pub returns-in-Err-clause-says : goal.returns-in-Err-clause-says
+returns-in-Err-clause-says c =
+    let r = c.remove_root-in-Err.ensures in
+    rw (r.held, r.gone, r.times, r.places, r.heads)
+    (step_damaged c.loop-state.invariant.going c.requires refl c.loop-state-test.true c.if-state-p-ne-WAITING.false r.sifted (reason_number c.in-Err.reason) c.in-Err.ensures)
+
+pub loop-state-smaller : goal.loop-state-smaller
+loop-state-smaller c =
+    let s = c.loop-state.state in
+    let r = c.remove_root.ensures in
+    rw (r.gone, r.times, r.places, r.heads)
+    (less_gone 256 s.marks.now s.times.now s.places.now s.heads.now (get_or s.heap.now 0 0) (omega arith) (omega arith) (omega arith) (omega arith) (omega arith) c.if-state-p-ne-WAITING.false)
+
+pub loop-state-preserved : goal.loop-state-preserved
+loop-state-preserved c =
+    let r = c.remove_root.ensures in
+    record {
+      going = rw (r.held, r.gone, r.times, r.places, r.heads)
+          (step_ended c.loop-state.invariant.going c.requires refl c.loop-state-test.true c.if-state-p-ne-WAITING.false r.sifted
+          (rw c.in-Ok-None.field-0-is at c.in-Ok-None.ensures) (r.heap.long ∙ sym (length-set _ 0 _)));
+      memory = search rules;
+    }
+
+pub loop-state-smaller-in-Ok-Some : goal.loop-state-smaller-in-Ok-Some
+loop-state-smaller-in-Ok-Some c =
+    let s = c.loop-state.state in
+    let t = c.stand.ensures in
+    let o = c.sift_down.ensures.others in
+    rw (o.marks, o.times, o.places, o.heads, t.stands, t.time, t.places, t.head)
+    (less_stand 256 s.marks.now s.times.now s.places.now s.heads.now (get_or s.heap.now 0 0) (omega arith) (omega arith) (omega arith) (omega arith) (omega arith) _ _ c.if-state-p-ne-WAITING.false)
+
+pub loop-state-preserved-in-Ok-Some : goal.loop-state-preserved-in-Ok-Some
+loop-state-preserved-in-Ok-Some c =
+    let a = c.args in
+    let s = c.loop-state.state in
+    let h = c.in-Ok-Some.head in
+    let t = c.stand.ensures in
+    let o = c.sift_down.ensures.others in
+    let found = rw c.in-Ok-Some.field-0-is at c.in-Ok-Some.ensures in
+    let got = stood_packed h.length h.kind h.instrument h.time (search rules) (search rules) ∙ found in
+    record {
+      going = rw (o.held, o.marks, o.times, o.places, o.heads, t.held, t.stands, t.time, t.places, t.head)
+          (step_whole c.loop-state.invariant.going c.requires refl c.loop-state-test.true c.if-state-p-ne-WAITING.false h.time _ got
+          (omega (arith, stream_short a.buffer.now a.cuts.now (get_or s.heap.now 0 0), c.well_formed.0.0))
+          (rw (t.time, t.held, t.heap) at c.sift_down.ensures.sifted) (rw t.heap at o.heap.long));
+      memory = search rules;
+    }

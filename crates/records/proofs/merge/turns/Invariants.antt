@@ -3,11 +3,18 @@ use Rattle.records_rules.specs.Bytes.{streams_of}
 use Rattle.records_rules.specs.Kept.{waits}
 use Rattle.records_rules.specs.View.{statuses_of}
 use Rattle.records_rules.specs.Steps.{Going}
+use Rattle.records_state.specs.Lent.{SameMemory}
 use Rattle.records.proofs.merge.turns.Given as goal
 
-abbrev pub invariant-loop-size : goal.invariant-loop-size
-invariant-loop-size l =
-    Going (streams_of l.buffer l.cuts) l.held l.initial.marks l.initial.times l.initial.places l.initial.heads l.initial.heap l.size l.marks l.times l.places l.heads l.heap
+abbrev pub invariant-loop-state : goal.invariant-loop-state
+invariant-loop-state l =
+    let s = l.initial.state in
+    let t = l.state in
+    record {
+      going : Going (streams_of l.buffer l.cuts) s.held s.marks.now s.times.now s.places.now s.heads.now s.heap.now
+          t.held t.marks.now t.times.now t.places.now t.heads.now t.heap.now;
+      memory : SameMemory s t;
+    }
 
-abbrev pub decreases-loop-size : goal.decreases-loop-size
-decreases-loop-size l = waits (statuses_of 256 l.marks l.times l.places l.heads)
+abbrev pub decreases-loop-state : goal.decreases-loop-state
+decreases-loop-state l = waits (statuses_of 256 l.state.marks.now l.state.times.now l.state.places.now l.state.heads.now)

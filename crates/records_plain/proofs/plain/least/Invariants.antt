@@ -1,10 +1,15 @@
--- What each turn keeps, and what gets less.
-use Prim.Native.Nat.{◌-◌, ◌≤◌}
+-- What each turn keeps.
+use mathlib.Core.Path.{◌≡◌}
+use Prim.Native.Nat.{ℕ, ◌<◌, ◌≤◌}
+use Rattle.std.specs.Prelude.{Some, unwrap_or}
 use Rattle.records_plain.specs.Scan.{Scan}
 use Rattle.records_plain.proofs.plain.least.Given as goal
 
 abbrev pub invariant-loop-p : goal.invariant-loop-p
-invariant-loop-p l = (l.p ≤ l.streams) × Scan l.streams l.p l.marks l.times l.best
-
-abbrev pub decreases-loop-p : goal.decreases-loop-p
-decreases-loop-p l = l.streams - l.p
+invariant-loop-p l =
+    record {
+      scan : Scan l.state.held l.p-counter l.state.marks.now l.state.times.now (unwrap_or l.best l.state.held);
+      below : (q : ℕ) → l.best ≡ Some q → q < l.p-counter;
+      end : l.p-end ≡ l.state.held;
+      within : l.p-counter ≤ l.state.held;
+    }

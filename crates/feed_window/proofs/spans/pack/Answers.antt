@@ -1,8 +1,0 @@
--- The sum of the three parts. Assumes nothing.
-use mathlib.Core.Path.{refl}
-use Rattle.records_rules.specs.View.{packed}
-use Rattle.feed_window.proofs.spans.pack.Goals as goal
-
-pub returns : goal.returns
-unfolding packed
-returns c = refl

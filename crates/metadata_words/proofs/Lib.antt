@@ -1,0 +1,2 @@
+-- What a proof here leans on.
+mod Copied

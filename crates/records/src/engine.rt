@@ -1,0 +1,37 @@
+// An engine of the merge (RULES, Requests, No. 12): what gives the next answer of streams that `open` opened.
+ghost use Rattle.std.specs.Prelude.{ℕ, List};
+ghost use Rattle.records_rules.specs.Bytes.{streams_of};
+ghost use Rattle.records_rules.specs.State.{Arrays, SoundIn, OpenedIn};
+ghost use Rattle.records_state.specs.Lent.{arrays_of, SameMemory};
+ghost use Rattle.records.specs.Merge.{turn_of};
+ghost use Rattle.records.specs.Engine.{EngineTurns};
+
+use crate::merge::Record;
+use leaves::refusal::Refusal;
+use records_state::state::State;
+
+pub trait Engine {
+    // A sound state of so many streams, of which so many are held.
+    ghost sound: { ℕ → ℕ → Arrays → Type 0 };
+
+    // The next record, the damage of a stream, or the end, on the buffer and the cuts of the opening.
+    fn next(buffer: &[u8], cuts: &[u64], state: &mut State<'_>) -> Result<Option<Record>, Refusal>
+        ensures memory { SameMemory state.old state.new }
+        ensures says { EngineTurns sound (streams_of buffer.now cuts.now) state.old.held (arrays_of state.old) (turn_of result) state.new.held (arrays_of state.new) };
+
+    // An opening leaves one.
+    ghost opened: { (n : ℕ) (hints : List ℕ) (a : Arrays) → OpenedIn n hints a → sound n n a };
+}
+
+// The engine over the heap.
+pub struct Heap;
+
+impl Engine for Heap {
+    ghost sound = { SoundIn };
+
+    ghost opened = { λ n hints a o. o.sound };
+
+    fn next(buffer: &[u8], cuts: &[u64], state: &mut State<'_>) -> Result<Option<Record>, Refusal> {
+        crate::merge::next(buffer, cuts, state)
+    }
+}

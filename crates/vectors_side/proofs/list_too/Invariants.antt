@@ -1,9 +1,0 @@
--- What each turn keeps, and what gets less.
-use Prim.Native.Nat.{◌-◌}
-use Rattle.vectors_side.proofs.list_too.Given as goal
-
-abbrev pub invariant-loop-i : goal.invariant-loop-i
-invariant-loop-i l = Unit {0}
-
-abbrev pub decreases-loop-i : goal.decreases-loop-i
-decreases-loop-i l = l.places - l.i
