@@ -58,14 +58,15 @@ fn tell(text: &mut [u8], at: usize, s: Stretch) -> usize
 }
 
 // Lays whole lines from where a walk stands until the walk is at its end or the next line might not fit, and answers where the text
-// ends.
+// ends. The walk stays over the same tables.
 pub fn lay_portion(walk: &mut Walk<'_>, text: &mut [u8]) -> usize
     requires { 105 ≤ length text.old }
-    ensures { Portioned (rest walk.old) (rest walk.new) result text.new }
+    ensures portion { Portioned (rest walk.old) (rest walk.new) result text.new }
+    ensures tables { walk.new.tables ≡ walk.old.tables }
 {
     let mut at = 0;
     while LINE <= text.len() - at {
-        let Some(stretch) = walk.next() else {
+        let Some(stretch) = walk.step() else {
             break;
         };
         at = tell(text, at, stretch);

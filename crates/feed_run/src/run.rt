@@ -1,5 +1,5 @@
 // Many calls at once where streams arrive in portions (RULES, Requests, No. 14), by the run of anything that is called again and again.
-ghost use Rattle.std.specs.Prelude.{◌≡◌, ◌≤◌};
+ghost use Rattle.std.specs.Prelude.{◌≡◌, ◌≤◌, ⊤};
 ghost use Rattle.std.proofs.Common.{rules};
 ghost use Rattle.feed_rules.specs.Windows.{Feed, next_leaves};
 ghost use Rattle.feed_rules.specs.Spans.{feed_fit_in};
@@ -33,6 +33,8 @@ impl<'a, 'b, 'c> Calls<State<'c>> for Window<'a, 'b> {
     ghost go = { λ c. next_leaves };
 
     ghost shows = { λ c s. Shows⁺ c.bytes.now s c.spans.now };
+
+    ghost may_stop = { λ r. ⊤ };
 
     ghost right = { λ c s. feed_fit_in s.held c.bytes.now (feed_arrays_of s c.spans.now) };
 

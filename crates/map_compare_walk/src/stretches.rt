@@ -16,7 +16,9 @@ pub struct Walk<'a> {
 }
 
 impl<'a> Walk<'a> {
+    ghost use Rattle.std.specs.Iterator.{YieldsFirstBy};
     ghost use Rattle.map_compare_rules.specs.Memory.{stretches_of};
+    ghost use Rattle.map_compare_walk.specs.Walk.{stretch_of};
     ghost use Rattle.map_compare_walk.specs.Stretches.{rest};
 
     // The walk from the start of both tables.
@@ -29,6 +31,22 @@ impl<'a> Walk<'a> {
             left: start,
             right: start,
         }
+    }
+
+    // The next stretch, where one is left. The walk stays over the same tables.
+    pub fn step(&mut self) -> Option<Stretch>
+        ensures steps { YieldsFirstBy stretch_of rest self.old result self.new }
+        ensures tables { self.new.tables ≡ self.old.tables }
+    {
+        while self.left.place < self.tables.left_used || self.right.place < self.tables.right_used {
+            let step = next_step(self.tables, self.left, self.right);
+            self.left = step.left;
+            self.right = step.right;
+            if let Some(stretch) = step.stretch {
+                return Some(stretch);
+            }
+        }
+        None
     }
 }
 
@@ -44,14 +62,6 @@ impl<'a> Iterator for Walk<'a> {
     ghost remaining = { item_count rest };
 
     fn next(&mut self) -> Option<Stretch> {
-        while self.left.place < self.tables.left_used || self.right.place < self.tables.right_used {
-            let step = next_step(self.tables, self.left, self.right);
-            self.left = step.left;
-            self.right = step.right;
-            if let Some(stretch) = step.stretch {
-                return Some(stretch);
-            }
-        }
-        None
+        self.step()
     }
 }

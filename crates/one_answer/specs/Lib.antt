@@ -4,4 +4,5 @@ pub mod Explanations
 pub mod Metadata
 pub mod Builds
 pub mod Held
+pub mod Plain
 pub mod Feeds

@@ -1,9 +1,12 @@
 -- A run over whole buffers: at most a stated number of calls of the record merge, and what it hands back (RULES, Requests, No. 14).
 -- Assumes nothing.
-use Rattle.std.specs.Prelude.{◌≡◌, ℕ, ◌≤◌, true, false, length, List, [], ◌∷◌}
+use Rattle.std.specs.Prelude.{◌≡◌, ℕ, ◌≤◌, true, false, length, List, [], ◌∷◌, ⊤, Result, Ok, Err}
 use Rattle.theory.specs.Answer.{Answer, answer}
+use Rattle.leaves.specs.declared.refusal.Refusal.{Refusal}
 use Rattle.run_rules.specs.Batch.{Ran}
 use Rattle.run_rules.specs.Rows.{run_fits, most, Note, writes, stops, run_of, ended, Gives, RunRefused}
+use Rattle.run_list.specs.declared.run.Last.{Last}
+use Rattle.run_list.specs.declared.run.Last.TheVariants as last
 use Rattle.records_rules.specs.Machine.{Stream, record_at_lem, damage_at, Status, says, end, next, rest}
 use Rattle.records_rules.specs.Machine as machine
 use Rattle.records_rules.specs.State.{Arrays, fit_in, statuses_at, SoundIn}
@@ -40,3 +43,10 @@ pub record RunGives (b : ℕ → Stream) (allowance size : ℕ) (a : Arrays) (ws
   pub refused : run_fits (fit_in size a) allowance (length ws) ≡ false → RunRefused a ws size c w size' x a' ws'
   pub says : run_fits (fit_in size a) allowance (length ws) ≡ true
       → (n : ℕ) → n ≤ 256 → SoundIn n size a → RunSays b n (most allowance (length ws)) a ws c w size' x a' ws'
+
+-- a run of whole buffers never needs more of a stream, whatever is lent
+abbrev pub IsWhole : Result Last Refusal → Type 0
+IsWhole (Ok last.Going) = ⊤
+IsWhole (Ok last.End) = ⊤
+IsWhole (Ok (last.NeedMore stream)) = ⊥
+IsWhole (Err r) = ⊤

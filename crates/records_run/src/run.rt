@@ -6,7 +6,7 @@ ghost use Rattle.records_rules.specs.Bytes.{streams_of};
 ghost use Rattle.records_rules.specs.State.{fit_in};
 ghost use Rattle.records_state.specs.Lent.{arrays_of, HasRoom, SameMemory};
 ghost use Rattle.run_list.specs.Run.{last_of};
-ghost use Rattle.records_run.specs.Run.{RunGives};
+ghost use Rattle.records_run.specs.Run.{RunGives, IsWhole};
 ghost use Rattle.records_run.specs.Run as merge;
 ghost use Rattle.records_run.specs.Calls.{Shows, right_room, room_left};
 
@@ -33,6 +33,8 @@ impl<'a, 'b> Calls<State<'b>> for Streams<'a> {
     ghost go = { λ c ss. merge.go (streams_of c.buffer.now c.cuts.now) ss };
 
     ghost shows = { λ c s n ss. Shows s n ss };
+
+    ghost may_stop = { IsWhole };
 
     ghost right = { λ c s. fit_in s.held (arrays_of s) };
 
@@ -79,6 +81,7 @@ pub fn run(
     list: &mut [u64],
 ) -> Made
     ensures memory { SameMemory state.old state.new }
+    ensures whole { IsWhole result.last }
     ensures says { RunGives (streams_of buffer.now cuts.now) allowance state.old.held (arrays_of state.old) list.old
         result.calls result.written state.new.held (last_of result.last) (arrays_of state.new) list.new }
 {

@@ -1,5 +1,5 @@
 -- What a call of a run says and how a run stopped, in the rules' numbers.
-use Rattle.std.specs.Prelude.{◌≡◌, refl, ℕ, List, [], ◌∷◌, Result, Ok, Err}
+use Rattle.std.specs.Prelude.{◌≡◌, refl, ℕ, List, [], ◌∷◌, ◌⊎◌, Result, Ok, Err}
 use Rattle.std.specs.declared.ops.ControlFlow.{ControlFlow}
 use Rattle.std.specs.declared.ops.ControlFlow.TheVariants.{Continue, Break}
 use Rattle.std.proofs.Common.{ap, arith}
@@ -7,6 +7,7 @@ use Rattle.theory.specs.Answer.{Answer}
 use Rattle.leaves.specs.Refusal.{number_of, answer_with}
 use Rattle.leaves.specs.RefusalLaws.{refused_not_done, refused_one}
 use Rattle.leaves.specs.declared.refusal.Refusal.{Refusal}
+use Rattle.leaves.specs.declared.refusal.Refusal.TheVariants as refusal
 use Rattle.run_rules.specs.Rows.{Note, writes, stops}
 use Rattle.run_list.specs.declared.list.Row.{Row}
 use Rattle.run_list.specs.declared.run.Last.{Last}
@@ -25,6 +26,14 @@ last_of r = answer_with last_values r
 abbrev pub note_of : ControlFlow (Result Last Refusal) Row → Note
 note_of (Continue row) = writes row.stream row.place row.time
 note_of (Break r) = stops (last_of r)
+
+-- calls stop where a further one may be made, or as a call may stop them
+abbrev pub Stops : (Result Last Refusal → Type 0) → Result Last Refusal → Type 0
+Stops may_stop r = (r ≡ Ok last.Going) ⊎ may_stop r
+
+-- a run stops as its calls do, or before them where what is lent is not right
+abbrev pub RunStops : (Result Last Refusal → Type 0) → Result Last Refusal → Type 0
+RunStops may_stop r = (r ≡ Err refusal.BadMemory) ⊎ Stops may_stop r
 
 -- only one answer fits
 pub last_one : (x y : Result Last Refusal) → last_of x ≡ last_of y → x ≡ y

@@ -1,9 +1,10 @@
 // A run of anything that is called again and again (RULES, Requests, No. 14): it makes at most the allowed calls and writes stream, place
 // and time of each record to a lent list, three words a record, from its front. It stops after a call that answers no record, before a
 // call where the list is full, and when the allowance is used. What is lent is judged once for the run.
-ghost use Rattle.std.specs.Prelude.{◌≡◌, ℕ, Bool, true, false, ◌*◌, ◌≤◌, length};
+ghost use Rattle.std.specs.Prelude.{◌≡◌, ℕ, Bool, true, false, ◌*◌, ◌≤◌, length, Result};
 ghost use Rattle.run_rules.specs.Rows.{Note, run_of, run_fits, most, Gives, RunRefused};
-ghost use Rattle.run_list.specs.Run.{note_of, last_of};
+ghost use Rattle.std.specs.ControlFlow.{ForBreak};
+ghost use Rattle.run_list.specs.Run.{note_of, last_of, Stops, RunStops};
 
 use crate::list::{Row, limit_of, put_row, run_fits};
 use leaves::refusal::Refusal;
@@ -27,6 +28,9 @@ pub struct Made {
 
 // What a run calls, over the state that is lent to it, T. A call goes on with a record's row, or breaks off with how the run stops.
 pub trait Calls<T> {
+    ghost use Rattle.leaves.specs.declared.refusal.Refusal.{Refusal};
+    ghost use Rattle.run_list.specs.declared.run.Last.{Last};
+
     // The states of the machine that is called; what a call says in a state, and the state that it leaves.
     ghost Machine: { Type 0 };
 
@@ -36,6 +40,9 @@ pub trait Calls<T> {
 
     // What is lent is a sound state of so many streams, and is this state of the machine.
     ghost shows: { Self → T → ℕ → Machine → Type 0 };
+
+    // How a call may stop a run, whatever is lent.
+    ghost may_stop: { Result Last Refusal → Type 0 };
 
     // What is lent is right; it has the room for a call; and what a call leaves stands in the same memory, of the same machine.
     ghost right: { Self → T → Bool };
@@ -51,6 +58,7 @@ pub trait Calls<T> {
     fn call(&mut self, state: &mut T) -> ControlFlow<Result<Last, Refusal>, Row>
         requires { room self.old state.old }
         ensures memory { leaves self.old state.old self.new state.new }
+        ensures stops { ForBreak result may_stop }
         ensures says { (n : ℕ) (m : Machine) → shows self.old state.old n m
             → (note_of result ≡ say self.old m) × shows self.new state.new n (go self.old m) };
 
@@ -71,6 +79,7 @@ pub trait Calls<T> {
 fn steps<T, C: Calls<T>>(calls: &mut C, state: &mut T, list: &mut [u64], limit: usize) -> Made
     requires { C.room calls.old state.old × (3 * limit ≤ length list.old) }
     ensures memory { C.leaves calls.old state.old calls.new state.new }
+    ensures stops { Stops C.may_stop result.last }
     ensures says { (n : ℕ) (m : C.Machine) → C.shows calls.old state.old n m
         → Gives (run_of (C.say calls.old) (C.go calls.old) limit m) list.old result.calls result.written (last_of result.last) list.new
         × C.shows calls.new state.new n (run_of (C.say calls.old) (C.go calls.old) limit m).left }
@@ -97,6 +106,7 @@ fn steps<T, C: Calls<T>>(calls: &mut C, state: &mut T, list: &mut [u64], limit: 
 // At most `allowance` calls. 15 leaves everything as it was; 13 keeps what the calls before it did.
 pub fn run<T, C: Calls<T>>(calls: &mut C, state: &mut T, allowance: usize, list: &mut [u64]) -> Made
     ensures memory { C.leaves calls.old state.old calls.new state.new }
+    ensures stops { RunStops C.may_stop result.last }
     ensures refused { run_fits (C.right calls.old state.old) allowance (length list.old) ≡ false
         → RunRefused state.old list.old 0 result.calls result.written 0 (last_of result.last) state.new list.new × (calls.new ≡ calls.old) }
     ensures says { run_fits (C.right calls.old state.old) allowance (length list.old) ≡ true

@@ -1,12 +1,27 @@
 // A case that is a merge of streams with hints: by the heap, then by the plain engine.
+use leaves::refusal::Refusal;
 use records::engine::{Engine, Heap};
 use records::merge::{empty_bytes, empty_numbers, open};
 use records_plain::plain::Plain;
 use records_state::state::State;
 use vectors_merge::{buffer_space, calls_after, calls_left, numbers_space, print_turn, read_case};
 
-// Opens the streams, with arrays of its own, and prints an engine's answers to the end, and one more; or the refusal.
-fn merge<E: Engine>(buffer: &[u8], cuts: &[u64], hints: &[u64]) {
+// Prints an engine's answers to the end, and one more; or what the opening refused.
+fn tell<E: Engine>(
+    buffer: &[u8],
+    cuts: &[u64],
+    state: &mut State<'_>,
+    opening: Result<usize, Refusal>,
+) {
+    let mut calls = calls_after(opening);
+    while 0 < calls {
+        let answer = E::next(buffer, cuts, state);
+        calls = calls_left(calls, print_turn(answer));
+    }
+}
+
+// The answers of both engines, each on arrays that its own opening laid.
+pub fn both(buffer: &[u8], cuts: &[u64], hints: &[u64]) {
     let mut marks = empty_bytes();
     let mut times = empty_numbers();
     let mut places = empty_numbers();
@@ -20,18 +35,37 @@ fn merge<E: Engine>(buffer: &[u8], cuts: &[u64], hints: &[u64]) {
         heads: &mut heads,
         heap: &mut heap,
     };
-    let mut calls = calls_after(open(buffer, cuts, hints, &mut state));
-    while 0 < calls {
-        let answer = E::next(buffer, cuts, &mut state);
-        calls = calls_left(calls, print_turn(answer));
-    }
+    let opening = open(buffer, cuts, hints, &mut state);
+    tell::<Heap>(buffer, cuts, &mut state, opening);
+    io::write_all(1, b"plain\n");
+    plainly(buffer, cuts, hints);
 }
 
-// The answers of both engines.
-pub fn both(buffer: &[u8], cuts: &[u64], hints: &[u64]) {
-    merge::<Heap>(buffer, cuts, hints);
-    io::write_all(1, b"plain\n");
-    merge::<Plain>(buffer, cuts, hints);
+// The plain engine's answers.
+fn plainly(buffer: &[u8], cuts: &[u64], hints: &[u64]) {
+    let mut marks = empty_bytes();
+    let mut times = empty_numbers();
+    let mut places = empty_numbers();
+    let mut heads = empty_numbers();
+    let mut heap = empty_bytes();
+    let opening = records_plain::plain::open(
+        buffer,
+        cuts,
+        hints,
+        &mut marks,
+        &mut times,
+        &mut places,
+        &mut heads,
+    );
+    let mut state = State {
+        held: opening.unwrap_or(0),
+        marks: &mut marks,
+        times: &mut times,
+        places: &mut places,
+        heads: &mut heads,
+        heap: &mut heap,
+    };
+    tell::<Plain>(buffer, cuts, &mut state, opening);
 }
 
 // Runs the case at a place, hints, cuts and the buffer.

@@ -1,6 +1,7 @@
 // The plain engine (RULES, Requests, No. 12) on memory that is not right.
-use records::merge::{empty_bytes, empty_numbers, open};
-use records_plain::plain::next;
+use leaves::refusal::Refusal;
+use records::merge::{empty_bytes, empty_numbers};
+use records_plain::plain::{next, open};
 use records_state::state::State;
 use vectors_merge::{few_bytes, print_number, print_refusal, print_turn};
 
@@ -26,13 +27,13 @@ fn lent<'a>(
     }
 }
 
-// Opens the streams on what is lent, and prints what the opening answers.
-fn print_opened(buffer: &[u8], cuts: &[u64], hints: &[u64], mut state: State<'_>) {
-    match open(buffer, cuts, hints, &mut state) {
+// Prints what an opening answers: the streams, all of which are held.
+fn print_opened(opening: Result<usize, Refusal>) {
+    match opening {
         Ok(streams) => {
             io::write_all(1, b"opened");
             print_number(streams as u64);
-            print_number(state.held as u64);
+            print_number(streams as u64);
             io::write_all(1, b"\n");
         }
         Err(refusal) => print_refusal(refusal),
@@ -53,18 +54,8 @@ pub fn wrong(buffer: &[u8], cuts: &[u64], hints: &[u64]) {
     let places = &mut empty_numbers();
     let heads = &mut empty_numbers();
     let heap = &mut empty_bytes();
-    print_opened(
-        buffer,
-        cuts,
-        hints,
-        lent(0, few, times, places, heads, heap),
-    );
-    print_opened(
-        buffer,
-        cuts,
-        hints,
-        lent(0, marks, times, places, heads, heap),
-    );
+    print_opened(open(buffer, cuts, hints, few, times, places, heads));
+    print_opened(open(buffer, cuts, hints, marks, times, places, heads));
     print_next(buffer, cuts, lent(1, few, times, places, heads, heap));
     print_next(buffer, cuts, lent(OVER, marks, times, places, heads, heap));
     print_next(buffer, cuts, lent(1, marks, times, places, heads, heap));
