@@ -4,7 +4,7 @@ ghost use Rattle.std.specs.Prelude.{◌≡◌, true, ◌+◌, ◌≤◌, ◌<◌
 ghost use Rattle.theory.specs.Answer.{no_values};
 ghost use Rattle.leaves.specs.Refusal.{answer_with};
 ghost use Rattle.leaves_utf8.specs.Utf8.{Upto};
-ghost use Rattle.leaves_names.specs.Names.{name_start, names_in, is_name, well_formed, list_fits, found, place_at, least, has_room, check_names, numbering};
+ghost use Rattle.leaves_names.specs.Names.{name_start, name_end, names_in, is_name, well_formed, list_fits, found, place_at, least, has_room, check_names, numbering};
 ghost use Rattle.leaves_names.specs.Names.{naming, naming_answer, place_values, place_of_name, standing, Ordered};
 ghost use Rattle.leaves_names.specs.Room.{named_values, Added, Named};
 
@@ -77,7 +77,7 @@ fn stands(used: &[u8], plain: bool, start: usize, end: usize) -> bool
 
 // Where a name begins: at 0, or where the one before it ends.
 #[tactic(auto, using(crate::specs::NamesLaws::start_first, crate::specs::NamesLaws::start_after))]
-fn name_start(ends: &[u32], number: usize) -> usize
+pub fn name_start(ends: &[u32], number: usize) -> usize
     requires { number ≤ length ends.now }
     ensures { result ≡ name_start ends.now number }
 {
@@ -88,20 +88,46 @@ fn name_start(ends: &[u32], number: usize) -> usize
     }
 }
 
+// Where a name ends.
+pub fn name_end(ends: &[u32], number: usize) -> usize
+    requires { number < length ends.now }
+    ensures { result ≡ name_end ends.now number }
+{
+    ends[number] as usize
+}
+
+// Whether lent memory of so many bytes and places is within the limits, and the numbers in use within the memory; where not, 15.
+#[tactic(auto, unfolding(crate::specs::Names::list_fits))]
+pub fn list_fits(bytes: usize, places: usize, names: usize, name_bytes: usize) -> bool
+    ensures { result ≡ list_fits bytes places names name_bytes }
+{
+    places <= NAMES && bytes <= NAME_BYTES && names <= places && name_bytes <= bytes
+}
+
+// Whether one name more, of so many bytes, passes neither a limit nor the room lent.
+#[tactic(auto, using(crate::specs::NamesLaws::room_none, crate::specs::NamesLaws::room_some, crate::specs::NamesLaws::memory))]
+pub fn has_room(bytes: usize, places: usize, names: usize, name_bytes: usize, size: usize) -> bool
+    requires { list_fits bytes places names name_bytes ≡ true }
+    ensures { result ≡ has_room bytes places names name_bytes size }
+{
+    names < places && size <= bytes - name_bytes
+}
+
 impl<'a> NameList<'a> {
     // Whether the memory is within the limits, and the numbers in use within the memory; where not, 15.
-    #[tactic(auto, unfolding(crate::specs::Names::list_fits))]
     pub fn fits(self) -> bool
         ensures { result ≡ list_fits (length self.entry.bytes.now) (length self.entry.ends.now) self.entry.names self.entry.name_bytes }
     {
-        self.ends.len() <= NAMES
-            && self.bytes.len() <= NAME_BYTES
-            && self.names <= self.ends.len()
-            && self.name_bytes <= self.bytes.len()
+        list_fits(
+            self.bytes.len(),
+            self.ends.len(),
+            self.names,
+            self.name_bytes,
+        )
     }
 
     // Whether valid names stand one after another, up to the end of the bytes in use.
-    fn is_formed(self) -> bool
+    pub fn is_formed(self) -> bool
         requires { (self.names ≤ length self.ends.now) × (self.name_bytes ≤ length self.bytes.now) }
         ensures { result ≡ well_formed self.entry.bytes.now self.entry.ends.now self.entry.names self.entry.name_bytes }
     {
@@ -168,7 +194,7 @@ impl<'a> Names<'a> {
             return None;
         }
         let first = name_start(self.list.ends, n);
-        let end = self.list.ends[n] as usize;
+        let end = name_end(self.list.ends, n);
         Some(NamePlace { first, end })
     }
 
@@ -196,14 +222,19 @@ impl<'a> Names<'a> {
     }
 
     // Whether one name more, of so many bytes, passes neither a limit nor the room lent.
-    #[tactic(auto, using(crate::specs::NamesLaws::room_none, crate::specs::NamesLaws::room_some, crate::specs::NamesLaws::memory))]
     fn has_room(self, size: usize) -> bool
         requires { list_fits (length self.list.bytes.now) (length self.list.ends.now) self.list.names self.list.name_bytes ≡ true }
         ensures { result
             ≡ has_room (length self.entry.list.bytes.now) (length self.entry.list.ends.now) self.entry.list.names self.entry.list.name_bytes size }
     {
-        self.list.names < self.list.ends.len()
-            && size <= self.list.bytes.len() - self.list.name_bytes
+        let list = self.list;
+        has_room(
+            list.bytes.len(),
+            list.ends.len(),
+            list.names,
+            list.name_bytes,
+            size,
+        )
     }
 
     // What becomes of a valid name: it has the least number with equal bytes, else it gets the next new one, or 5.

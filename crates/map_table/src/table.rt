@@ -53,7 +53,7 @@ fn is_next(x: Interval, y: Interval, names: usize) -> bool
     is_valid(y, names) && may_follow(x, y)
 }
 
-// Whether the table is well-formed: the first interval by itself, each other one behind the one before it.
+// Whether the table is well-formed: the first interval by itself, each other one behind the one before it. Each is read once.
 pub fn well_formed(table: &[u8], used: usize, names: usize) -> bool
     requires { used * width ≤ length table.now }
     ensures { result ≡ well_formed same_value known_value names (rows table.now used) }
@@ -61,15 +61,16 @@ pub fn well_formed(table: &[u8], used: usize, names: usize) -> bool
     if used == 0 {
         return true;
     }
-    if !is_valid(interval_at(table, 0), names) {
+    let mut x = interval_at(table, 0);
+    if !is_valid(x, names) {
         return false;
     }
     for k in 1..used {
-        let x = interval_at(table, k - 1);
         let y = interval_at(table, k);
         if !is_next(x, y, names) {
             return false;
         }
+        x = y;
     }
     true
 }
