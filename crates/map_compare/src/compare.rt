@@ -40,6 +40,28 @@ fn lay(tables: Tables<'_>, stretches: &mut [u8]) -> usize
     total
 }
 
+// Whether what is lent is two tables with so many in use, and a list, and no more names are in use than may be; where not, 15.
+pub fn compare_fits(
+    left: usize,
+    n: usize,
+    right: usize,
+    m: usize,
+    names: usize,
+    list: usize,
+) -> bool
+    ensures { result ≡ compare_fits left n right m names list }
+{
+    memory_fits(left, n, names) && memory_fits(right, m, names) && list % STRETCH_WIDTH == 0
+}
+
+// Whether both tables are well-formed.
+pub fn both_formed(left: &[u8], n: usize, right: &[u8], m: usize, names: usize) -> bool
+    requires { (n * width ≤ length left.now) × (m * width ≤ length right.now) }
+    ensures { result ≡ both_formed left.now n right.now m names }
+{
+    well_formed(left, n, names) && well_formed(right, m, names)
+}
+
 // What a comparison is lent: two tables with so many of their intervals in use, and how many names both know.
 #[derive(Clone, Copy)]
 pub struct Lent<'a> {
@@ -55,9 +77,14 @@ impl<'a> Lent<'a> {
     fn fits(self, list: usize) -> bool
         ensures { let t = self.entry in result ≡ compare_fits (length t.left.now) t.left_used (length t.right.now) t.right_used t.names list }
     {
-        memory_fits(self.left.len(), self.left_used, self.names)
-            && memory_fits(self.right.len(), self.right_used, self.names)
-            && list % STRETCH_WIDTH == 0
+        compare_fits(
+            self.left.len(),
+            self.left_used,
+            self.right.len(),
+            self.right_used,
+            self.names,
+            list,
+        )
     }
 
     // Whether both tables are well-formed.
@@ -65,8 +92,13 @@ impl<'a> Lent<'a> {
         requires { (self.left_used * width ≤ length self.left.now) × (self.right_used * width ≤ length self.right.now) }
         ensures { let t = self.entry in result ≡ both_formed t.left.now t.left_used t.right.now t.right_used t.names }
     {
-        well_formed(self.left, self.left_used, self.names)
-            && well_formed(self.right, self.right_used, self.names)
+        both_formed(
+            self.left,
+            self.left_used,
+            self.right,
+            self.right_used,
+            self.names,
+        )
     }
 
     // The tables, beside a list of so many bytes: 15, then 14.

@@ -2,7 +2,7 @@
 use Rattle.map_compare_rules.specs.Memory.{compare_fits}
 use Rattle.map_compare.specs.CompareLaws.{unfit_right, fit_rest}
 use borrow.Author.Rules.{rules}
-use Rattle.map_compare.proofs.compare.Lent.fits.Goals as goal
+use Rattle.map_compare.proofs.compare.compare_fits.Goals as goal
 
 pub returns-then-memory_fits-2 : goal.returns-then-memory_fits-2
 returns-then-memory_fits-2 c = search (rules, fit_rest)
