@@ -16,7 +16,7 @@ use records_run::run::{Last, Made, State};
 const BAD_MEMORY: u32 = 15;
 
 // A number that a run moves on, unless it is refused for its memory.
-fn moved(refusal: Refusal, after: usize, held: usize) -> usize
+pub fn moved(refusal: Refusal, after: usize, held: usize) -> usize
     ensures { result ≡ moved_in held after (refused refusal) }
 {
     if refusal.number() == BAD_MEMORY {
