@@ -9,6 +9,7 @@ ghost use Rattle.feed_window.specs.Spans.{span_number};
 
 use crate::spans::{FILL, PLACES, Span, WINDOW, WINDOW_BYTES};
 use leaves::refusal::Refusal;
+use leaves_fields::copies::copy;
 use leaves_limits::STREAMS;
 use records_state::state::{GONE, WAITING};
 
@@ -89,7 +90,7 @@ fn lay(window: &mut [u8], part: usize, start: usize, fill: usize, portion: &[u8]
 {
     move_front(window, part, start, fill);
     let behind = part + fill;
-    window[behind..behind + taken].copy_from_slice(&portion[..taken]);
+    copy(&mut window[behind..behind + taken], &portion[..taken]);
 }
 
 // Hands in a portion of a stream: as many of its bytes are taken as fit. A refusal leaves everything as it was.

@@ -9,6 +9,7 @@ ghost use Rattle.leaves_names.specs.Names.{naming, naming_answer, place_values, 
 ghost use Rattle.leaves_names.specs.Room.{named_values, Added, Named};
 
 use leaves::refusal::Refusal;
+use leaves_fields::copies::copy;
 use leaves_limits::{NAME_BYTES, NAME_SIZE, NAMES};
 use leaves_utf8::utf8::{is_plain, is_utf8};
 
@@ -274,7 +275,7 @@ impl NameRoom<'_> {
         ensures { Added self.old text.now self.new }
     {
         let end = self.name_bytes + text.len();
-        self.bytes[self.name_bytes..end].copy_from_slice(text);
+        copy(&mut self.bytes[self.name_bytes..end], text);
         self.ends[self.names] = end as u32;
         self.names += 1;
         self.name_bytes = end;

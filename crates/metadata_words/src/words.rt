@@ -4,6 +4,7 @@ ghost use Rattle.std.specs.Prelude.{◌≡◌, ◌+◌, ◌-◌, ◌*◌, ◌<�
 ghost use Rattle.metadata_rules.specs.Words.{interval_at, name_at, count_at};
 ghost use Rattle.metadata_words.specs.Words.{put_at, put_mapping, lay_intervals, rest};
 
+use leaves_fields::copies::copy;
 use metadata_rules::Interval;
 
 // The words of a mapping and of an interval.
@@ -52,7 +53,8 @@ pub fn copy_intervals(intervals: &[u32], from: usize, to: usize, out: &mut [u32]
     ensures { out.new ≡ lay_intervals out.old at (rest intervals.now from to) }
 {
     let laid = at + (to - from);
-    out[INTERVAL_WORDS * at..INTERVAL_WORDS * laid].copy_from_slice(
+    copy(
+        &mut out[INTERVAL_WORDS * at..INTERVAL_WORDS * laid],
         &intervals[INTERVAL_WORDS * from..INTERVAL_WORDS * to],
     );
 }

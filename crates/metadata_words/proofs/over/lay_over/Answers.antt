@@ -13,9 +13,9 @@ laid d t x n e = let z : n ≡ 0 + n = omega arith in ap (λ (l : List ℕ). l +
 pub returns-then-count-used : goal.returns-then-count-used
 returns-then-count-used c =
     let a = c.args in
-    let copied = laid a.list.now a.words.now c.copy_from_slice.new.self a.count c.copy_from_slice.ensures.after in
-    let front = ap length c.copy_from_slice.ensures.after ∙ length-take-le a.count a.words.now c.requires.2 in
-    let freed : length (take (a.used - a.count) (drop a.count (c.copy_from_slice.new.self ++ drop a.count a.list.now))) ≡ a.used - a.count =
+    let copied = laid a.list.now a.words.now c.copy.new.to a.count c.copy.ensures in
+    let front = ap length c.copy.ensures ∙ length-take-le a.count a.words.now c.requires.2 in
+    let freed : length (take (a.used - a.count) (drop a.count (c.copy.new.to ++ drop a.count a.list.now))) ≡ a.used - a.count =
     simp (length-take, length-drop, length-append) (omega arith) in
     let zeros = c.fill.ensures.after (λ y e. e) ∙ ap (λ (k : ℕ). replicate k 0) freed in
     over_freed a.list.now _ _ a.words.now a.used a.count c.requires.1 c.requires.2 c.if-count-used.true copied
@@ -25,5 +25,5 @@ returns-then-count-used c =
 pub returns-else-count-used : goal.returns-else-count-used
 returns-else-count-used c =
     let a = c.args in
-    laid a.list.now a.words.now c.copy_from_slice.new.self a.count c.copy_from_slice.ensures.after
+    laid a.list.now a.words.now c.copy.new.to a.count c.copy.ensures
     ∙ over_kept a.list.now a.words.now a.used a.count c.requires.2 c.if-count-used.false

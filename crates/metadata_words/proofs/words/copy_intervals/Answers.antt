@@ -6,5 +6,5 @@ use Rattle.metadata_words.proofs.words.copy_intervals.Goals as goal
 pub returns : goal.returns
 returns c =
     let a = c.args in
-    copied a.intervals.now a.out.now a.from a.to a.at c.copy_from_slice.new.self _ c.requires.0 c.requires.1 c.requires.2
-    c.copy_from_slice.ensures.after (omega arith)
+    copied a.intervals.now a.out.now a.from a.to a.at c.copy.new.to _ c.requires.0 c.requires.1 c.requires.2
+    c.copy.ensures (omega arith)

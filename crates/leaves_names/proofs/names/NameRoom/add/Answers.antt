@@ -10,7 +10,7 @@ unfolding name_written
 returns c =
     let s = c.args.self.now in
     record {
-      bytes = put_mid-paste s.name_bytes _ s.bytes.now _ c.args.text.now _ c.copy_from_slice.ensures.after (omega arith) refl;
+      bytes = put_mid-paste s.name_bytes _ s.bytes.now _ c.args.text.now _ c.copy.ensures (omega arith) refl;
       ends = refl;
       names = refl;
       name_bytes = refl;
