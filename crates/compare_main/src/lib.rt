@@ -3,7 +3,7 @@
 #![tactic(auto)]
 
 ghost use Rattle.std.specs.Prelude.{◌≡◌, ◌≤◌, length};
-ghost use Rattle.standard.specs.Status.{status_number, Ends};
+ghost use Rattle.standard.specs.Status.{status_number, Ends, EndsWith};
 ghost use Rattle.compare_main.specs.Asked.{tables_status, status_of};
 
 use compare_text::telling::lay_portion;
@@ -16,7 +16,7 @@ use map_compare::compare::Lent;
 use map_compare_walk::stretches::Walk;
 use map_compare_walk::tables::Tables;
 use map_table::interval::WIDTH;
-use standard::{Failure, Status, read_input, text_space, write_output};
+use standard::{Failure, Status, exit_number, read_input, text_space, write_output};
 use std::io::Input;
 
 // What the program was doing where reading or writing fails.
@@ -98,7 +98,7 @@ fn compare_tables(
 }
 
 // Takes the input apart and compares, or writes only the line that says that it is bad.
-fn show(rt: &(impl Print + Eprint), input: &[u8], text: &mut [u8]) -> Result<Status, Failure>
+fn compared(rt: &(impl Print + Eprint), input: &[u8], text: &mut [u8]) -> Result<Status, Failure>
     requires { 105 ≤ length text.old }
     ensures { Ends (status_of input.now) result }
 {
@@ -111,15 +111,21 @@ fn show(rt: &(impl Print + Eprint), input: &[u8], text: &mut [u8]) -> Result<Sta
     compare_tables(rt, left, right, names, text)
 }
 
-// Compares standard input and answers the status.
-fn compared(rt: &(impl Input + Print + Eprint)) -> Result<Status, Failure> {
-    let mut input = input_space();
-    let mut text = text_space();
-    let used = read_input(rt, &mut input, READING)?;
-    show(rt, &input[..used], &mut text)
+// Takes the input apart and compares, and answers the number to end with.
+#[tactic(auto, using(standard::specs::Status::ends_with))]
+fn show(rt: &(impl Print + Eprint), input: &[u8], text: &mut [u8]) -> u8
+    requires { 105 ≤ length text.old }
+    ensures { EndsWith (status_of input.now) result }
+{
+    exit_number(compared(rt, input, text))
 }
 
 // The program: compares the tables of standard input, and answers the status to end with.
 pub fn compare_main(rt: &(impl Input + Print + Eprint)) -> u8 {
-    compared(rt).unwrap_or(Status::Failed).into()
+    let mut input = input_space();
+    let mut text = text_space();
+    match read_input(rt, &mut input, READING) {
+        Ok(used) => show(rt, &input[..used], &mut text),
+        Err(_) => Status::Failed.into(),
+    }
 }

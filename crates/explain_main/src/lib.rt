@@ -5,14 +5,14 @@
 ghost use Rattle.std.specs.Prelude.{◌≡◌, ◌≤◌, length};
 ghost use Rattle.theory.specs.Answer.{no_values};
 ghost use Rattle.leaves.specs.Refusal.{answer_with};
-ghost use Rattle.standard.specs.Status.{status_number, Ends};
+ghost use Rattle.standard.specs.Status.{status_number, Ends, EndsWith};
 ghost use Rattle.explain_main.specs.Asked.{are_questions, answer_status, asked_status, status_of};
 
 use crate::telling::{Asked, QUESTION, lay_portion};
 use leaves::refusal::Refusal;
 use lines::asked::{NAMES_BYTES, table_end};
 use lines::parts::PART_HEAD;
-use standard::{Failure, Status, text_space};
+use standard::{Failure, Status, exit_number, text_space};
 use std::io::Input;
 
 pub mod telling;
@@ -101,7 +101,7 @@ fn answer_all(
 
 // Takes the input apart and answers, or writes only the line that says that it is bad.
 #[tactic(auto, using(crate::specs::AskedLaws::status_bad, crate::specs::AskedLaws::status_asked, crate::specs::AskedLaws::ends_too))]
-fn show(rt: &(impl Print + Eprint), input: &[u8], text: &mut [u8]) -> Result<Status, Failure>
+fn answered(rt: &(impl Print + Eprint), input: &[u8], text: &mut [u8]) -> Result<Status, Failure>
     requires { 218 ≤ length text.old }
     ensures { Ends (status_of input.now) result }
 {
@@ -113,15 +113,21 @@ fn show(rt: &(impl Print + Eprint), input: &[u8], text: &mut [u8]) -> Result<Sta
     answer_all(rt, table, names, &input[end + PART_HEAD..], text)
 }
 
-// Answers standard input's questions and answers the status.
-fn answered(rt: &(impl Input + Print + Eprint)) -> Result<Status, Failure> {
-    let mut input = input_space();
-    let mut text = text_space();
-    let n = standard::read_input(rt, &mut input, b"explain: reading standard input")?;
-    show(rt, &input[..n], &mut text)
+// Takes the input apart and answers, and answers the number to end with.
+#[tactic(auto, using(standard::specs::Status::ends_with))]
+fn show(rt: &(impl Print + Eprint), input: &[u8], text: &mut [u8]) -> u8
+    requires { 218 ≤ length text.old }
+    ensures { EndsWith (status_of input.now) result }
+{
+    exit_number(answered(rt, input, text))
 }
 
 // The program: answers the questions of standard input, and answers the status to end with.
 pub fn explain_main(rt: &(impl Input + Print + Eprint)) -> u8 {
-    answered(rt).unwrap_or(Status::Failed).into()
+    let mut input = input_space();
+    let mut text = text_space();
+    match standard::read_input(rt, &mut input, b"explain: reading standard input") {
+        Ok(n) => show(rt, &input[..n], &mut text),
+        Err(_) => Status::Failed.into(),
+    }
 }

@@ -4,11 +4,11 @@
 
 ghost use Rattle.std.specs.Prelude.{◌≡◌, length};
 ghost use Rattle.lines.specs.Sections.{streams_in};
-ghost use Rattle.standard.specs.Status.{status_number, Ends};
+ghost use Rattle.standard.specs.Status.{status_number, EndsWith};
 ghost use Rattle.replay_main.specs.Status.{status_of, text_status};
 
 use records::engine::{Engine, Heap};
-use standard::{Failure, Status};
+use standard::Status;
 use std::io::Input;
 
 // Room for the longest bundle and a byte more, so that a longer one is seen.
@@ -29,43 +29,36 @@ fn status_of(text: &[u8]) -> Status
     }
 }
 
-// Writes a replay's text and answers the status.
-fn put(rt: &(impl Print + Eprint), text: &[u8]) -> Result<Status, Failure>
-    ensures { Ends (text_status text.now) result }
+// Writes a replay's text and answers the number to end with.
+fn put(rt: &(impl Print + Eprint), text: &[u8]) -> u8
+    ensures { EndsWith (text_status text.now) result }
 {
-    standard::ended(
+    standard::ended_with(
         rt,
         text,
-        status_of(text),
+        status_of(text).into(),
         b"replay: writing standard output",
     )
 }
 
-// Writes a bundle's replay, which the lent bytes have room for, and answers the status.
-fn show<E: Engine>(
-    rt: &(impl Print + Eprint),
-    bundle: &[u8],
-    text: &mut [u8],
-) -> Result<Status, Failure>
-    ensures { Ends (status_of (streams_in bundle.now)) result }
+// Writes a bundle's replay, which the lent bytes have room for, and answers the number to end with.
+fn show<E: Engine>(rt: &(impl Print + Eprint), bundle: &[u8], text: &mut [u8]) -> u8
+    ensures { EndsWith (status_of (streams_in bundle.now)) result }
 {
     match replay_text::replay::replay_by::<E>(bundle, text) {
         Ok(n) => put(rt, &text[..n]),
-        Err(_) => Err(Failure),
+        Err(_) => Status::Failed.into(),
     }
-}
-
-// Replays standard input and answers the status.
-fn replayed<E: Engine>(rt: &(impl Input + Print + Eprint)) -> Result<Status, Failure> {
-    let mut input = input_space();
-    let mut text = replay_text::replay::text_space();
-    let n = standard::read_input(rt, &mut input, b"replay: reading standard input")?;
-    show::<E>(rt, &input[..n], &mut text)
 }
 
 // Replays standard input by either engine, and answers the status to end with.
 pub fn replayed_by<E: Engine>(rt: &(impl Input + Print + Eprint)) -> u8 {
-    replayed::<E>(rt).unwrap_or(Status::Failed).into()
+    let mut input = input_space();
+    let mut text = replay_text::replay::text_space();
+    match standard::read_input(rt, &mut input, b"replay: reading standard input") {
+        Ok(n) => show::<E>(rt, &input[..n], &mut text),
+        Err(_) => Status::Failed.into(),
+    }
 }
 
 // The program: replays standard input to standard output, and answers the status to end with.

@@ -3,7 +3,7 @@
 #![tactic(auto)]
 
 ghost use Rattle.std.specs.Prelude.{◌≡◌, ◌+◌, ◌≤◌, IfOk, length};
-ghost use Rattle.standard.specs.Status.{status_number, Ends};
+ghost use Rattle.standard.specs.Status.{status_number, Ends, exit_number, EndsWith};
 
 use std::io;
 use std::io::{Cursor, Input, Read, Write};
@@ -34,6 +34,13 @@ impl From<Status> for u8 {
 // Reading or writing failed.
 #[derive(Clone, Copy, Debug, PartialEq, Eq)]
 pub struct Failure;
+
+// The number to end with: the status's, or 2 where reading or writing failed.
+pub fn exit_number(outcome: Result<Status, Failure>) -> u8
+    ensures { result ≡ exit_number outcome }
+{
+    outcome.unwrap_or(Status::Failed).into()
+}
 
 // Room for a portion of lines.
 pub fn text_space() -> [u8; 65536]
@@ -103,4 +110,14 @@ pub fn ended(
 {
     write_output(rt, text, doing)?;
     Ok(status)
+}
+
+// Writes a program's last text, and answers the number to end with: this one, or 2 where that failed.
+pub fn ended_with(rt: &(impl Print + Eprint), text: &[u8], status: u8, doing: &[u8]) -> u8
+    ensures { EndsWith status result }
+{
+    match write_output(rt, text, doing) {
+        Ok(()) => status,
+        Err(_) => Status::Failed.into(),
+    }
 }
