@@ -9,6 +9,7 @@ use native.Mathlib.Omega.{arith}
 use borrow.Author.Tests.{le-leb, lt-leb, eq-eqb, ne_eqb, leb-true, leb-false, eqb-true}
 use Rattle.std.proofs.Math.ListN.{drop}
 use Rattle.std.proofs.Math.Seq.{take-take, slice, length-slice}
+use Rattle.std.proofs.lemmas.List.Edits.{length-paste}
 use Rattle.std.specs.Prelude.{nat_eq}
 use Rattle.std.specs.List.{between}
 use Rattle.std.proofs.lemmas.Slice.{between_is}
@@ -16,7 +17,7 @@ use Rattle.std.specs.Cmp.Lexicographic.{pointwise, same_text, other_text}
 use Rattle.leaves_utf8.specs.Utf8.{is_utf8, Upto}
 use Rattle.leaves_utf8.specs.Utf8Laws.{plain_is}
 use Rattle.theory.specs.Bools.{and_false, and_left, and_right}
-use Rattle.leaves_names.specs.Names.{name_start, name_end, name_of, names_from, names_of, is_name, stand_from, well_formed, list_fits, same, least, has_room, standing, Ordered}
+use Rattle.leaves_names.specs.Names.{name_start, name_end, name_of, names_from, names_of, is_name, stand_from, well_formed, list_fits, same, least, has_room, name_written, standing, Ordered}
 
 -- ---- the limits
 
@@ -345,3 +346,11 @@ module _ {bytes ends : List ℕ} {names : ℕ} {name : List ℕ} {start n : ℕ}
       let l = w.left in
       let u = w.upto in
       omega arith
+
+-- ---- a name that is written
+
+pub copied_length : (bytes text : List ℕ) (at from to : ℕ) → to ≤ length text → at + (to - from) ≤ length bytes → length (name_written bytes at (slice from to text)) ≡ length bytes
+unfolding name_written
+copied_length bytes text at from to k l =
+    let e = length-slice from to text k in
+    length-paste bytes at (slice from to text) (length (slice from to text)) (omega arith) (omega arith)

@@ -58,6 +58,10 @@ module _ (t : List ℕ) (used k i : ℕ) where
       let a : T (ltb k used && eqb (row_at t k).instrument i) = true_T _ e in
       row_own (ltb_yes (T_fst (ltb k used) _ a)) (eqb_yes (T_snd (ltb k used) _ a))
 
+  pub own_within : {b : Bool} → b ≡ own_at t used k i → b ≡ true → k < used
+  unfolding own_at
+  own_within e f = ltb_yes (T_fst (ltb k used) (eqb (row_at t k).instrument i) (true_T _ (sym e ∙ f)))
+
   own_no_row : own_at t used k i ≡ false → own i (get_elem? (rows t used) k) ≡ none
   unfolding own_at
   own_no_row e = go (dec_lt k used) (ℕ_discrete (row_at t k).instrument i)

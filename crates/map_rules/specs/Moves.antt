@@ -1,4 +1,4 @@
--- What stores, moves and clearing leave of a table in bytes, place by place, as records, and the law of a store.
+-- What stores, moves and clearing leave of a table in bytes, place by place, as records, and their laws.
 -- Assumes nothing.
 use Rattle.std.specs.Prelude.{◌≡◌, refl, ◌≢◌, ℕ, ◌+◌, ◌-◌, ◌*◌, ◌≤◌, ◌<◌, List, get_or}
 use Rattle.std.proofs.Common.{ap, ◌∙◌, arith}
@@ -114,3 +114,23 @@ row_set {t} {t4 = t4} {i = i} {a = a} {v = v} {s = s} {e = e} fits fa fv fs fe e
 -- where they stand there
 pub moved_none : {f g : ℕ} (t : List ℕ) (n : ℕ) → f ≤ g → g ≤ f → Moved t f n g t
 moved_none {f} {g} t n h k = let e : g ≡ f = omega arith in record { moved = λ j l. ap (λ (x : ℕ). row_at t (x + j)) e; kept = λ j out. refl }
+
+-- no row to move: all is as it was
+pub lower_none : (t : List ℕ) (f m : ℕ) → Moved t f f (f - m) t
+lower_none t f m = record { moved = λ j h. absurd (omega arith); kept = λ j out. refl }
+
+-- ---- the rows of a stretch replaced
+
+pub replaced : {t t₁ t₂ t₃ t₄ : List ℕ} {used lo hi : ℕ} {l c r : Row ℕ} {left right : ℕ} → lo ≤ hi → hi ≤ used → left ≤ 1 → right ≤ 1
+    → Moved t hi used (lo + left + 1 + right) t₁ → RowSet t₁ (lo + left + right) r t₂ → RowSet t₂ lo l t₃ → RowSet t₃ (lo + left) c t₄
+    → Replaced t used lo hi l c r left right t₄
+replaced {t} {t₁} {t₂} {t₃} {t₄} {used = used} {lo = lo} {hi = hi} {l = l} {c = c} {r = r} {left = left} {right = right} h h'' hl hr m p q s = record {
+  before = λ j k. s.other j (omega arith) ∙ q.other j (omega arith) ∙ p.other j (omega arith) ∙ m.kept j (λ a b. omega arith);
+  first = λ e. s.other lo (omega arith) ∙ q.here;
+  middle = s.here;
+  last = λ e. s.other (lo + left + 1) (omega arith) ∙ q.other (lo + left + 1) (omega arith)
+      ∙ (let d : lo + left + 1 ≡ lo + left + right = omega arith in ap (row_at t₂) d) ∙ p.here;
+  after = λ j k. s.other (lo + left + 1 + right + j) (omega arith) ∙ q.other (lo + left + 1 + right + j) (omega arith)
+      ∙ p.other (lo + left + 1 + right + j) (omega arith) ∙ m.moved j k;
+  beyond = λ j a b. s.other j (omega arith) ∙ q.other j (omega arith) ∙ p.other j (omega arith) ∙ m.kept j (λ a' b'. omega arith);
+}

@@ -95,6 +95,12 @@ places_right {held} {ms} {ts} {cs} {hs} {hp} p =
       eq-eqb (length hp) 256 p.heap,
     )
 
+-- the same of what the plain engine tests
+pub places_plain : {held : ℕ} {ms ts cs hs hp : List ℕ} → Places held ms ts cs hs hp
+    → arrays_fit held (length ms) (length ts) (length cs) (length hs) 256 ≡ true
+places_plain {held} {ms} {ts} {cs} {hs} {hp} p =
+    ap (λ (k : ℕ). arrays_fit held (length ms) (length ts) (length cs) (length hs) k) (sym p.heap) ∙ places_right p
+
 abbrev pub PlacesIn : ℕ → Arrays → Type 0
 PlacesIn held a = Places held a.marks a.times a.places a.heads a.heap
 
