@@ -2,7 +2,7 @@
 -- nothing.
 use Rattle.std.proofs.Math.Path.{◌≡◌, refl, sym, ap, subst}
 use Rattle.std.proofs.Common.{◌∙◌}
-use Rattle.std.specs.Prelude.{ℕ, ◌+◌, ◌-◌, ◌*◌, ◌/◌, ◌≤◌, ◌<◌, Bool, cond, Result, Ok, Err}
+use Rattle.std.specs.Prelude.{ℕ, ◌+◌, ◌-◌, ◌*◌, ◌/◌, ◌≤◌, ◌<◌, Bool, cond, Result, Ok, Err, OnErr}
 use native.Mathlib.Omega.{arith}
 use Rattle.std.proofs.Math.Bool.{true, false}
 use mathlib.Core.List.{List, [], ◌∷◌}
@@ -192,6 +192,28 @@ empty_holds long names z e d =
       formed = tt;
       memory = e ∙ sym (ap (λ (n : ℕ). rows_written (replicate n 0) 0 []) k ∙ laid_blank long [] ∙ ap (λ (n : ℕ). replicate n 0) r);
     }
+
+-- and back: with nothing in use a table holds 0 in every place
+pub holds_none : (names : ℕ) (t : List ℕ) → Holds names t 0 → t ≡ replicate (length t) 0
+unfolding rows_from rows_bytes
+holds_none names t h =
+    let r : length t - 0 * 24 ≡ length t = omega arith in
+    h.memory ∙ laid_blank (length t) [] ∙ ap (λ (n : ℕ). replicate n 0) r
+
+-- ---- a build that is settled
+
+pub lays_settled : {names : ℕ} {b : Build (Row ℕ)} (r : Result ℕ Refusal) (t : List ℕ) → Lays names b r t → Lays names b r (settled r t)
+lays_settled (Ok u) t l = l
+lays_settled (Err why) t l = record { answers = l.answers; on = λ u y. cc }
+
+pub settled_empties : (r : Result ℕ Refusal) (t : List ℕ) → OnErr r (settled r t ≡ replicate (length t) 0)
+settled_empties (Ok u) t = tt
+settled_empties (Err why) t = refl
+
+-- a table that a refusal left empty is settled
+pub emptied_settled : (r : Result ℕ Refusal) (t : List ℕ) → OnErr r (t ≡ replicate (length t) 0) → t ≡ settled r t
+emptied_settled (Ok u) t e = refl
+emptied_settled (Err why) t e = e
 
 -- ---- the call
 

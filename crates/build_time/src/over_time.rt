@@ -1,6 +1,7 @@
 // The build over time from metadata (RULES, The map over time): mappings and intervals in order, each interval an insert into a table
 // that was emptied. The table stays in order, so no insert pays a check.
-ghost use Rattle.std.specs.Prelude.{◌≡◌, [], ℕ, ◌*◌, ◌≤◌, length};
+ghost use Rattle.std.specs.Prelude.{◌≡◌, [], ℕ, ◌*◌, ◌≤◌, length, replicate};
+ghost use Rattle.std.specs.Result.{OnErr};
 ghost use Rattle.leaves_names.specs.Names.{names_in};
 ghost use Rattle.metadata_rules.specs.Metadata.{mapping};
 ghost use Rattle.metadata_rules.specs.Words.{before, mappings_from};
@@ -174,7 +175,7 @@ fn lay_mappings(
     Ok(used)
 }
 
-// The build on memory of its form, onto an empty table: 9, then the mappings.
+// The build on memory of its form, onto an empty table: 9, then the mappings. A refusal leaves an empty table, which 9 finds so.
 fn build(
     table: &mut [u8],
     header: Header,
@@ -183,9 +184,10 @@ fn build(
 ) -> Result<usize, Refusal>
     requires { Holds names.list.names table.old 0 × (2 * header.mappings ≤ length lists.mappings.now)
         × (3 * before lists.mappings.now header.mappings ≤ length lists.intervals.now) }
-    ensures { Lays names.entry.list.names (directed (room_of table.old) (names_in names.entry.list)
+    ensures lays { Lays names.entry.list.names (directed (room_of table.old) (names_in names.entry.list)
         (mappings_from lists.entry.mappings.now lists.entry.intervals.now 0 0 header.mappings)
         (direction_by header.stype_in header.stype_out)) result table.new }
+    ensures emptied { OnErr result (table.new ≡ replicate (length table.old) 0) }
 {
     let direction = direction_by(header.stype_in, header.stype_out)?;
     let mappings = Mappings {
@@ -193,7 +195,8 @@ fn build(
         count: header.mappings,
         intervals: lists.intervals,
     };
-    lay_mappings(table, names, direction, mappings)
+    let laid = lay_mappings(table, names, direction, mappings);
+    settle(table, laid)
 }
 
 // Builds the table over time from a metadata and a name list: 15 for all lent memory, 14 for the list, then 9, and per interval 3, the
@@ -215,6 +218,5 @@ pub fn over_time(
     let of_form = table_fits(table.len(), 0);
     table.fill(0);
     let names = lent_names(of_form, header, lists, list)?;
-    let laid = build(table, header, lists, names);
-    settle(table, laid)
+    build(table, header, lists, names)
 }

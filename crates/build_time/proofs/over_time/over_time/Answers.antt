@@ -1,7 +1,7 @@
--- A refusal of the lent memory leaves the emptied table; else the build, settled. Assumes nothing.
+-- A refusal of the lent memory leaves the emptied table; else the build. Assumes nothing.
 use Rattle.std.proofs.lemmas.Result.{err_from_is_err_and}
 use Rattle.metadata_form.specs.Header.{lent}
-use Rattle.build_time.specs.OverTimeMappings.{over_refused, over_ready, over_built}
+use Rattle.build_time.specs.OverTimeMappings.{emptied_settled, over_refused, over_ready, over_built}
 use Rattle.build_time.proofs.over_time.over_time.Goals as goal
 
 pub returns-in_err-names : goal.returns-in_err-names
@@ -15,12 +15,14 @@ returns-in_err-names c =
 pub returns : goal.returns
 returns c =
     let a = c.args in
+    let b = c.build.ensures in
+    let long = c.build.auto.table in
     let o = over_built a.table.now a.header (lent a.lists) a.list.bytes.now a.list.ends.now _ _ c.fill.new.self (c.fill.ensures.after (λ y e. e))
-    c.table_fits-of_form.ensures c.in_ok-names.ensures.answered _ _ c.build-laid.auto.table (rw c.in_ok-names.ensures.same at c.build-laid.ensures) in
-    rw (c.settle.ensures.same, c.settle.ensures.memory) (record { result_value = o.result_value; table_after = o.table_after; rows_after = o.rows_after })
+    c.table_fits-of_form.ensures c.in_ok-names.ensures.answered _ _ long (rw c.in_ok-names.ensures.same at b.lays) in
+    rw (emptied_settled c.build.result _ (rw (← long) at b.emptied)) (record { result_value = o.result_value; table_after = o.table_after; rows_after = o.rows_after })
 
-pub build-laid-requires : goal.build-laid-requires
-build-laid-requires c =
+pub build-requires : goal.build-requires
+build-requires c =
     let a = c.args in
     rw c.in_ok-names.ensures.same (over_ready a.table.now a.header (lent a.lists) a.list.bytes.now a.list.ends.now _ _ c.fill.new.self
     (c.fill.ensures.after (λ y e. e)) c.table_fits-of_form.ensures c.in_ok-names.ensures.answered)
