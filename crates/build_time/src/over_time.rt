@@ -175,7 +175,7 @@ fn lay_mappings(
     Ok(used)
 }
 
-// The build on memory of its form, onto an empty table: 9, then the mappings. A refusal leaves an empty table, which 9 finds so.
+// The build on memory of its form, onto an empty table, which a refusal leaves empty: 9, then the mappings.
 fn build(
     table: &mut [u8],
     header: Header,
