@@ -23,77 +23,97 @@ impl Entry {
     }
 }
 
-impl State<'_> {
-    // What stands at a place of the heap.
-    fn entry_at(&self, place: usize) -> Entry
-        requires { (place < length self.now.heap.now) × (256 ≤ length self.now.times.now) }
-        ensures { Stands self.now.times.now self.now.heap.now place result.place result.stream result.time }
-    {
-        let stream = self.heap[place] as usize;
-        let time = self.times[stream];
-        Entry {
-            time,
-            stream,
-            place,
-        }
+// What stands at a place of the heap.
+fn entry_at(times: &[u64], heap: &[u8], place: usize) -> Entry
+    requires { (place < length heap.now) × (256 ≤ length times.now) }
+    ensures { Stands times.now heap.now place result.place result.stream result.time }
+{
+    let stream = heap[place] as usize;
+    let time = times[stream];
+    Entry {
+        time,
+        stream,
+        place,
     }
+}
 
-    // Of two places that lie side by side, the one whose stream comes first.
-    fn lesser(&self, place: usize) -> Entry
-        requires { (place < 256) × (place + 1 < length self.now.heap.now) × (256 ≤ length self.now.times.now) }
-        ensures { Lesser self.now.times.now self.now.heap.now place result.place result.stream result.time }
-    {
-        let left = self.entry_at(place);
-        let right = self.entry_at(place + 1);
-        if right.comes_before(left) {
-            right
-        } else {
-            left
-        }
+// Of two places that lie side by side, the one whose stream comes first.
+fn lesser(times: &[u64], heap: &[u8], place: usize) -> Entry
+    requires { (place < 256) × (place + 1 < length heap.now) × (256 ≤ length times.now) }
+    ensures { Lesser times.now heap.now place result.place result.stream result.time }
+{
+    let left = entry_at(times, heap, place);
+    let right = entry_at(times, heap, place + 1);
+    if right.comes_before(left) {
+        right
+    } else {
+        left
     }
+}
 
-    // The hole's last turn, where it has one child at most: a child that comes before the moving stream fills it. Answers where the
-    // hole is.
-    fn lone_child(&mut self, hole: usize, moving: Entry) -> usize
-        requires { HeapRoom self.old × ((hole < self.old.held) × (self.old.held ≤ 2 * hole + 2)) }
-        ensures settled { Settled self.old.times.now self.old.held moving.time moving.stream hole self.old.heap.now result self.new.heap.now }
-        ensures others { HeapAlone self.old self.new }
-    {
-        let last = 2 * hole + 1;
-        if self.held <= last {
-            return hole;
-        }
-        let child = self.entry_at(last);
+// The hole's last turn, where it has one child at most: a child that comes before the moving stream fills it. Answers where the
+// hole is.
+fn lone_child(times: &[u64], heap: &mut [u8], held: usize, hole: usize, moving: Entry) -> usize
+    requires { (hole < held) × (held ≤ 2 * hole + 2) × (held ≤ length heap.old) × (held ≤ 256) × (256 ≤ length times.now) }
+    ensures { Settled times.now held moving.time moving.stream hole heap.old result heap.new }
+{
+    let last = 2 * hole + 1;
+    if held <= last {
+        return hole;
+    }
+    let child = entry_at(times, heap, last);
+    if moving.comes_before(child) {
+        return hole;
+    }
+    heap[hole] = child.stream as u8;
+    last
+}
+
+// What stands at `from` moves down to where it belongs: its place is a hole that the lesser child fills, until no child comes before
+// it. In order or not, the heap holds the same streams afterwards.
+pub fn sift_down(times: &[u64], heap: &mut [u8], held: usize, from: usize)
+    requires { (held ≤ length heap.old) × (held ≤ 256) × (from ≤ held) × (256 ≤ length times.now) }
+    ensures { Sifted times.now held from heap.old heap.new }
+{
+    if held <= from {
+        return;
+    }
+    let moving = entry_at(times, heap, from);
+    let mut hole = from;
+    while 2 * hole + 2 < held {
+        let child = lesser(times, heap, 2 * hole + 1);
         if moving.comes_before(child) {
-            return hole;
+            heap[hole] = moving.stream as u8;
+            return;
         }
-        self.heap[hole] = child.stream as u8;
-        last
+        heap[hole] = child.stream as u8;
+        hole = child.place;
     }
+    let end = lone_child(times, heap, held, hole, moving);
+    heap[end] = moving.stream as u8;
+}
 
-    // What stands at `from` moves down to where it belongs: its place is a hole that the lesser child fills, until no child comes
-    // before it. In order or not, the heap holds the same streams afterwards.
+// Puts the heap's first `held` places in order.
+pub fn heapify(times: &[u64], heap: &mut [u8], held: usize)
+    requires { (held ≤ length heap.old) × (held ≤ 256) × (256 ≤ length times.now) }
+    ensures { Heaped times.now held heap.old heap.new 0 }
+{
+    for k in (0..held / 2).rev() {
+        sift_down(times, heap, held, k);
+    }
+}
+
+impl State<'_> {
+    // What stands at `from` moves down to where it belongs, in this state's heap.
     pub fn sift_down(&mut self, from: usize)
         requires { HeapRoom self.old × (from ≤ self.old.held) }
         ensures sifted { Sifted self.old.times.now self.old.held from self.old.heap.now self.new.heap.now }
         ensures others { HeapAlone self.old self.new }
     {
-        if self.held <= from {
-            return;
-        }
-        let moving = self.entry_at(from);
-        let mut hole = from;
-        while 2 * hole + 2 < self.held {
-            let child = self.lesser(2 * hole + 1);
-            if moving.comes_before(child) {
-                self.heap[hole] = moving.stream as u8;
-                return;
-            }
-            self.heap[hole] = child.stream as u8;
-            hole = child.place;
-        }
-        let end = self.lone_child(hole, moving);
-        self.heap[end] = moving.stream as u8;
+        let held = self.held;
+        let times = &mut *self.times;
+        let heap = &mut *self.heap;
+        sift_down(times, heap, held, from);
     }
 
     // Puts the heap's places in use in order.
@@ -102,9 +122,10 @@ impl State<'_> {
         ensures heaped { Heaped self.old.times.now self.old.held self.old.heap.now self.new.heap.now 0 }
         ensures others { HeapAlone self.old self.new }
     {
-        for k in (0..self.held / 2).rev() {
-            self.sift_down(k);
-        }
+        let held = self.held;
+        let times = &mut *self.times;
+        let heap = &mut *self.heap;
+        heapify(times, heap, held);
     }
 
     // The root's stream is gone: the heap's last stream takes its place and moves down.
