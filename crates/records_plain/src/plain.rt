@@ -14,16 +14,19 @@ use records::engine::Engine;
 use records::merge::{Record, empty_bytes, handed, plus, read_stream};
 use records_state::state::{EMPTY, GONE, PLACES, State, WAITING};
 
-// The stream with the least (time, stream) of those that are not gone; none where all are.
+// The stream with the least (time, stream) of those that are not gone; none where all are. The least time stands in a variable beside
+// its stream's number, so that a turn looks at no other stream's places.
 fn least(state: &State<'_>) -> Option<usize>
     requires { (state.now.held ≤ length state.now.marks.now) × (state.now.held ≤ length state.now.times.now) }
     ensures chosen { Chosen state.now.held state.now.marks.now state.now.times.now (unwrap_or result state.now.held) }
     ensures below { IfSome result (λ p. p < state.now.held) }
 {
     let mut best: Option<usize> = None;
+    let mut time = 0;
     for p in 0..state.held {
-        if state.marks[p] != GONE && best.is_none_or(|q| state.times[p] < state.times[q]) {
+        if state.marks[p] != GONE && (best.is_none() || state.times[p] < time) {
             best = Some(p);
+            time = state.times[p];
         }
     }
     best
