@@ -105,6 +105,7 @@ pub fn heapify(times: &[u64], heap: &mut [u8], held: usize)
 
 impl State<'_> {
     // What stands at `from` moves down to where it belongs, in this state's heap.
+    #[inline(always)]
     pub fn sift_down(&mut self, from: usize)
         requires { HeapRoom self.old × (from ≤ self.old.held) }
         ensures sifted { Sifted self.old.times.now self.old.held from self.old.heap.now self.new.heap.now }
@@ -117,6 +118,7 @@ impl State<'_> {
     }
 
     // Puts the heap's places in use in order.
+    #[inline(always)]
     pub fn heapify(&mut self)
         requires { HeapRoom self.old }
         ensures heaped { Heaped self.old.times.now self.old.held self.old.heap.now self.new.heap.now 0 }
@@ -129,6 +131,7 @@ impl State<'_> {
     }
 
     // The root's stream is gone: the heap's last stream takes its place and moves down.
+    #[inline(always)]
     pub fn remove_root(&mut self)
         requires { HeapRoom self.old × ((0 < self.old.held) × (256 ≤ length self.old.marks.now)) }
         ensures { RootRemoved self.old self.new }
