@@ -1,18 +1,23 @@
 -- The ways a turn of the plain engine's loop goes: the laws of the heap engine's turns (`StateLaws`) ask only who is chosen, so all of
 -- them serve. Assumes nothing.
-use Rattle.std.specs.Prelude.{◌≡◌, refl, ◌≢◌, ℕ, ◌+◌, ◌%◌, ◌≤◌, ◌<◌, ◌^◌, List, length, get_or, set, replicate, true}
-use Rattle.std.proofs.Common.{sym, ap, ◌∙◌, arith, length-set}
+use Rattle.std.specs.Prelude.{◌≡◌, refl, ◌≢◌, ℕ, ◌+◌, ◌-◌, ◌%◌, ◌≤◌, ◌<◌, ◌^◌, Bool, true, false, ◌&&◌, eqb, leb, List, length, get_or, set, replicate}
+use Rattle.std.proofs.Common.{sym, ap, ◌∙◌, arith, length-set, eqb-true}
 use Rattle.theory.specs.Answer.{Answer}
+use Rattle.theory.specs.Bools.{and_right}
 use Rattle.leaves.specs.Frame.{ended, damaged}
+use Rattle.leaves.specs.Refusal.{number_of, refused}
+use Rattle.leaves.specs.RefusalLaws.{refused_not_done}
+use Rattle.leaves.specs.declared.refusal.Refusal.{Refusal}
 use Rattle.records_rules.specs.Machine.{Stream, says, end, record_at_lem, damage_at, turn}
 use Rattle.records_rules.specs.Machine as machine
 use Rattle.records_rules.specs.View.{rec_in, statuses_of}
 use Rattle.records_rules.specs.Holds.{Chosen}
-use Rattle.records_rules.specs.State.{answer_of, stood, Small, Room, Arrays, arrays, OpenSays}
+use Rattle.records_rules.specs.State.{answer_of, stood, Small, Room, Arrays, arrays, arrays_fit, fit_in, right_streams, opening, OpenSays}
 use Rattle.records_rules.specs.StateLaws.{small_set, small_move}
 use Rattle.records_rules.proofs.StateLaws.{law_end, law_record, law_ended, law_damaged, law_whole, law_small}
 use Rattle.records_rules.specs.Opening.{arrays_room}
-use Rattle.records_plain.specs.Plain.{plain_fits, PlainRoom, PlainSays, PlainOpens}
+use Rattle.records.specs.Engine.{EngineOpens}
+use Rattle.records_plain.specs.Plain.{plain_fits, PlainUntouched, PlainRoom, PlainSays, PlainOpens}
 
 -- the loop's invariant: the arrays keep their lengths, places behind records fit where they did at entry, and the machine goes on from
 -- here as from the entry
@@ -129,3 +134,37 @@ plain_opens long told =
             unused = λ q h l. ((o.unused q h l).0, (o.unused q h l).1);
           };
     }
+
+-- ---- the opening as an engine's
+
+-- where all five arrays are right, the four of the streams are
+pub four_fit : (held m t c h p : ℕ) → arrays_fit held m t c h p ≡ true → arrays_fit held m t c h 256 ≡ true
+unfolding arrays_fit
+four_fit held m t c h p e =
+    let heap : eqb p 256 ≡ true =
+    and_right (eqb h 256) _ (and_right (eqb c 256) _ (and_right (eqb t 256) _ (and_right (eqb m 256) _ (and_right (leb held 256) _ e)))) in
+    let long : p ≡ 256 = eqb-true p 256 heap in
+    rw long at e
+
+-- what it promises is what an engine's opening does
+pub plain_engine_opens : {buffer cuts hints : List ℕ} {a a' : Arrays} {x : Answer}
+    → PlainOpens buffer cuts hints a.marks a.times a.places a.heads x a'.marks a'.times a'.places a'.heads
+    → EngineOpens (λ n held (s : Arrays). (held ≡ n) × Small n s.places s.heads) buffer cuts hints a x a'
+plain_engine_opens {buffer} {cuts} {hints} {a} told =
+    let right = right_streams (length buffer) cuts (length hints) in
+    let four : fit_in 0 a ≡ true → plain_fits 0 a.marks a.times a.places a.heads ≡ true = four_fit _ _ _ _ _ _ in
+    record {
+      answers = λ e. told.answers ∙ ap (λ (b : Bool). opening b right (length cuts - 1)) (four e ∙ sym e);
+      opened = λ e r. let o = told.opened (rw (four e, r) refl) in record { starts = o.starts; after = (refl, o.small) };
+    }
+
+refused_by : (m s : Bool) (n : ℕ) (r : Refusal) → refused r ≡ opening m s n → (m && s) ≡ false
+unfolding opening
+refused_by true true n r e = let z : number_of r ≡ 0 = cc in absurd (refused_not_done r z)
+refused_by true false n r e = refl
+refused_by false s n r e = refl
+
+-- where it is refused, the four arrays are as at entry
+pub plain_refused : {buffer cuts hints ms ts cs hs : List ℕ} {ms' ts' cs' hs' : List ℕ} (r : Refusal)
+    → PlainOpens buffer cuts hints ms ts cs hs (refused r) ms' ts' cs' hs' → PlainUntouched ms ts cs hs ms' ts' cs' hs'
+plain_refused r told = told.refused (refused_by _ _ _ r told.answers)

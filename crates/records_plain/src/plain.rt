@@ -116,6 +116,25 @@ impl Engine for Plain {
 
     ghost opened = { λ n hints a o. (refl, o.sound.small) };
 
+    fn open(
+        buffer: &[u8],
+        cuts: &[u64],
+        hints: &[u64],
+        state: &mut State<'_>,
+    ) -> Result<usize, Refusal> {
+        let streams = open(
+            buffer,
+            cuts,
+            hints,
+            state.marks,
+            state.times,
+            state.places,
+            state.heads,
+        )?;
+        state.held = streams;
+        Ok(streams)
+    }
+
     fn next(buffer: &[u8], cuts: &[u64], state: &mut State<'_>) -> Result<Option<Record>, Refusal> {
         next(buffer, cuts, state)
     }

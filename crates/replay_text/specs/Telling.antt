@@ -8,7 +8,7 @@ use Rattle.records_rules.specs.Machine.{Stream, record_at_lem, damage_at, Status
 use Rattle.records_rules.specs.Bytes.{streams_of}
 use Rattle.records_rules.specs.Kept.{total}
 use Rattle.records_rules.specs.View.{tab}
-use Rattle.records_rules.specs.State.{answer_of, arrays_fit, right_streams, padded, opening, Arrays, statuses_at, OpenSays, OpenedIn}
+use Rattle.records_rules.specs.State.{answer_of, arrays_fit, right_streams, padded, opening, Arrays, statuses_at}
 use Rattle.leaves.specs.Refusal.{reason_number, number_of, refused}
 use Rattle.leaves.specs.RefusalLaws.{refused_not_done}
 use Rattle.leaves.specs.declared.refusal.Reason.{Reason}
@@ -18,7 +18,7 @@ use Rattle.records_state.specs.declared.state.State.{State}
 use Rattle.records_state.specs.Lent.{arrays_of, SameMemory}
 use Rattle.records.specs.declared.merge.Record.{Record}
 use Rattle.records.specs.Merge.{turn_of, opening_of}
-use Rattle.records.specs.Engine.{EngineSays, EngineTurns}
+use Rattle.records.specs.Engine.{EngineSays, EngineTurns, EngineOpened, EngineOpens}
 use Rattle.lines.specs.Lines.{record_line, damage_line, end_line, Lays}
 use Rattle.replay_text.specs.Replay.{line_of, lines_left}
 use Rattle.replay_text.specs.ReplayLaws.{left_says, Writing, writing_start, writing_says, writing_end}
@@ -227,12 +227,12 @@ unfolding padded tab
 no_hints zero = refl
 no_hints (suc n) = ap (λ (r : List ℕ). 0 ∷ r) (no_hints n)
 
-module _ {buffer cuts text : List ℕ} (m : Cut buffer cuts text) {s s' : State} (k : SameMemory s s') (p : PlacesIn 0 (arrays_of s))
-    (y : Result ℕ Refusal) (o : OpenSays buffer cuts [] (arrays_of s) (opening_of s'.held y) (arrays_of s')) where
+module _ {sound : ℕ → ℕ → Arrays → Type 0} {buffer cuts text : List ℕ} (m : Cut buffer cuts text) {s s' : State} (k : SameMemory s s')
+    (p : PlacesIn 0 (arrays_of s)) (y : Result ℕ Refusal) (o : EngineOpens sound buffer cuts [] (arrays_of s) (opening_of s'.held y) (arrays_of s')) where
   -- the opening is done
   done : opening_of s'.held y ≡ theory.answer 0 ((length cuts - 1) ∷ (length cuts - 1) ∷ [])
   unfolding opening
-  done = o.answers ∙ rw (places_right p, m.right)
+  done = o.answers (places_right p) ∙ rw (places_right p, m.right)
 
   pub opening_done : (r : Refusal) → y ≡ Err r → ⊥
   opening_done r e = let d = sym (ap (opening_of s'.held) e) ∙ done in refused_not_done r (cc)
@@ -240,16 +240,15 @@ module _ {buffer cuts text : List ℕ} (m : Cut buffer cuts text) {s s' : State}
   held_all : {n : ℕ} → y ≡ Ok n → s'.held ≡ length cuts - 1
   held_all e = let d = sym (ap (opening_of s'.held) e) ∙ done in cc
 
-  opened : OpenedIn (length cuts - 1) [] (arrays_of s')
-  opened = o.opened (rw (places_right p, m.right) refl)
+  opened : EngineOpened sound (length cuts - 1) [] (arrays_of s')
+  opened = o.opened (places_right p) m.right
 
   -- and what it leaves is ready to be stepped through, from the machine's start
   pub opened_starts : statuses_at (length cuts - 1) (arrays_of s') ≡ start (replicate (length cuts - 1) 0)
   opened_starts = opened.starts ∙ ap start (no_hints (length cuts - 1))
 
-  pub opened_ready : {sound : ℕ → ℕ → Arrays → Type 0} → ((n : ℕ) (hints : List ℕ) (a : Arrays) → OpenedIn n hints a → sound n n a)
-      → {n : ℕ} → y ≡ Ok n → Ready sound (streams_of buffer cuts) (length cuts - 1) s'.held (arrays_of s') text
-  opened_ready law e =
+  pub opened_ready : {n : ℕ} → y ≡ Ok n → Ready sound (streams_of buffer cuts) (length cuts - 1) s'.held (arrays_of s') text
+  opened_ready e =
       rw (held_all e) (record {
         places = record {
           few = omega (arith, m.few);
@@ -260,6 +259,6 @@ module _ {buffer cuts text : List ℕ} (m : Cut buffer cuts text) {s s' : State}
           heap = k.heap.long ∙ p.heap;
         };
         few = omega (arith, m.few);
-        is_sound = law _ _ _ opened;
+        is_sound = opened.after;
         room = rw opened_starts m.room;
       })

@@ -12,7 +12,7 @@ ghost use Rattle.replay_text.specs.Telling.{Ready, Cut};
 use leaves::refusal::Refusal;
 use lines::lines::{damage_line, record_line, word};
 use records::engine::Engine;
-use records::merge::{empty_bytes, empty_numbers, open};
+use records::merge::{empty_bytes, empty_numbers};
 use records_state::state::State;
 
 // Calls the merge to its end, and writes a line for each of its answers.
@@ -60,7 +60,7 @@ pub fn tell_streams<E: Engine>(buffer: &[u8], cuts: &[u64], text: &mut [u8]) -> 
         heads: &mut heads,
         heap: &mut heap,
     };
-    match open(buffer, cuts, &[], &mut state) {
+    match E::open(buffer, cuts, &[], &mut state) {
         Ok(_) => tell_all::<E>(buffer, cuts, &mut state, text),
         // Right cuts are not refused.
         Err(_) => 0,

@@ -14,7 +14,7 @@ tell_all-requires g c =
     let o = c.open.ensures in
     let n = c.empty_numbers-places.ensures.1 in
     let p = lent c.empty_bytes-marks.ensures.1 c.empty_numbers-times.ensures.1 n c.empty_numbers-heads.ensures.1 c.empty_bytes-heap.ensures.1 in
-    opened_ready c.requires o.memory p _ o.says g.met.E.Engine.opened c.in-Ok.is
+    opened_ready c.requires o.memory p _ o.says c.in-Ok.is
 
 pub returns-in-Ok : goal.returns-in-Ok
 returns-in-Ok g c =
