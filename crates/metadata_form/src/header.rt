@@ -91,15 +91,22 @@ pub fn total(mappings: &[u32], count: usize) -> usize
     sum
 }
 
-// Whether a metadata's memory is of the form; where it is not, 15.
-#[tactic(auto, unfolding(crate::specs::Header::metadata_fits))]
+// Whether a metadata's memory is of the form, by the lengths of its lists; where it is not, 15.
+pub fn form_fits(header: Header, lengths: Lengths, mappings: &[u32]) -> bool
+    requires { lengths.mappings ≡ length mappings.now }
+    ensures { result ≡ metadata_fits header lengths mappings.now }
+{
+    if !lengths_fit(header, lengths) {
+        return false;
+    }
+    total(mappings, header.mappings) <= lengths.intervals / INTERVAL_WORDS
+}
+
+// The same of the lists themselves.
 pub fn metadata_fits(header: Header, lists: Lists<'_>) -> bool
     ensures { result ≡ metadata_fits header (lengths_of (lent lists.entry)) lists.entry.mappings.now }
 {
-    if !lengths_fit(header, lists.lengths()) {
-        return false;
-    }
-    total(lists.mappings, header.mappings) <= lists.intervals.len() / INTERVAL_WORDS
+    form_fits(header, lists.lengths(), lists.mappings)
 }
 
 // The first of the six fields that differs.
