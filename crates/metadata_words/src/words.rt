@@ -4,7 +4,6 @@ ghost use Rattle.std.specs.Prelude.{◌≡◌, ◌+◌, ◌-◌, ◌*◌, ◌<�
 ghost use Rattle.metadata_rules.specs.Words.{interval_at, name_at, count_at};
 ghost use Rattle.metadata_words.specs.Words.{put_at, put_mapping, lay_intervals, rest};
 
-use leaves_fields::copies::copy;
 use metadata_rules::Interval;
 
 // The words of a mapping and of an interval.
@@ -46,17 +45,19 @@ pub fn put_interval(intervals: &mut [u32], i: usize, x: Interval)
     intervals[o + 2] = x.symbol;
 }
 
-// The intervals from one place up to another, laid in `out` from the place `at` on.
+// The intervals from one place up to another, laid in `out` from the place `at` on. One by one: over memory that is the function's own a
+// copy of words becomes memcpy of the C library, and the library for C does without.
 // Places and no slice: a place is an interval's, three words, and `&intervals[3 * from..3 * to]` at each caller is no plainer.
 pub fn copy_intervals(intervals: &[u32], from: usize, to: usize, out: &mut [u32], at: usize)
     requires { (from ≤ to) × (3 * to ≤ length intervals.now) × (3 * (at + (to - from)) ≤ length out.old) }
     ensures { out.new ≡ lay_intervals out.old at (rest intervals.now from to) }
 {
-    let laid = at + (to - from);
-    copy(
-        &mut out[INTERVAL_WORDS * at..INTERVAL_WORDS * laid],
-        &intervals[INTERVAL_WORDS * from..INTERVAL_WORDS * to],
-    );
+    let mut k = at;
+    for i in from..to {
+        let x = interval_at(intervals, i);
+        put_interval(out, k, x);
+        k += 1;
+    }
 }
 
 // The i-th mapping's name.

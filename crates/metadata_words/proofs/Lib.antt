@@ -1,2 +1,0 @@
--- What a proof here leans on.
-mod Copied
