@@ -1,5 +1,5 @@
--- An engine of the merge (RULES, Requests, No. 12): what an opening and a call leave, where `sound n held` says of arrays that they are a sound state
--- of n streams, of which so many are held. What is promised of the answers names no engine. Assumes nothing.
+-- An engine of the merge (RULES, Requests, No. 12): what an opening and a call leave, where `sound n held` says of arrays that they are
+-- a sound state of n streams, of which so many are held. What is promised of the answers names no engine. Assumes nothing.
 use Rattle.std.specs.Prelude.{◌≡◌, refl, ℕ, ◌-◌, ◌≤◌, true, List, length}
 use Rattle.leaves_limits.specs.Limits.{most_streams}
 use Rattle.theory.specs.Answer.{Answer}

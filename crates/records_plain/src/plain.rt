@@ -1,6 +1,6 @@
 // A plain merger (RULES, Requests, No. 12): no heap, but a scan of all streams for the least (time, stream) before every read and every
-// hand-out. It opens, refuses and answers as `records::merge` does; docs/TEACHING.md lays the two side by side. Of the lent state a call
-// leaves the heap alone, and holds every stream.
+// hand-out. It opens, refuses and answers as `records::merge` does; docs/TEACHING.md lays the two side by side. Of the lent state an
+// engine's opening and a call leave the heap alone, and hold every stream.
 ghost use Rattle.std.specs.Prelude.{◌≡◌, refl, ◌≤◌, ◌<◌, length, unwrap_or, IfSome};
 ghost use Rattle.records_rules.specs.Bytes.{streams_of};
 ghost use Rattle.records_rules.specs.Holds.{Chosen};
@@ -21,12 +21,14 @@ fn least(state: &State<'_>) -> Option<usize>
     ensures chosen { Chosen state.now.held state.now.marks.now state.now.times.now (unwrap_or result state.now.held) }
     ensures below { IfSome result (λ p. p < state.now.held) }
 {
+    let marks = &*state.marks;
+    let times = &*state.times;
     let mut best: Option<usize> = None;
     let mut time = 0;
     for p in 0..state.held {
-        if state.marks[p] != GONE && (best.is_none() || state.times[p] < time) {
+        if marks[p] != GONE && (best.is_none() || times[p] < time) {
             best = Some(p);
-            time = state.times[p];
+            time = times[p];
         }
     }
     best
