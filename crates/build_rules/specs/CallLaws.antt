@@ -46,8 +46,19 @@ module _ (table : Bool) (h : Header) (l : Lengths) (m bytes ends : List ℕ) (na
   unfolding build_fits judged check_names
   judged_list t g = rw (t, g) refl
 
+  -- the same by all of them at once: 15, or as the check of the list
+  pub judged_unfit : build_fits table h l m (length bytes) (length ends) names name_bytes ≡ false
+      → refused BadMemory ≡ judged (build_fits table h l m (length bytes) (length ends) names name_bytes) (well_formed bytes ends names name_bytes)
+  unfolding judged
+  judged_unfit e = rw e refl
+
+  pub judged_fit : build_fits table h l m (length bytes) (length ends) names name_bytes ≡ true
+      → check_names bytes ends names name_bytes ≡ judged (build_fits table h l m (length bytes) (length ends) names name_bytes) (well_formed bytes ends names name_bytes)
+  unfolding judged check_names
+  judged_fit e = let f = fits_facts table h l m (length bytes) (length ends) names name_bytes e in rw (e, f.2) refl
+
 -- what the test of the lent memory answers, in its order
-pub ruleset judging = (judged_table, judged_metadata, judged_list)
+pub ruleset judging = (judged_unfit, judged_fit)
 
 -- memory that passes both tests
 pub judged_good : (f w : Bool) → answer 0 [] ≡ judged f w → (f ≡ true) × (w ≡ true)

@@ -7,9 +7,27 @@ ghost use Rattle.metadata_form.specs.Header.{lengths_of, lent};
 ghost use Rattle.build_rules.specs.Call.{build_fits, judged, settled};
 
 use leaves::refusal::Refusal;
-use leaves_names::names::{NameList, Names};
-use metadata_form::header::{Header, metadata_fits};
+use leaves_names::names::{NameList, Names, list_fits};
+use metadata_form::header::{Header, Lengths, form_fits};
 use metadata_form::lists::Lists;
+
+// Whether the lent memory of table, metadata and list is of its form, by the table's own test; where it is not, 15.
+#[tactic(auto, unfolding(crate::specs::Call::build_fits))]
+pub fn build_fits(
+    table: bool,
+    header: Header,
+    lengths: Lengths,
+    mappings: &[u32],
+    bytes: usize,
+    places: usize,
+    names: usize,
+    name_bytes: usize,
+) -> bool
+    requires { lengths.mappings ≡ length mappings.now }
+    ensures { result ≡ build_fits table header lengths mappings.now bytes places names name_bytes }
+{
+    table && form_fits(header, lengths, mappings) && list_fits(bytes, places, names, name_bytes)
+}
 
 // The checked names of a build, where the lent memory of table, metadata and list is of its form, by the table's own test: 15, then 14.
 #[tactic(auto, using(crate::specs::CallLaws::judging))]
@@ -25,7 +43,16 @@ pub fn lent_names<'a>(
         (well_formed list.entry.bytes.now list.entry.ends.now list.entry.names list.entry.name_bytes) }
     ensures same { IfOk result (λ names. names.list ≡ list.entry) }
 {
-    if !table || !metadata_fits(header, lists) {
+    if !build_fits(
+        table,
+        header,
+        lists.lengths(),
+        lists.mappings,
+        list.bytes.len(),
+        list.ends.len(),
+        list.names,
+        list.name_bytes,
+    ) {
         return Err(Refusal::BadMemory);
     }
     list.check()

@@ -1,5 +1,6 @@
 // What is lent to the record merge: its state in five arrays of 256 places, and how many places of the heap are in use.
 ghost use Rattle.std.specs.Prelude.{◌≡◌, ◌<◌, length, get_or};
+ghost use Rattle.records_rules.specs.State.{arrays_fit};
 ghost use Rattle.records_rules.specs.View.{packed};
 
 use leaves::frame::Head;
@@ -17,6 +18,26 @@ pub const GONE: u8 = 0;
 pub const WAITING: u8 = 1;
 
 pub const STANDING: u8 = 2;
+
+// Whether arrays of these lengths fit: each has 256 places, and no more of the heap is in use; where not, 15.
+#[tactic(auto, unfolding(records_rules::specs::State::arrays_fit))]
+pub fn arrays_fit(
+    held: usize,
+    marks: usize,
+    times: usize,
+    places: usize,
+    heads: usize,
+    heap: usize,
+) -> bool
+    ensures { result ≡ arrays_fit held marks times places heads heap }
+{
+    held <= PLACES
+        && marks == PLACES
+        && times == PLACES
+        && places == PLACES
+        && heads == PLACES
+        && heap == PLACES
+}
 
 // A record's head in one number, since C lends a number a stream: its length in the two lowest bytes, its kind in the next two, its
 // instrument above.
@@ -68,7 +89,14 @@ impl State<'_> {
     pub fn fits(&self) -> bool
         ensures { result ≡ fit_in self.now.held (arrays_of self.now) }
     {
-        self.held <= PLACES && self.has_places()
+        arrays_fit(
+            self.held,
+            self.marks.len(),
+            self.times.len(),
+            self.places.len(),
+            self.heads.len(),
+            self.heap.len(),
+        )
     }
 
     // A stream stands at the record that was read.
