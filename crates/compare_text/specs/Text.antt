@@ -1,6 +1,6 @@
 -- The lines of a comparison (RULES, Requests, No. 1): a stretch's line is instrument, start, end, left symbol or `-`, right symbol or `-`. Numbers are
 -- decimal, one blank parts two fields, a newline ends each line.
-use Rattle.std.specs.Prelude.{ℕ, ◌≡◌, false, length, take, drop, List, [], ◌∷◌, ◌++◌}
+use Rattle.std.specs.Prelude.{ℕ, ◌≡◌, false, take, drop, List, [], ◌∷◌, ◌++◌}
 use Rattle.std.proofs.Common.{ap, sym, ◌∙◌, add-zero, take-append-drop, append-nil}
 use Rattle.std.proofs.Math.Option.{Option, none, some}
 use Rattle.lines.specs.Lines.{decimal, blank, newline, laid, Lays}

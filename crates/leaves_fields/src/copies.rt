@@ -1,8 +1,8 @@
 // A slice copied over another.
 ghost use Rattle.std.specs.Prelude.{◌≡◌, length};
 
-// Copies a slice over another of the same length. By a loop: `copy_from_slice` wants memmove of the C library, and the library for C needs
-// memcpy and memset alone.
+// Copies a slice over another of the same length. By a loop: `copy_from_slice` wants memmove of the C library, which the library for C does
+// without.
 pub fn copy<T: Copy>(to: &mut [T], from: &[T])
     requires { length to.old ≡ length from.now }
     ensures { to.new ≡ from.now }

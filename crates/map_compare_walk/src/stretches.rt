@@ -34,6 +34,7 @@ impl<'a> Walk<'a> {
     }
 
     // The next stretch, where one is left. The walk stays over the same tables.
+    #[inline(always)]
     pub fn step(&mut self) -> Option<Stretch>
         ensures steps { YieldsFirstBy stretch_of rest self.old result self.new }
         ensures tables { self.new.tables ≡ self.old.tables }
@@ -61,6 +62,7 @@ impl<'a> Iterator for Walk<'a> {
 
     ghost remaining = { item_count rest };
 
+    #[inline(always)]
     fn next(&mut self) -> Option<Stretch> {
         self.step()
     }

@@ -56,6 +56,7 @@ pub struct Step {
 }
 
 // The head of a table at a position.
+#[inline(always)]
 fn head(table: &[u8], p: Position) -> Interval
     requires { p.place * width + width ≤ length table.now }
     ensures { row_of result ≡ head_at table.now p }
@@ -66,6 +67,7 @@ fn head(table: &[u8], p: Position) -> Interval
 }
 
 // Whether x is over before y starts.
+#[inline(always)]
 fn is_over(x: Interval, y: Interval) -> bool
     ensures { result ≡ over (row_of x) (row_of y) }
 {
@@ -73,6 +75,7 @@ fn is_over(x: Interval, y: Interval) -> bool
 }
 
 // A turn by its parts.
+#[inline(always)]
 fn made(left: bool, right: bool, start: u64, end: u64, x: Onward, y: Onward) -> Turn
     ensures { result ≡ turn_by left right start end x y }
 {
@@ -87,6 +90,7 @@ fn made(left: bool, right: bool, start: u64, end: u64, x: Onward, y: Onward) -> 
 }
 
 // What two heads give that start at the same moment, where they overlap.
+#[inline(always)]
 fn both(x: Interval, y: Interval) -> Turn
     ensures { result ≡ both_of same_value (row_of x) (row_of y) }
 {
@@ -101,6 +105,7 @@ fn both(x: Interval, y: Interval) -> Turn
 }
 
 // What two heads give.
+#[inline(always)]
 fn turn_of(x: Interval, y: Interval) -> Turn
     ensures { result ≡ turn_of same_value (row_of x) (row_of y) }
 {
@@ -120,6 +125,7 @@ fn turn_of(x: Interval, y: Interval) -> Turn
 }
 
 // The position of a table after a turn.
+#[inline(always)]
 fn moved(p: Position, o: Onward) -> Position
     requires { p.place + step_of o ≤ most_room }
     ensures { result ≡ moved p o }
@@ -134,6 +140,7 @@ fn moved(p: Position, o: Onward) -> Position
 }
 
 // The stretch that a turn of the heads x and y tells of, if one of them says something.
+#[inline(always)]
 fn spoken(x: Interval, y: Interval, t: Turn) -> Option<Stretch>
     ensures { result ≡ spoken x y t }
 {
@@ -149,6 +156,7 @@ fn spoken(x: Interval, y: Interval, t: Turn) -> Option<Stretch>
 }
 
 // A step: the stretch of a turn of the heads x and y, and how far both tables are walked after it.
+#[inline(always)]
 fn taken(x: Interval, y: Interval, t: Turn, l: Position, r: Position) -> Step
     requires { (l.place + step_of t.x ≤ most_room) × (r.place + step_of t.y ≤ most_room) }
     ensures { result ≡ taken_of x y t l r }
@@ -161,6 +169,7 @@ fn taken(x: Interval, y: Interval, t: Turn, l: Position, r: Position) -> Step
 }
 
 // One turn of the walk over two tables, where one of them is not used up: both heads, or the one that is left.
+#[inline(always)]
 pub fn next_step(tables: Tables<'_>, l: Position, r: Position) -> Step
     requires { Ready tables.left.now tables.left_used tables.right.now tables.right_used l r × More tables.left_used tables.right_used l r }
     ensures { let t = tables.entry in Stepped t.left.now t.left_used t.right.now t.right_used l r result }
