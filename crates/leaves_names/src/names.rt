@@ -147,6 +147,7 @@ impl<'a> NameList<'a> {
 
     // The list, checked; or 15 or 14.
     #[tactic(auto, using(crate::specs::NamesLaws::memory, crate::specs::NamesLaws::ordered_list), unfolding(crate::specs::Names::check_names))]
+    #[inline(always)]
     pub fn check(self) -> Result<Names<'a>, Refusal>
         ensures answer { answer_with no_values result ≡ check_names self.entry.bytes.now self.entry.ends.now self.entry.names self.entry.name_bytes }
         ensures list { IfOk result (λ names. names.list ≡ self.entry) }
@@ -208,6 +209,7 @@ impl<'a> Names<'a> {
     }
 
     // The least number of a name equal to the text; none where there is none.
+    #[inline(always)]
     pub fn find(self, text: &[u8]) -> Option<usize>
         ensures { result ≡ found text.now (names_in self.entry.list) }
     {
@@ -240,6 +242,7 @@ impl<'a> Names<'a> {
 
     // What becomes of a valid name: it has the least number with equal bytes, else it gets the next new one, or 5.
     #[tactic(auto, using(crate::specs::NamesLaws::memory))]
+    #[inline(always)]
     pub fn number_for(self, text: &[u8]) -> Result<Naming, Refusal>
         requires { list_fits (length self.list.bytes.now) (length self.list.ends.now) self.list.names self.list.name_bytes ≡ true }
         ensures { result

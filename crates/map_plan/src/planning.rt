@@ -73,6 +73,7 @@ fn plan_record<'a>(
 }
 
 // What a call comes to before the room of the table is judged, where the table's check says `checked`: 15, 14, then as above.
+#[inline(always)]
 pub fn judge<'a>(
     checked: Result<(), Refusal>,
     list: NameList<'_>,
