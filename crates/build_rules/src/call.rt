@@ -31,6 +31,7 @@ pub fn build_fits(
 
 // The checked names of a build, where the lent memory of table, metadata and list is of its form, by the table's own test: 15, then 14.
 #[tactic(auto, using(crate::specs::CallLaws::judging))]
+#[inline(always)]
 pub fn lent_names<'a>(
     table: bool,
     header: Header,
