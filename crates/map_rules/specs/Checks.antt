@@ -44,6 +44,12 @@ pub record Sofar (t : List ℕ) (used names k : ℕ) (x : Row ℕ) : Type 0 wher
   pub last : x ≡ row_at t (k - 1)
   pub rest : well_formed same_value known_value names (rows t used) ≡ formed_behind t used names k
 
+-- ---- truth values
+
+and_true : (b : Bool) → b && true ≡ b
+and_true true = refl
+and_true false = refl
+
 -- ---- one row
 
 module _ (names : ℕ) (x : Row ℕ) where
@@ -177,9 +183,6 @@ module _ (t : List ℕ) (used names : ℕ) where
       rest = first ∙ ap (λ (b : Bool). b && formed_behind t used names 1) (not-false v g);
     }
 
-    pub beside_first : not v ≡ false → Sofar t used names 1 (row_at t 0)
-    beside_first g = let f : Sofar t used names 1 x = check_first g in rw (← e) f
-
     pub check_not : not v ≡ true → false ≡ well_formed same_value known_value names (rows t used)
     check_not g = sym (first ∙ ap (λ (b : Bool). b && formed_behind t used names 1) (not-true v g))
 
@@ -204,16 +207,21 @@ module _ {t : List ℕ} {used names k : ℕ} {x : Row ℕ} (s : Sofar t used nam
     pub check_fails : not b ≡ true → false ≡ well_formed same_value known_value names (rows t used)
     check_fails g = sym (step ∙ ap (λ (q : Bool). q && formed_behind t used names (k + 1)) (not-true b g))
 
--- a row beside the one before it, as both were read
-module _ {t : List ℕ} {used names k : ℕ} {x y : Row ℕ} {b : Bool} (s : Sofar t used names k (row_at t (k - 1))) (h : k < used)
-    (e : x ≡ row_at t (k - 1)) (e' : y ≡ row_at t k) (f : b ≡ follows names x y) where
-  seen : Sofar t used names k x
-  seen = rw e s
+    pub check_last : used ≤ k + 1 → b ≡ well_formed same_value known_value names (rows t used)
+    check_last g = sym (step ∙ ap (λ (q : Bool). b && q) (ended t used names (k + 1) g) ∙ and_true b)
 
-  pub beside_next : not b ≡ false → Sofar t used names (k + 1) (row_at t (k + 1 - 1))
-  beside_next g =
-      let n : Sofar t used names (k + 1) y = check_next seen h e' f g in
-      rw (← n.last) n
+-- two rows in a turn
+module _ {t : List ℕ} {used names k : ℕ} {x y : Row ℕ} {b : Bool} (s : Sofar t used names k x) (h : k + 1 < used) (e : y ≡ row_at t k)
+    (f : b ≡ follows names x y) where
+  pub check_one : not b ≡ true → false ≡ well_formed same_value known_value names (rows t used)
+  check_one g = check_fails s (omega arith) e f g
 
-  pub beside_fails : not b ≡ true → false ≡ well_formed same_value known_value names (rows t used)
-  beside_fails g = check_fails seen h e' f g
+  module _ {z : Row ℕ} {d : Bool} (g : not b ≡ false) (e' : z ≡ row_at t (k + 1)) (f' : d ≡ follows names y z) where
+    between : Sofar t used names (k + 1) y
+    between = check_next s (omega arith) e f g
+
+    pub check_other : not d ≡ true → false ≡ well_formed same_value known_value names (rows t used)
+    check_other g' = check_fails between h e' f' g'
+
+    pub check_two : not d ≡ false → Sofar t used names (k + 2) z
+    check_two g' = let q : k + 2 ≡ k + 1 + 1 = omega arith in rw q (check_next between h e' f' g')
